@@ -1,0 +1,39 @@
+-- The host calls (01, Host calls): the number that is returned, and every byte left in lent memory.
+use Prim.Native.Nat.{ℕ, zero, suc, _/_, _%_}
+use mathlib.Core.Bool.{cond}
+use mathlib.Core.List.{[], _∷_, _++_}
+use lib.ListN.{length}
+use lib.Dec.{eqb}
+use Rattle.d64spec.specs.Lists.{Bytes}
+use Rattle.d64spec.specs.Answers.{answerOf, wrongBuffer}
+use Rattle.d64spec.specs.Geometry.{Geometry}
+use Rattle.d64spec.specs.Reply.{Reply}
+use Rattle.d64spec.specs.Call.{Call, outputBuffer, perform}
+
+-- a number in n bytes, low byte first
+abbrev pub littleEndian : ℕ → ℕ → Bytes
+littleEndian zero v = []
+littleEndian (suc n) v = v % 256 ∷ littleEndian n (v / 256)
+
+-- the nine bytes: track, sector, slot, length in four bytes, sectors in two
+unfoldable pub answerBlock : Reply → Bytes
+answerBlock r = r .answer .track ∷ r .answer .sector ∷ r .answer .slot ∷ (littleEndian 4 (r .change .reportedLength) ++ littleEndian 2 (r .change .reportedSectors))
+
+-- what a host call returns, and what it leaves in the image, the output and the answer block
+pub record HostReply : Type 0 where
+  pub number : ℕ
+  pub imageAfter : Bytes
+  pub outputAfter : Bytes
+  pub blockAfter : Bytes
+
+-- what the host sees of a reply: a refusal fills the block too
+abbrev pub hostReply : Reply → HostReply
+hostReply r = record { number = r .answer .number; imageAfter = r .change .imageAfter; outputAfter = r .change .outputAfter; blockAfter = answerBlock r }
+
+-- a block that is not nine bytes: 16 before all else, and nothing is written
+abbrev pub blockRefused : Bytes → Bytes → Call → HostReply
+blockRefused img block c = record { number = answerOf wrongBuffer .number; imageAfter = img; outputAfter = outputBuffer c; blockAfter = block }
+
+-- a host call, lent an image and an answer block
+unfoldable pub hostCall : Geometry → Bytes → Bytes → Call → HostReply
+hostCall g img block c = cond (eqb (length block) 9) (hostReply (perform g img c)) (blockRefused img block c)

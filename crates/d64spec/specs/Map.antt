@@ -1,0 +1,51 @@
+-- The block availability map (01, The map, 18/0): for each track a count of free sectors and three bitmap bytes.
+-- In order: what a map sector m says; what an entry is expected to say, given which sectors are free; the map rewritten from the owners.
+-- Laws: proofs/MapLaws (exact), MapWriteLaws (a rewritten map is right), MapEntryLaws (and no other entry changes).
+use Prim.Native.Nat.{ℕ, _+_, _*_, _/_, _%_, _^_}
+use mathlib.Core.Bool.{Bool, _&&_, not}
+use mathlib.Core.List.{List, [], _∷_, map}
+use lib.ListN.{length}
+use lib.Dec.{eqb, ltb}
+use Rattle.d64spec.specs.Lists.{Bytes, byte, sum, range, splice, indicator, filter}
+use Rattle.d64spec.specs.Answers.{Address, address}
+use Rattle.d64spec.specs.Geometry.{Geometry, sectorNumber, mapAddress, sectorsOn, tracks}
+use Rattle.d64spec.specs.Image.{Disk, put}
+use Rattle.d64spec.specs.Owner.{isFree}
+
+-- sector s of track t is marked free where bit (s mod 8) of byte 4t + 1 + (s div 8) is 1
+unfoldable pub mapBit : Geometry → Bytes → ℕ → ℕ → ℕ
+mapBit g m t s = byte m (g .mapAt t + 1 + s / 8) / 2 ^ (s % 8) % 2
+
+-- the number of ones among the track's own sectors
+unfoldable pub mapOnes : Geometry → Bytes → ℕ → ℕ
+mapOnes g m t = sum (map (mapBit g m t) (range 0 (sectorsOn g t)))
+
+module _ (g : Geometry) (free : Address → Bool) where
+  -- the bit expected for sector s of track t: 1 where it is free, and 0 past the track's last sector
+  unfoldable pub expectedBit : ℕ → ℕ → ℕ
+  expectedBit t s = indicator (ltb s (sectorsOn g t) && free (address t s))
+
+  -- those of the 24 bits of a track's entry that are wrong in the map sector m
+  unfoldable pub wrongBits : Bytes → ℕ → List ℕ
+  wrongBits m t = filter (λ s. not (eqb (mapBit g m t s) (expectedBit t s))) (range 0 24)
+
+  -- whether a track's entry is correct: all bits, and the count
+  unfoldable pub entryCorrect : Bytes → ℕ → Bool
+  entryCorrect m t = eqb (length (wrongBits m t)) 0 && eqb (byte m (g .mapAt t)) (mapOnes g m t)
+
+  -- the bitmap byte for sectors 8j to 8j + 7
+  unfoldable pub bitmapByte : ℕ → ℕ → ℕ
+  bitmapByte t j = sum (map (λ i. expectedBit t (8 * j + i) * 2 ^ i) (range 0 8))
+
+  -- the four bytes of a correct entry: the count, then the bitmap
+  unfoldable pub expectedEntry : ℕ → Bytes
+  expectedEntry t = sum (map (expectedBit t) (range 0 (sectorsOn g t))) ∷ bitmapByte t 0 ∷ bitmapByte t 1 ∷ bitmapByte t 2 ∷ []
+
+  -- the map sector m with correct entries of these tracks
+  abbrev pub withEntries : Bytes → List ℕ → Bytes
+  withEntries m [] = m
+  withEntries m (t ∷ l) = splice (withEntries m l) (g .mapAt t) (expectedEntry t)
+
+-- the disk with the map that its owners ask for (01, Store: the map follows; Scratch: frees the sectors in the map)
+unfoldable pub rewriteMap : Geometry → Disk → Disk
+rewriteMap g d = put d (sectorNumber g mapAddress) (withEntries g (isFree g d) (d (sectorNumber g mapAddress)) (range 1 (tracks g)))
