@@ -1,0 +1,115 @@
+-- The entry that a store writes says what was asked.
+use Prim.Native.Nat.{ℕ, zero, suc, _+_, _*_, _-_, _/_, _%_, _≤_, _<_}
+use native.Mathlib.Omega.{arith}
+use mathlib.Core.Path.{_≡_, refl, sym, ap, ap₂, _∙_}
+use mathlib.Core.Bool.{Bool, true, false, not, _&&_, _||_}
+use mathlib.Core.List.{[], _∷_, _++_, append-nil}
+use lib.ListN.{length, getD, replicate, length-append}
+use lib.Seq.{take-at, getD-append-add}
+use lib.Dec.{eqb, ltb}
+use borrow.Author.Tests.{eq-eqb, ne-eqb, eqb-true, ltb-true}
+use Rattle.d64spec.specs.Lists.{Bytes, count, equal, filter, indicator, zeros}
+use Rattle.d64spec.specs.Answers.{Address}
+use Rattle.d64spec.specs.Directory.{countOf, entryByte, isEmpty, kindOf, nameField, nameOf, padded, validName, validType}
+use Rattle.d64spec.specs.Reply.{validKind, validNameArgument}
+use Rattle.d64spec.specs.Store.{newEntry}
+use Rattle.d64spec.proofs.CheckLaws.{equal-refl}
+use Rattle.d64spec.proofs.MapLaws.{and-true, both-true}
+use Rattle.d64spec.proofs.SplitLaws.{filter-append}
+use Rattle.d64spec.proofs.FormatLaws.{padded-length, name-short}
+
+pub kind-small : (k : ℕ) → validKind k ≡ true → (1 ≤ k) × (k ≤ 3)
+unfolding validKind
+kind-small k e = go (eqb k 1) (eqb k 2) (eqb k 3) refl refl refl e
+  where
+    go : (a b c : Bool) → eqb k 1 ≡ a → eqb k 2 ≡ b → eqb k 3 ≡ c → (a || (b || c)) ≡ true → (1 ≤ k) × (k ≤ 3)
+    go true b c p q r h = let z : k ≡ 1 = eqb-true k 1 p in (omega arith, omega arith)
+    go false true c p q r h = let z : k ≡ 2 = eqb-true k 2 q in (omega arith, omega arith)
+    go false false true p q r h = let z : k ≡ 3 = eqb-true k 3 r in (omega arith, omega arith)
+    go false false false p q r h = absurd (let z : _≡_ {A = ℕ} 0 1 = cc in omega arith)
+
+type-right : (k : ℕ) → 1 ≤ k → k ≤ 3 → validType (0x80 + k) ≡ true
+unfolding validType
+type-right zero p q = absurd (omega arith)
+type-right (suc zero) p q = refl
+type-right (suc (suc zero)) p q = refl
+type-right (suc (suc (suc zero))) p q = refl
+type-right (suc (suc (suc (suc k)))) p q = absurd (omega arith)
+
+-- a name without $A0, and then only $A0
+name-kept : (n : Bytes) → count 0xA0 n ≡ 0 → filter (λ c. not (eqb c 0xA0)) n ≡ n
+name-kept [] h = refl
+name-kept (c ∷ n) h =
+    rw (ne-eqb c 0xA0 (λ e. let z : indicator (eqb 0xA0 c) ≡ 1 = rw (eq-eqb 0xA0 c (sym e)) in omega arith)) (ap (λ (x : Bytes). c ∷ x) (name-kept n (omega arith)))
+
+padding-dropped : (n : ℕ) → filter (λ c. not (eqb c 0xA0)) (replicate n 0xA0) ≡ []
+padding-dropped zero = refl
+padding-dropped (suc n) = padding-dropped n
+
+filter-append′ : (l m : Bytes) → filter (λ c. not (eqb c 0xA0)) (l ++ m) ≡ filter (λ c. not (eqb c 0xA0)) l ++ filter (λ c. not (eqb c 0xA0)) m
+filter-append′ l m = filter-append (λ c. not (eqb c 0xA0)) l m
+
+module _ (name : Bytes) (kind : ℕ) (r : Address) (k : ℕ) (asked : validNameArgument name ≡ true) (kind-asked : validKind kind ≡ true) where
+  -- the entry
+  abbrev entry : Bytes
+  entry = newEntry name kind r k
+
+  -- what stands behind the name
+  abbrev tail : Bytes
+  tail = zeros 9 ++ (k % 256 ∷ k / 256 ∷ [])
+
+  short : length name ≤ 16
+  short = name-short name asked
+
+  some-name : 0 < length name
+  unfolding validNameArgument
+  some-name = ltb-true 0 (length name) (and-true (ltb 0 (length name)) (ltb (length name) 17 && eqb (count 0xA0 name) 0) asked .0)
+
+  plain-name : count 0xA0 name ≡ 0
+  unfolding validNameArgument
+  plain-name =
+      eqb-true (count 0xA0 name) 0 (and-true (ltb (length name) 17) (eqb (count 0xA0 name) 0)
+      (and-true (ltb 0 (length name)) (ltb (length name) 17 && eqb (count 0xA0 name) 0) asked .1) .1)
+
+  pub entry-length : length entry ≡ 30
+  unfolding newEntry
+  entry-length = ap (λ (x : ℕ). suc (suc (suc x))) (length-append (padded name) tail ∙ ap (λ (x : ℕ). x + 11) (padded-length name short))
+
+  pub entry-type : validType (entryByte entry 0x02) ≡ true
+  unfolding newEntry
+  entry-type = type-right kind (kind-small kind kind-asked .0) (kind-small kind kind-asked .1)
+
+  pub entry-used : not (isEmpty entry) ≡ true
+  unfolding newEntry
+  entry-used = ap not (ne-eqb (0x80 + kind) 0 (λ e. omega arith))
+
+  pub entry-kind : kindOf entry ≡ kind
+  unfolding newEntry
+  entry-kind = let h = kind-small kind kind-asked in omega arith
+
+  field-is : nameField entry ≡ padded name
+  unfolding newEntry
+  field-is = take-at (padded name) tail 16 (padded-length name short)
+
+  pub entry-name : nameOf entry ≡ name
+  unfolding nameOf padded
+  entry-name =
+      ap (filter (λ c. not (eqb c 0xA0))) field-is
+      ∙ filter-append′ name (replicate (16 - length name) 0xA0)
+      ∙ ap₂ (λ (x y : Bytes). x ++ y) (name-kept name plain-name) (padding-dropped (16 - length name))
+      ∙ append-nil name
+
+  pub entry-name-right : validName entry ≡ true
+  unfolding validName
+  entry-name-right =
+      both-true (ap (λ (x : Bytes). not (eqb (length x) 0)) entry-name ∙ ap not (ne-eqb (length name) 0 (λ e. omega (arith, some-name))))
+      (ap₂ (λ (x y : Bytes). equal x (padded y)) field-is entry-name ∙ equal-refl (padded name))
+
+  past-name : (i : ℕ) → getD (padded name ++ tail) (16 + i) 0 ≡ getD tail i 0
+  past-name i = ap (λ (x : ℕ). getD (padded name ++ tail) (x + i) 0) (sym (padded-length name short)) ∙ getD-append-add (padded name) tail i 0
+
+  pub entry-count : countOf entry ≡ k
+  unfolding newEntry
+  entry-count =
+      let z : k % 256 + 256 * (k / 256) ≡ k = omega arith in
+      ap₂ (λ (x y : ℕ). x + 256 * y) (past-name 9) (past-name 10) ∙ z

@@ -1,0 +1,167 @@
+-- The host calls: what they leave in lent memory, and what their answer block can be read for (01, Host calls).
+use Prim.Native.Nat.{ℕ, _+_, _*_, _<_}
+use native.Mathlib.Omega.{arith}
+use mathlib.Core.Path.{_≡_, refl, sym, ap, _∙_}
+use mathlib.Core.Bool.{Bool, true, false, cond}
+use mathlib.Core.Logic.{_↔_}
+use lib.ListN.{length}
+use lib.Dec.{eqb, leb}
+use borrow.Author.Tests.{eq-eqb, ne-eqb, eqb-true, leb-true}
+use Rattle.d64spec.specs.Lists.{Bytes, byte}
+use Rattle.d64spec.specs.Answers.{Result, badKindArgument, badNameArgument, diskFull, done, first, nameExists, notFound, refused, writeForbidden, wrongBuffer, wrongSize}
+use Rattle.d64spec.specs.Geometry.{Geometry, Valid, total}
+use Rattle.d64spec.specs.Image.{disk}
+use Rattle.d64spec.specs.Chain.{chainData}
+use Rattle.d64spec.specs.Directory.{files}
+use Rattle.d64spec.specs.Owner.{freeForFiles}
+use Rattle.d64spec.specs.Check.{DirectoryContents, checkDisk, checkImage, rightSize}
+use Rattle.d64spec.specs.Accepted.{Accepted}
+use Rattle.d64spec.specs.Reply.{Change, filesNamed, reply, validKind, validNameArgument, writable}
+use Rattle.d64spec.specs.Format.{callFormat}
+use Rattle.d64spec.specs.Read.{callRead}
+use Rattle.d64spec.specs.Store.{callStore, sectorsNeeded, slotPlaceFor}
+use Rattle.d64spec.specs.Scratch.{callScratch}
+use Rattle.d64spec.specs.Call.{Call, attempt, callCheck, check, format, outputBuffer, perform, read, scratch, store}
+use Rattle.d64spec.specs.Host.{HostReply, answerBlock, blockRefused, hostCall, hostReply, littleEndian}
+use Rattle.d64spec.proofs.ResultLaws.{need-done, then-done, bind-done, done-inj}
+use Rattle.d64spec.proofs.SpliceLaws.{length-splice}
+use Rattle.d64spec.proofs.CheckLaws.{disk-sound}
+use Rattle.d64spec.proofs.FormatLaws.{format-step}
+use Rattle.d64spec.proofs.ScratchStep.{scratch-step}
+use Rattle.d64spec.proofs.StoreStep.{store-step}
+use Rattle.d64spec.proofs.ExactLaws.{check-exact}
+
+-- ---- the block
+
+-- A BLOCK THAT IS NOT NINE BYTES: 16, and nothing is written
+pub wrong-block : (g : Geometry) (img block : Bytes) (c : Call) → (length block ≡ 9 → ⊥) → hostCall g img block c ≡ blockRefused img block c
+unfolding hostCall
+wrong-block g img block c h = rw (ne-eqb (length block) 9 h)
+
+-- NINE BYTES: the call's reply
+pub right-block : (g : Geometry) (img block : Bytes) (c : Call) → length block ≡ 9 → hostCall g img block c ≡ hostReply (perform g img c)
+unfolding hostCall
+right-block g img block c h = rw (eq-eqb (length block) 9 h)
+
+-- what holds of both holds of every host call
+by-block : (P : HostReply → Type 0) (g : Geometry) (img block : Bytes) (c : Call) → (length block ≡ 9 → P (hostReply (perform g img c))) → P (blockRefused img block c) → P (hostCall g img block c)
+unfolding hostCall
+by-block P g img block c f h = go (eqb (length block) 9) refl
+  where
+    go : (b : Bool) → eqb (length block) 9 ≡ b → P (cond b (hostReply (perform g img c)) (blockRefused img block c))
+    go true t = f (eqb-true (length block) 9 t)
+    go false t = h
+
+-- the block keeps its length
+pub block-length : (g : Geometry) (img block : Bytes) (c : Call) → length (hostCall g img block c .blockAfter) ≡ length block
+unfolding answerBlock
+block-length g img block c = by-block (λ r. length (r .blockAfter) ≡ length block) g img block c (λ e. sym e) refl
+
+-- two bytes tell a number below 65,536, and four one below 4,294,967,296
+pub two-bytes : (v : ℕ) → v < 65536 → byte (littleEndian 2 v) 0 + 256 * byte (littleEndian 2 v) 1 ≡ v
+two-bytes v h = omega arith
+
+pub four-bytes : (v : ℕ) → v < 4294967296 → byte (littleEndian 4 v) 0 + 256 * (byte (littleEndian 4 v) 1 + 256 * (byte (littleEndian 4 v) 2 + 256 * byte (littleEndian 4 v) 3)) ≡ v
+four-bytes v h = omega arith
+
+-- A CHECK ANSWERS 0 EXACTLY FOR AN ACCEPTED IMAGE
+pub host-check : (g : Geometry) → Valid g → (img block : Bytes) → length block ≡ 9 → (hostCall g img block check .number ≡ 0) ↔ Accepted g img
+host-check g v img block h = rw (right-block g img block check h) (check-exact g v img)
+
+-- ---- the image and the output
+
+module _ (g : Geometry) (v : Valid g) (img : Bytes) where
+  accepted-of : rightSize g img ≡ true → (c : DirectoryContents) → checkDisk g (disk img) ≡ done c → Accepted g img
+  unfolding rightSize
+  accepted-of s c e = record { size = eqb-true (length img) (256 * total g) s; content = disk-sound g v (disk img) c e .0 }
+
+  size-of : rightSize g img ≡ true → length img ≡ 256 * total g
+  unfolding rightSize
+  size-of s = eqb-true (length img) (256 * total g) s
+
+  image-kept : (c : Call) (ch : Change) → attempt g img c ≡ done ch → length (ch .imageAfter) ≡ length img
+  unfolding attempt reply callCheck callFormat callRead callStore callScratch
+  image-kept check ch e =
+      ap (λ (x : Change). length (x .imageAfter)) (sym (done-inj (then-done (checkImage g img) _ ch e .2)))
+  image-kept (format name i j) ch e = format-step g v img name i j ch e .accepted .size ∙ sym (size-of (formatted name i j ch e))
+    where
+      formatted : (name : Bytes) (i j : ℕ) (ch : Change) → callFormat g img name i j ≡ done ch → rightSize g img ≡ true
+      formatted name i j ch e = need-done (rightSize g img) wrongSize _ ch e .0
+  image-kept (read name out) ch e =
+      let h1 = need-done (rightSize g img) wrongSize _ ch e in
+      let h2 = need-done (validNameArgument name) badNameArgument _ ch (h1 .1) in
+      let h3 = then-done (checkDisk g (disk img)) _ ch (h2 .1) in
+      let h4 = bind-done (first notFound (filesNamed name (files g (disk img)))) _ ch (h3 .2) in
+      let h5 = need-done (leb (length (chainData g (disk img) (h4 .0 .sectors))) (length out)) wrongBuffer _ ch (h4 .2) in
+      ap (λ (x : Change). length (x .imageAfter)) (sym (done-inj (h5 .1)))
+  image-kept (store name kind bs) ch e =
+      store-step g v img (stored name kind bs ch e) name kind bs ch e .accepted .size ∙ sym (stored name kind bs ch e .size)
+    where
+      stored : (name : Bytes) (kind : ℕ) (bs : Bytes) (ch : Change) → callStore g img name kind bs ≡ done ch → Accepted g img
+      stored name kind bs ch e =
+          let h1 = need-done (rightSize g img) wrongSize _ ch e in
+          let h2 = need-done (validNameArgument name) badNameArgument _ ch (h1 .1) in
+          let h3 = need-done (validKind kind) badKindArgument _ ch (h2 .1) in
+          let h4 = then-done (checkDisk g (disk img)) _ ch (h3 .1) in
+          accepted-of (h1 .0) (h4 .0) (h4 .1)
+  image-kept (scratch name) ch e =
+      scratch-step g v img (scratched name ch e) name ch e .accepted .size ∙ sym (scratched name ch e .size)
+    where
+      scratched : (name : Bytes) (ch : Change) → callScratch g img name ≡ done ch → Accepted g img
+      scratched name ch e =
+          let h1 = need-done (rightSize g img) wrongSize _ ch e in
+          let h2 = need-done (validNameArgument name) badNameArgument _ ch (h1 .1) in
+          let h3 = then-done (checkDisk g (disk img)) _ ch (h2 .1) in
+          accepted-of (h1 .0) (h3 .0) (h3 .1)
+
+-- the image keeps its length, accepted or not
+pub image-length : (g : Geometry) → Valid g → (img block : Bytes) (c : Call) → length (hostCall g img block c .imageAfter) ≡ length img
+unfolding perform reply
+image-length g v img block c = by-block (λ r. length (r .imageAfter) ≡ length img) g img block c (λ h. go (attempt g img c) refl) refl
+  where
+    go : (x : Result Change) → attempt g img c ≡ x → length (reply img (outputBuffer c) x .change .imageAfter) ≡ length img
+    go (refused f) e = refl
+    go (done ch) e = image-kept g v img c ch e
+
+out-kept : (g : Geometry) (img : Bytes) (c : Call) (ch : Change) → attempt g img c ≡ done ch → length (ch .outputAfter) ≡ length (outputBuffer c)
+unfolding attempt outputBuffer callCheck callFormat callRead callStore callScratch
+out-kept g img check ch e =
+    ap (λ (x : Change). length (x .outputAfter)) (sym (done-inj (then-done (checkImage g img) _ ch e .2)))
+out-kept g img (format name i j) ch e =
+    let h1 = need-done (rightSize g img) wrongSize _ ch e in
+    let h2 = need-done (validNameArgument name) badNameArgument _ ch (h1 .1) in
+    ap (λ (x : Change). length (x .outputAfter)) (sym (done-inj (h2 .1)))
+out-kept g img (read name out) ch e =
+    let h1 = need-done (rightSize g img) wrongSize _ ch e in
+    let h2 = need-done (validNameArgument name) badNameArgument _ ch (h1 .1) in
+    let h3 = then-done (checkDisk g (disk img)) _ ch (h2 .1) in
+    let h4 = bind-done (first notFound (filesNamed name (files g (disk img)))) _ ch (h3 .2) in
+    let b : Bytes = chainData g (disk img) (h4 .0 .sectors) in
+    let h5 = need-done (leb (length b) (length out)) wrongBuffer _ ch (h4 .2) in
+    ap (λ (x : Change). length (x .outputAfter)) (sym (done-inj (h5 .1))) ∙ length-splice out 0 b (omega (arith, leb-true (length b) (length out) (h5 .0)))
+out-kept g img (store name kind bs) ch e =
+    let h1 = need-done (rightSize g img) wrongSize _ ch e in
+    let h2 = need-done (validNameArgument name) badNameArgument _ ch (h1 .1) in
+    let h3 = need-done (validKind kind) badKindArgument _ ch (h2 .1) in
+    let h4 = then-done (checkDisk g (disk img)) _ ch (h3 .1) in
+    let h5 = need-done (writable g (disk img)) writeForbidden _ ch (h4 .2) in
+    let h6 = need-done (eqb (length (filesNamed name (files g (disk img)))) 0) nameExists _ ch (h5 .1) in
+    let h7 = bind-done (slotPlaceFor g (disk img)) _ ch (h6 .1) in
+    let h8 = need-done (leb (sectorsNeeded (length bs)) (length (freeForFiles g (disk img)))) diskFull _ ch (h7 .2) in
+    ap (λ (x : Change). length (x .outputAfter)) (sym (done-inj (h8 .1)))
+out-kept g img (scratch name) ch e =
+    let h1 = need-done (rightSize g img) wrongSize _ ch e in
+    let h2 = need-done (validNameArgument name) badNameArgument _ ch (h1 .1) in
+    let h3 = then-done (checkDisk g (disk img)) _ ch (h2 .1) in
+    let h4 = need-done (writable g (disk img)) writeForbidden _ ch (h3 .2) in
+    let h5 = bind-done (first notFound (filesNamed name (files g (disk img)))) _ ch (h4 .1) in
+    ap (λ (x : Change). length (x .outputAfter)) (sym (done-inj (h5 .2)))
+
+-- and so does the output
+pub out-length : (g : Geometry) (img block : Bytes) (c : Call) → length (hostCall g img block c .outputAfter) ≡ length (outputBuffer c)
+unfolding perform reply
+out-length g img block c = by-block (λ r. length (r .outputAfter) ≡ length (outputBuffer c)) g img block c (λ h. go (attempt g img c) refl) refl
+  where
+    go : (x : Result Change) → attempt g img c ≡ x → length (reply img (outputBuffer c) x .change .outputAfter) ≡ length (outputBuffer c)
+    go (refused f) e = refl
+    go (done ch) e = out-kept g img c ch e

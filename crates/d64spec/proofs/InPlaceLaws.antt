@@ -1,0 +1,47 @@
+-- For the code: a sector written in place in the image is a sector put on the disk.
+use Prim.Native.Nat.{ℕ, zero, suc, _+_, _*_, _≤_, _<_}
+use native.Mathlib.Omega.{arith}
+use native.Mathlib.Decide.{decLe}
+use mathlib.Core.Path.{_≡_, refl, sym, ap, ap₂, _∙_, fun-ext}
+use mathlib.Core.Bool.{Bool, true, false, cond}
+use mathlib.Core.List.{_++_, map}
+use lib.ListN.{length, take, drop}
+use lib.Seq.{take-add, drop-drop, take-all}
+use lib.Dec.{eqb}
+use borrow.Author.Tests.{eqb-true, eqb-false}
+use Rattle.d64spec.specs.Lists.{Bytes, join, range, splice}
+use Rattle.d64spec.specs.Geometry.{Geometry, total}
+use Rattle.d64spec.specs.Image.{disk, image, put}
+use Rattle.d64spec.proofs.SpliceLaws.{length-splice, part-before, part-after, part-in}
+
+joined-part : (img : Bytes) (a n : ℕ) → join (map (disk img) (range a n)) ≡ take (256 * n) (drop (256 * a) img)
+unfolding disk
+joined-part img a zero = refl
+joined-part img a (suc n) =
+    let e : 256 * suc a ≡ 256 * a + 256 = omega arith in
+    let f : 256 * suc n ≡ 256 + 256 * n = omega arith in
+    ap (λ (x : Bytes). take 256 (drop (256 * a) img) ++ x) (joined-part img (suc a) n ∙ ap (λ (k : ℕ). take (256 * n) (drop k img)) e ∙ ap (take (256 * n)) (sym (drop-drop 256 (256 * a) img)))
+    ∙ sym (take-add 256 (256 * n) (drop (256 * a) img)) ∙ ap (λ (k : ℕ). take k (drop (256 * a) img)) (sym f)
+
+-- an image of the right size is the image of its disk
+pub disk-image : (g : Geometry) (img : Bytes) → length img ≡ 256 * total g → image g (disk img) ≡ img
+unfolding image
+disk-image g img h = joined-part img 0 (total g) ∙ take-all (256 * total g) img (omega arith)
+
+module _ (g : Geometry) (img : Bytes) (size : length img ≡ 256 * total g) (n : ℕ) (on : n < total g) (s : Bytes) (full : length s ≡ 256) where
+  fits : 256 * n + length s ≤ length img
+  fits = omega arith
+
+  pub splice-disk : disk (splice img (256 * n) s) ≡ put (disk img) n s
+  unfolding disk put
+  splice-disk = fun-ext (λ m. go m (eqb m n) refl)
+    where
+      go : (m : ℕ) (b : Bool) → eqb m n ≡ b → take 256 (drop (256 * m) (splice img (256 * n) s)) ≡ cond b s (take 256 (drop (256 * m) img))
+      go m true t = ap₂ (λ (x y : ℕ). take x (drop (256 * y) (splice img (256 * n) s))) (sym full) (eqb-true m n t) ∙ part-in img (256 * n) s fits
+      go m false t = elim (decLe m n) [
+        | yes k ↦ part-before img (256 * n) s fits (256 * m) 256 (let z : m ≡ n → ⊥ = eqb-false m n t in omega arith)
+        | no k ↦ part-after img (256 * n) s fits (256 * m) 256 (omega arith)
+      ]
+
+  pub image-put : image g (put (disk img) n s) ≡ splice img (256 * n) s
+  image-put = ap (image g) (sym splice-disk) ∙ disk-image g (splice img (256 * n) s) (length-splice img (256 * n) s fits ∙ size)

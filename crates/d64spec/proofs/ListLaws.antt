@@ -1,0 +1,34 @@
+-- Laws of `keep`, `count` and tests.
+use Prim.Native.Nat.{ℕ, _+_}
+use native.Mathlib.Omega.{arith}
+use mathlib.Core.Path.{_≡_, refl}
+use mathlib.Core.Bool.{Bool, true, false, cond}
+use mathlib.Core.Logic.{∥∥₁-map}
+use mathlib.Core.List.{List, [], _∷_, _++_, Perm, List·Permᴰ, List·Permᴰ·nil, List·Permᴰ·cons, List·Permᴰ·swap, List·Permᴰ·trans, Permᴰ·refl}
+use Rattle.d64spec.specs.Lists.{count, filter}
+
+module _ {A : Type 0} where
+  one-more : (c : Bool) (a : A) {l m : List A} → List·Permᴰ l m → List·Permᴰ (cond c (a ∷ l) l) (cond c (a ∷ m) m)
+  one-more true a d = List·Permᴰ·cons refl d
+  one-more false a d = d
+
+  two-more : (c e : Bool) (a b : A) (l : List A) → List·Permᴰ (cond c (a ∷ cond e (b ∷ l) l) (cond e (b ∷ l) l)) (cond e (b ∷ cond c (a ∷ l) l) (cond c (a ∷ l) l))
+  two-more true true a b l = List·Permᴰ·swap refl refl
+  two-more true false a b l = Permᴰ·refl (a ∷ l)
+  two-more false true a b l = Permᴰ·refl (b ∷ l)
+  two-more false false a b l = Permᴰ·refl l
+
+module _ {A : Type 0} (p : A → Bool) where
+  -- a permutation of the kept elements
+  filter-permᴰ : {l m : List A} → List·Permᴰ l m → List·Permᴰ (filter p l) (filter p m)
+  filter-permᴰ List·Permᴰ·nil = List·Permᴰ·nil
+  filter-permᴰ (List·Permᴰ·cons {a} {b} {l₁} {l₂} e d) = rw e (one-more (p b) b (filter-permᴰ d))
+  filter-permᴰ (List·Permᴰ·swap {a} {b} {a′} {b′} {l} e₁ e₂) = rw (e₁, e₂) (two-more (p b′) (p a′) b′ a′ (filter p l))
+  filter-permᴰ (List·Permᴰ·trans d₁ d₂) = List·Permᴰ·trans (filter-permᴰ d₁) (filter-permᴰ d₂)
+
+  pub filter-perm : {l m : List A} → Perm l m → Perm (filter p l) (filter p m)
+  filter-perm h = ∥∥₁-map h filter-permᴰ
+
+pub count-append : (n : ℕ) (a b : List ℕ) → count n (a ++ b) ≡ count n a + count n b
+count-append n [] b = omega arith
+count-append n (x ∷ a) b = omega (arith, count-append n a b)

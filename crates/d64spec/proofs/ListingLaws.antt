@@ -1,0 +1,231 @@
+-- The listing: never longer than 6,234 bytes, so that a buffer of that length always suffices (01, Sleeve listing).
+use Prim.Native.Nat.{ℕ, zero, suc, _+_, _*_, _-_, _/_, _%_, _≤_, _<_}
+use native.Mathlib.Omega.{arith}
+use mathlib.Core.Path.{_≡_, refl, sym, ap, _∙_, subst}
+use mathlib.Core.Bool.{Bool, true, false, cond, not, _&&_}
+use mathlib.Core.List.{List, [], _∷_, _++_, map}
+use lib.ListN.{length, take, drop, length-append, length-take, length-map}
+use lib.Dec.{eqb, ltb, leb}
+use borrow.Author.Tests.{eq-eqb, ne-eqb, eqb-true, eqb-false, le-leb, ltb-true}
+use Rattle.d64spec.specs.Lists.{All, Bytes, byte, count, filter, indicator, join, member, nameCount}
+use Rattle.d64spec.specs.Answers.{Address, Fault, Result, _>>=_, _>>_, address, alreadyOwned, badName, badType, done, duplicateName, need, refused, wrongBuffer, wrongSize}
+use Rattle.d64spec.specs.Geometry.{Geometry, Valid, directoryStart, firstOn, layout35, mapAddress, onDisk, sectorNumber, sectorsOn}
+use Rattle.d64spec.specs.Image.{Disk}
+use Rattle.d64spec.specs.Chain.{Chain, Link, bad, decodeDirectoryLink, directoryLink, ends, linkTo, steps, to, walk}
+use Rattle.d64spec.specs.Directory.{Slot, entryByte, isEmpty, nameOf, occupiedIn, slotsFrom, slotsIn, validName, validType}
+use Rattle.d64spec.specs.Check.{checkDirectory, checkEntry}
+use Rattle.d64spec.specs.Listing.{Listed, callListing, digit, freeTotal, headFrame, line, listSlots, listingText, slotFrame, track18}
+use Rattle.d64spec.proofs.ResultLaws.{need-done, then-done, bind-done, done-inj}
+use Rattle.d64spec.proofs.PigeonholeLaws.{pigeon}
+use Rattle.d64spec.proofs.WalkLaws.{walk-sound}
+use Rattle.d64spec.proofs.RunTheorem.{valid35}
+
+-- ---- the directory stays on track 18
+
+-- a step to a sector of track 18, if to any
+abbrev On18 : Geometry → Link → Type 0
+On18 g ends = Unit {0}
+On18 g bad = Unit {0}
+On18 g (to r) = (r .track ≡ 18) × (r .sector < sectorsOn g 18)
+
+link-18 : (g : Geometry) (b : Bytes) → On18 g (directoryLink g b)
+unfolding directoryLink decodeDirectoryLink linkTo onDisk
+link-18 g b = go (byte b 0) (byte b 1)
+  where
+    cases : (s : ℕ) (y z : Bool) → ltb s (sectorsOn g 18) ≡ z → On18 g (cond y (cond z (to (address 18 s)) bad) bad)
+    cases s false z e = tt
+    cases s true false e = tt
+    cases s true true e = (refl, ltb-true s (sectorsOn g 18) e)
+
+    go : (t s : ℕ) → On18 g (decodeDirectoryLink g t s)
+    go zero s = tt
+    go (suc t) s = cases s (eqb (suc t) 18 && ltb 0 s) (ltb s (sectorsOn g 18)) refl
+
+chain-18 : (g : Geometry) (d : Disk) (k : Link) (l : List Address) → On18 g k → Chain g (directoryLink g) d k l → All (λ r. On18 g (to r)) l
+chain-18 g d k [] o c = tt
+chain-18 g d k (r ∷ l) o c = (rw (c .0) at o, chain-18 g d (directoryLink g (d (sectorNumber g r))) l (link-18 g (d (sectorNumber g r))) (c .1))
+
+shift-eqb : (f i s : ℕ) → eqb i s ≡ eqb (f + i) (f + s)
+shift-eqb f i s = go (eqb i s) refl
+  where
+    go : (b : Bool) → eqb i s ≡ b → eqb i s ≡ eqb (f + i) (f + s)
+    go true t = t ∙ sym (eq-eqb (f + i) (f + s) (omega (arith, eqb-true i s t)))
+    go false t = t ∙ sym (ne-eqb (f + i) (f + s) (λ e. eqb-false i s t (omega arith)))
+
+-- sectors of track 18, counted by their places on it
+count-18 : (g : Geometry) (i : ℕ) (l : List Address) → All (λ r. On18 g (to r)) l → count i (map (λ r. r .sector) l) ≡ count (firstOn g 18 + i) (map (sectorNumber g) l)
+unfolding sectorNumber
+count-18 g i [] a = refl
+count-18 g i (r ∷ l) a =
+    let z : firstOn g (r .track) ≡ firstOn g 18 = ap (firstOn g) (a .0 .0) in
+    let y : indicator (eqb i (r .sector)) ≡ indicator (eqb (firstOn g 18 + i) (firstOn g (r .track) + r .sector)) = rw z (ap indicator (shift-eqb (firstOn g 18) i (r .sector))) in
+    omega (arith, count-18 g i l (a .1))
+
+below-18 : (g : Geometry) (l : List Address) → All (λ r. On18 g (to r)) l → All (λ x. x < sectorsOn g 18) (map (λ r. r .sector) l)
+below-18 g [] a = tt
+below-18 g (r ∷ l) a = (a .0 .1, below-18 g l (a .1))
+
+-- a directory that a walk finds leaves out 18/0
+directory-few : (g : Geometry) → Valid g → (d : Disk) (n : ℕ) (l : List Address) → walk g (directoryLink g) d n (sectorNumber g mapAddress ∷ []) mapAddress 255 (to directoryStart) ≡ done l → 1 + length l ≤ sectorsOn g 18
+unfolding onDisk sectorNumber
+directory-few g v d n l e =
+    let w = walk-sound g (directoryLink g) d n (sectorNumber g mapAddress ∷ []) mapAddress 255 (to directoryStart) l e in
+    let on : 1 < sectorsOn g 18 = ltb-true 1 (sectorsOn g 18) (v .directory) in
+    let a : All (λ r. On18 g (to r)) l = chain-18 g d (to directoryStart) l (refl, on) (w .chain) in
+    let few : (i : ℕ) → count i (0 ∷ map (λ r. r .sector) l) ≤ 1 = λ i. once i (w .once (firstOn g 18 + i)) a in
+    omega (arith, pigeon (sectorsOn g 18) (0 ∷ map (λ r. r .sector) l) (omega arith, below-18 g l a) few, length-map l (λ (r : Address). r .sector))
+  where
+    once : (i : ℕ) → (count (firstOn g 18 + i) (sectorNumber g mapAddress ∷ []) ≤ 1 → count (firstOn g 18 + i) (map (sectorNumber g) l) + count (firstOn g 18 + i) (sectorNumber g mapAddress ∷ []) ≤ 1)
+        → All (λ r. On18 g (to r)) l → indicator (eqb i 0) + count i (map (λ r. r .sector) l) ≤ 1
+    once i h a =
+        let z : indicator (eqb i 0) ≡ indicator (eqb (firstOn g 18 + i) (firstOn g 18 + 0)) = ap indicator (shift-eqb (firstOn g 18) i 0) in
+        omega (arith, count-18 g i l a, h (below (eqb (firstOn g 18 + i) (firstOn g 18 + 0))))
+      where
+        below : (b : Bool) → indicator b + 0 ≤ 1
+        below true = omega arith
+        below false = omega arith
+
+-- ---- the length of the text
+
+line-length : (b : Bytes) → length (line b) ≡ 2 * length b + 1
+unfolding line
+line-length b = length-append (join (map (λ c. digit (c / 16) ∷ digit (c % 16) ∷ []) b)) (10 ∷ []) ∙ ap (λ (n : ℕ). n + 1) (go b)
+  where
+    go : (b : Bytes) → length (join (map (λ c. digit (c / 16) ∷ digit (c % 16) ∷ []) b)) ≡ 2 * length b
+    go [] = refl
+    go (c ∷ b) = omega (arith, go b)
+
+frame-length : (b : Bytes) → length (slotFrame b) ≤ 21
+unfolding slotFrame
+frame-length b = omega (arith, length-append (take 19 b) (take 2 (drop 28 b)), length-take 19 b, length-take 2 (drop 28 b))
+
+lines-length : (ss : List Slot) → length (join (map (λ s. line (slotFrame (s .bytes))) ss)) ≤ 43 * length ss
+lines-length [] = omega arith
+lines-length (s ∷ ss) =
+    omega (arith, lines-length ss, line-length (slotFrame (s .bytes)), frame-length (s .bytes), length-append (line (slotFrame (s .bytes))) (join (map (λ s. line (slotFrame (s .bytes))) ss)))
+
+text-length : (g : Geometry) (d : Disk) (ss : List Slot) → length (listingText g d ss) ≤ 42 + 43 * length ss
+unfolding listingText headFrame
+text-length g d ss =
+    let m : Bytes = d (sectorNumber g mapAddress) in
+    let n : ℕ = freeTotal g m in
+    let h : Bytes = take 16 (drop 0x90 m) ++ take 2 (drop 0xA2 m) in
+    let k : Bytes = n / 256 ∷ n % 256 ∷ [] in
+    let b : Bytes = join (map (λ s. line (slotFrame (s .bytes))) ss) in
+    omega (
+      arith,
+      length-append (line h) (b ++ line k),
+      length-append b (line k),
+      line-length h,
+      line-length k,
+      lines-length ss,
+      length-append (take 16 (drop 0x90 m)) (take 2 (drop 0xA2 m)),
+      length-take 16 (drop 0x90 m),
+      length-take 2 (drop 0xA2 m),
+    )
+
+filter-length : {A : Type 0} (p : A → Bool) (l : List A) → length (filter p l) ≤ length l
+filter-length p [] = omega arith
+filter-length p (x ∷ l) = go (p x) (filter-length p l)
+  where
+    go : (b : Bool) → length (filter p l) ≤ length l → length (cond b (x ∷ filter p l) (filter p l)) ≤ suc (length l)
+    go true h = omega arith
+    go false h = omega arith
+
+slots-length : (g : Geometry) (d : Disk) (n : ℕ) (l : List Address) → length (slotsFrom g d n l) ≡ 8 * length l
+unfolding slotsIn
+slots-length g d n [] = refl
+slots-length g d n (r ∷ l) = omega (arith, length-append (slotsIn (d (sectorNumber g r)) r n) (slotsFrom g d (n + 8) l), slots-length g d (n + 8) l)
+
+-- the most that a listing can have: 37 bytes, 43 for each of eight slots in each sector but 18/0, and 5
+abbrev pub longest : Geometry → ℕ
+longest g = 42 + 344 * (sectorsOn g 18 - 1)
+
+module _ (g : Geometry) (v : Valid g) (b : Bytes) where
+  -- track 18's sectors
+  abbrev d : Disk
+  d = track18 g b
+
+  -- the occupied slots of these directory sectors
+  abbrev slots : List Address → List Slot
+  slots ds = occupiedIn g d ds
+
+  text-bound : (ds : List Address) → walk g (directoryLink g) d (steps g) (sectorNumber g mapAddress ∷ []) mapAddress 255 (to directoryStart) ≡ done ds → length (listingText g d (slots ds)) ≤ longest g
+  text-bound ds e =
+      omega (arith, text-length g d (slots ds), filter-length (λ s. not (isEmpty (s .bytes))) (slotsFrom g d 0 ds), slots-length g d 0 ds, directory-few g v d (steps g) ds e)
+
+  -- A LISTING IS NO LONGER
+  pub listing-bound : (out : Bytes) (l : Listed) → callListing g b out ≡ done l → l .reportedLength ≤ longest g
+  unfolding callListing checkDirectory
+  listing-bound out l e =
+      let h1 = need-done (eqb (length b) (256 * sectorsOn g 18)) wrongSize _ l e in
+      let h2 = bind-done (walk g (directoryLink g) d (steps g) (sectorNumber g mapAddress ∷ []) mapAddress 255 (to directoryStart)) _ l (h1 .1) in
+      let h3 = then-done (listSlots [] (slots (h2 .0))) _ l (h2 .2) in
+      let h4 = need-done (leb (length (listingText g d (slots (h2 .0)))) (length out)) wrongBuffer _ l (h3 .2) in
+      let z : l .reportedLength ≡ length (listingText g d (slots (h2 .0))) = ap (λ (x : Listed). x .reportedLength) (sym (done-inj (h4 .1))) in
+      omega (arith, text-bound (h2 .0) (h2 .1))
+
+-- ---- when the buffer is too short
+
+-- not refused with 16
+abbrev Not16 : {A : Type 0} → Result A → Type 0
+Not16 (refused f) = f ≡ wrongBuffer → ⊥
+Not16 (done x) = Unit {0}
+
+bind-16 : {A B : Type 0} (x : Result A) (k : A → Result B) → Not16 x → ((a : A) → x ≡ done a → Not16 (k a)) → Not16 (x >>= k)
+bind-16 (refused f) k h f′ = h
+bind-16 (done a) k h f = f a refl
+
+then-16 : {A B : Type 0} (x : Result A) (r : Result B) → Not16 x → Not16 r → Not16 (x >> r)
+then-16 (refused f) r h k = h
+then-16 (done a) r h k = k
+
+need-16 : (b : Bool) (f : Fault) → (f ≡ wrongBuffer → ⊥) → Not16 (need b f)
+need-16 true f h = tt
+need-16 false f h = h
+
+walk-16 : (g : Geometry) (step : Bytes → Link) (d : Disk) (n : ℕ) (own : List ℕ) (at : Address) (slot : ℕ) (k : Link) → Not16 (walk g step d n own at slot k)
+walk-16 g step d zero own at slot k = λ e. (let z : _≡_ {A = ℕ} 0 1 = cc in omega arith)
+walk-16 g step d (suc n) own at slot ends = tt
+walk-16 g step d (suc n) own at slot bad = λ e. (let z : _≡_ {A = ℕ} 0 1 = cc in omega arith)
+walk-16 g step d (suc n) own at slot (to r) = go (member (sectorNumber g r) own) (walk-16 g step d n (sectorNumber g r ∷ own) r slot (step (d (sectorNumber g r))))
+  where
+    go : (b : Bool) → Not16 (walk g step d n (sectorNumber g r ∷ own) r slot (step (d (sectorNumber g r))))
+        → Not16 {A = List Address} (elim b as (λ x. Result (List Address)) [ true ↦ refused (alreadyOwned at slot) | false ↦ walk g step d n (sectorNumber g r ∷ own) r slot (step (d (sectorNumber g r))) >>= (λ x. done (r ∷ x)) ])
+    go true h = λ e. (let z : _≡_ {A = ℕ} 0 1 = cc in omega arith)
+    go false h = bind-16 (walk g step d n (sectorNumber g r ∷ own) r slot (step (d (sectorNumber g r)))) (λ x. done (r ∷ x)) h (λ x e. tt)
+
+entry-16 : (names : List Bytes) (s : Slot) → Not16 (checkEntry names s)
+unfolding checkEntry
+entry-16 names s =
+    then-16 (need (validType (entryByte (s .bytes) 0x02)) (badType (s .holder) (s .number))) _ (need-16 (validType (entryByte (s .bytes) 0x02)) (badType (s .holder) (s .number)) (λ e. (let z : _≡_ {A = ℕ} 0 1 = cc in omega arith)))
+    (then-16 (need (validName (s .bytes)) (badName (s .holder) (s .number))) _ (need-16 (validName (s .bytes)) (badName (s .holder) (s .number)) (λ e. (let z : _≡_ {A = ℕ} 0 1 = cc in omega arith)))
+    (need-16 (eqb (nameCount (nameOf (s .bytes)) names) 0) (duplicateName (s .holder) (s .number)) (λ e. (let z : _≡_ {A = ℕ} 0 1 = cc in omega arith))))
+
+slots-16 : (names : List Bytes) (l : List Slot) → Not16 (listSlots names l)
+slots-16 names [] = tt
+slots-16 names (s ∷ l) = then-16 (checkEntry names s) _ (entry-16 names s) (slots-16 (nameOf (s .bytes) ∷ names) l)
+
+-- SO MUCH ALWAYS SUFFICES
+pub listing-fits : (g : Geometry) → Valid g → (b out : Bytes) → longest g ≤ length out → callListing g b out ≡ refused wrongBuffer → ⊥
+unfolding callListing checkDirectory
+listing-fits g v b out h e = subst Not16 e never refl
+  where
+    never : Not16 (callListing g b out)
+    never =
+        then-16 (need (eqb (length b) (256 * sectorsOn g 18)) wrongSize) _ (need-16 (eqb (length b) (256 * sectorsOn g 18)) wrongSize (λ e. (let z : _≡_ {A = ℕ} 0 1 = cc in omega arith)))
+        (bind-16 (walk g (directoryLink g) (track18 g b) (steps g) (sectorNumber g mapAddress ∷ []) mapAddress 255 (to directoryStart)) _ (walk-16 g (directoryLink g) (track18 g b) (steps g) (sectorNumber g mapAddress ∷ []) mapAddress 255 (to directoryStart))
+        (λ ds e. then-16 (listSlots [] (slots g v b ds)) _ (slots-16 [] (slots g v b ds))
+        (rw (le-leb (length (listingText g (track18 g b) (slots g v b ds))) (length out) (omega (arith, text-bound g v b ds e))) tt)))
+
+-- ---- 35 tracks
+
+longest35 : longest layout35 ≡ 6234
+unfolding layout35 sectorsOn
+longest35 = refl
+
+pub listing-6234 : (b out : Bytes) (l : Listed) → callListing layout35 b out ≡ done l → l .reportedLength ≤ 6234
+listing-6234 b out l e = rw longest35 at (listing-bound layout35 valid35 b out l e)
+
+pub buffer-6234 : (b out : Bytes) → 6234 ≤ length out → callListing layout35 b out ≡ refused wrongBuffer → ⊥
+buffer-6234 b out h = listing-fits layout35 valid35 b out (rw longest35 h)

@@ -1,0 +1,126 @@
+-- A track's map entry passes the check exactly where it marks nobody's sectors free.
+use Prim.Native.Nat.{ℕ, zero, suc, _+_, _≤_, _<_}
+use native.Mathlib.Omega.{arith}
+use native.Mathlib.Decide.{decLe}
+use mathlib.Core.Path.{_≡_, refl, sym, ap, _∙_}
+use mathlib.Core.Bool.{Bool, true, false, cond, not, _&&_}
+use mathlib.Core.Logic.{_↔_}
+use mathlib.Core.List.{List, [], _∷_}
+use lib.ListN.{length}
+use lib.Dec.{eqb}
+use borrow.Author.Tests.{lt-ltb, le-ltb, eqb-true, eq-eqb, not-false}
+use Rattle.d64spec.specs.Lists.{All, Bytes, byte, filter, indicator, range}
+use Rattle.d64spec.specs.Answers.{address, done, wrongMapEntry}
+use Rattle.d64spec.specs.Geometry.{Geometry, Valid, mapAddress, sectorNumber, sectorsOn}
+use Rattle.d64spec.specs.Image.{Disk}
+use Rattle.d64spec.specs.Owner.{Free, claimCount, isFree}
+use Rattle.d64spec.specs.Map.{entryCorrect, expectedBit, mapBit, mapOnes, wrongBits}
+use Rattle.d64spec.specs.Check.{checkMap}
+use Rattle.d64spec.specs.Accepted.{MarksFree}
+use Rattle.d64spec.proofs.ResultLaws.{need-done}
+
+-- ---- lists
+
+module _ {A : Type 0} (p : A → Bool) where
+  pub filter-none : (l : List A) → length (filter p l) ≡ 0 → All (λ x. p x ≡ false) l
+  filter-none [] e = tt
+  filter-none (x ∷ l) e = go (p x) refl (λ e′. filter-none l e′) e
+    where
+      go : (b : Bool) → p x ≡ b → (length (filter p l) ≡ 0 → All (λ y. p y ≡ false) l) → length (cond b (x ∷ filter p l) (filter p l)) ≡ 0 → (p x ≡ false) × All (λ y. p y ≡ false) l
+      go true t k e′ = absurd (omega arith)
+      go false t k e′ = (t, k e′)
+
+  pub none-filter : (l : List A) → All (λ x. p x ≡ false) l → length (filter p l) ≡ 0
+  none-filter [] a = refl
+  none-filter (x ∷ l) a = rw (a .0) (none-filter l (a .1))
+
+module _ (P : ℕ → Type 0) where
+  pub range-at : (a n : ℕ) → All P (range a n) → (i : ℕ) → a ≤ i → i < a + n → P i
+  range-at a zero h i l u = absurd (omega arith)
+  range-at a (suc n) h i l u = elim (decLe (suc a) i) [
+    | yes k ↦ range-at (suc a) n (h .1) i k (omega arith)
+    | no k ↦ let e : a ≡ i = omega arith in rw e at (h .0)
+  ]
+
+  pub range-all : (a n : ℕ) → ((i : ℕ) → a ≤ i → i < a + n → P i) → All P (range a n)
+  range-all a zero f = tt
+  range-all a (suc n) f = (f a (omega arith) (omega arith), range-all (suc a) n (λ i l u. f i (omega arith) (omega arith)))
+
+-- ---- one track
+
+pub and-true : (a b : Bool) → (a && b) ≡ true → (a ≡ true) × (b ≡ true)
+and-true true b e = (refl, e)
+and-true false b e = absurd (let z : _≡_ {A = ℕ} 0 1 = cc in omega arith)
+
+pub both-true : {a b : Bool} → a ≡ true → b ≡ true → (a && b) ≡ true
+both-true {a} {b} e h = ap (λ (x : Bool). x && b) e ∙ h
+
+free-claims : (o : ℕ) → o ≤ 1 → indicator (eqb o 0) + o ≡ 1
+free-claims zero h = refl
+free-claims (suc zero) h = refl
+free-claims (suc (suc o)) h = absurd (omega arith)
+
+module _ (g : Geometry) (v : Valid g) (d : Disk) (u : (n : ℕ) → claimCount g d n ≤ 1) where
+  -- the map sector
+  abbrev m : Bytes
+  m = d (sectorNumber g mapAddress)
+
+  pub in-bit : (t s : ℕ) → s < sectorsOn g t → expectedBit g (isFree g d) t s + claimCount g d (sectorNumber g (address t s)) ≡ 1
+  unfolding expectedBit
+  in-bit t s h = rw (lt-ltb s (sectorsOn g t) h) (free-claims (claimCount g d (sectorNumber g (address t s))) (u (sectorNumber g (address t s))))
+
+  pub past-bit : (t s : ℕ) → sectorsOn g t ≤ s → expectedBit g (isFree g d) t s ≡ 0
+  unfolding expectedBit
+  past-bit t s h = rw (le-ltb s (sectorsOn g t) h)
+
+  -- a bit and the owners: one of the two is 1, the other 0
+  pub mark-of-sum : (t s : ℕ) → mapBit g m t s + claimCount g d (sectorNumber g (address t s)) ≡ 1 → (mapBit g m t s ≡ 1) ↔ Free g d (sectorNumber g (address t s))
+  mark-of-sum t s e = ((λ h. omega arith), (λ h. omega arith))
+
+  bit-below : (t s : ℕ) → mapBit g m t s ≤ 1
+  unfolding mapBit
+  bit-below t s = omega arith
+
+  pub sum-of-mark : (t s : ℕ) → (mapBit g m t s ≡ 1) ↔ Free g d (sectorNumber g (address t s)) → mapBit g m t s + claimCount g d (sectorNumber g (address t s)) ≡ 1
+  sum-of-mark t s h = elim (decLe 1 (claimCount g d (sectorNumber g (address t s)))) [
+    | yes k ↦ let no-bit : mapBit g m t s ≡ 1 → ⊥ = λ e. (let f : claimCount g d (sectorNumber g (address t s)) ≡ 0 = h .0 e in omega arith) in omega (arith, bit-below t s, u (sectorNumber g (address t s)))
+    | no k ↦ let f : claimCount g d (sectorNumber g (address t s)) ≡ 0 = omega arith in omega (arith, h .1 f)
+  ]
+
+  pub track-sound : (t : ℕ) → entryCorrect g (isFree g d) m t ≡ true → MarksFree g d t
+  unfolding entryCorrect wrongBits
+  track-sound t e =
+      let h = and-true (eqb (length (wrongBits g (isFree g d) m t)) 0) (eqb (byte m (g .mapAt t)) (mapOnes g m t)) e in
+      let all = filter-none (λ s. not (eqb (mapBit g m t s) (expectedBit g (isFree g d) t s))) (range 0 24) (eqb-true (length (wrongBits g (isFree g d) m t)) 0 (h .0)) in
+      let bit : (s : ℕ) → s < 24 → mapBit g m t s ≡ expectedBit g (isFree g d) t s
+      = λ s l. eqb-true (mapBit g m t s) (expectedBit g (isFree g d) t s) (not-false _ (range-at (λ s. not (eqb (mapBit g m t s) (expectedBit g (isFree g d) t s)) ≡ false) 0 24 all s (omega arith) (omega arith))) in
+      record {
+        number = eqb-true _ _ (h .1);
+        free = λ s l. mark-of-sum t s (rw (bit s (omega (arith, v .small t))) (in-bit t s l));
+        past = λ s l l′. bit s l′ ∙ past-bit t s l;
+      }
+
+  pub track-complete : (t : ℕ) → MarksFree g d t → entryCorrect g (isFree g d) m t ≡ true
+  unfolding entryCorrect wrongBits
+  track-complete t r =
+      let bit : (s : ℕ) → s < 24 → mapBit g m t s ≡ expectedBit g (isFree g d) t s
+      = λ s l. elim (decLe (sectorsOn g t) s) [
+        | yes k ↦ r .past s k l ∙ sym (past-bit t s k)
+        | no k ↦ omega (arith, sum-of-mark t s (r .free s (omega arith)), in-bit t s (omega arith))
+      ] in
+      let none : length (wrongBits g (isFree g d) m t) ≡ 0
+      = none-filter (λ s. not (eqb (mapBit g m t s) (expectedBit g (isFree g d) t s))) (range 0 24)
+      (range-all (λ s. not (eqb (mapBit g m t s) (expectedBit g (isFree g d) t s)) ≡ false) 0 24 (λ s l l′. ap not (eq-eqb (mapBit g m t s) (expectedBit g (isFree g d) t s) (bit s (omega arith))))) in
+      both-true (eq-eqb (length (wrongBits g (isFree g d) m t)) 0 none) (eq-eqb (byte m (g .mapAt t)) (mapOnes g m t) (r .number))
+
+  -- ---- all tracks
+
+  pub map-sound : (l : List ℕ) (x : Unit {0}) → checkMap g d (isFree g d) l ≡ done x → All (MarksFree g d) l
+  map-sound [] x e = tt
+  map-sound (t ∷ l) x e =
+      let h = need-done (entryCorrect g (isFree g d) m t) (wrongMapEntry t) _ x e in
+      (track-sound t (h .0), map-sound l x (h .1))
+
+  pub map-complete : (l : List ℕ) → All (MarksFree g d) l → checkMap g d (isFree g d) l ≡ done tt
+  map-complete [] a = refl
+  map-complete (t ∷ l) a = rw (track-complete t (a .0)) (map-complete l (a .1))
