@@ -17,3 +17,5 @@ pub mod Call
 pub mod Listing
 pub mod Host
 pub mod Run
+pub mod Order
+pub mod Changes
