@@ -35,3 +35,5 @@ pub mod LengthLaws
 pub mod FormatReady
 pub mod ListingLaws
 pub mod HostLaws
+pub mod ConditionLaws
+pub mod FirstFault
