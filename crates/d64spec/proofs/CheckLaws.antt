@@ -162,7 +162,7 @@ module _ (g : Geometry) (v : Valid g) (d : Disk) where
   base-once : (ds : List Address) → Walked g (directoryLink g) d (sectorNumber g mapAddress ∷ []) (to directoryStart) ds → (m : ℕ) → count m (base ds) ≤ 1
   base-once ds w m = omega (arith, w .once m (omega (arith, one-le (eqb m (sectorNumber g mapAddress)))))
 
-  pub directory-met : (ds : List Address) → Walked g (directoryLink g) d (sectorNumber g mapAddress ∷ []) (to directoryStart) ds → directorySectors g d ≡ ds
+  directory-met : (ds : List Address) → Walked g (directoryLink g) d (sectorNumber g mapAddress ∷ []) (to directoryStart) ds → directorySectors g d ≡ ds
   unfolding directorySectors
   directory-met ds w = chain-met g (directoryLink g) d (directoryLink-on g) (to directoryStart) ds (v .directory) (w .chain) (λ m. omega (arith, base-once ds w m))
 

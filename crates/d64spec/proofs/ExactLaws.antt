@@ -51,7 +51,7 @@ check-exact g v img = (
 abbrev slotName : File → Bytes
 slotName f = nameOf (f .slot .bytes)
 
-name-met : (n : Bytes) (fs : List File) (f : File) → List·Memᴰ f fs → slotName f ≡ n → 1 ≤ nameCount n (map slotName fs)
+pub name-met : (n : Bytes) (fs : List File) (f : File) → List·Memᴰ f fs → slotName f ≡ n → 1 ≤ nameCount n (map slotName fs)
 name-met n (y ∷ l) f (List·Memᴰ·head h) e =
     let z : slotName y ≡ n = ap slotName (sym h) ∙ e in
     rw z (rw (equal-refl n) (omega arith))

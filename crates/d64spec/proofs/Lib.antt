@@ -35,4 +35,8 @@ pub mod LengthLaws
 pub mod FormatReady
 pub mod ListingLaws
 pub mod HostLaws
+pub mod ConditionLaws
+pub mod FirstFault
 pub mod OrderTheorem
+pub mod NumberLaws
+pub mod ExactTheorem

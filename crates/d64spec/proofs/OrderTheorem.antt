@@ -67,7 +67,7 @@ abbrev slotName : File → Bytes
 slotName f = nameOf (f .slot .bytes)
 
 -- as many files have a name as names equal it
-length-filesNamed : (n : Bytes) (fs : List File) → length (filesNamed n fs) ≡ nameCount n (map slotName fs)
+pub length-filesNamed : (n : Bytes) (fs : List File) → length (filesNamed n fs) ≡ nameCount n (map slotName fs)
 unfolding filesNamed
 length-filesNamed n [] = refl
 length-filesNamed n (f ∷ fs) = go (equal n (slotName f)) refl (length-filesNamed n fs)

@@ -1,0 +1,111 @@
+-- Which numbers a list of conditions can answer with (01, Answer numbers; Format; Sleeve listing).
+-- In order: conditions that answer only with some faults; steps 2 to 4 of the check; the listing.
+use Prim.Native.Nat.{ℕ, _≤_, _<_}
+use native.Mathlib.Omega.{arith}
+use mathlib.Core.Path.{_≡_, refl}
+use mathlib.Core.Logic.{_↔_, _⊎_, inl, inr}
+use mathlib.Core.List.{List, [], _∷_, _++_, map}
+use lib.ListN.{length}
+use Rattle.d64spec.specs.Lists.{Bytes, range}
+use Rattle.d64spec.specs.Answers.{Address, Fault, answerOf, wrongBuffer, wrongCount}
+use Rattle.d64spec.specs.Geometry.{Geometry, directoryStart, mapAddress, sectorNumber, tracks}
+use Rattle.d64spec.specs.Image.{Disk}
+use Rattle.d64spec.specs.Chain.{Link, directoryLink, fileLink, to}
+use Rattle.d64spec.specs.Directory.{Slot, countOf, directorySectors, fileOf, firstLink, nameOf, occupied}
+use Rattle.d64spec.specs.Listing.{listingText, track18}
+use Rattle.d64spec.specs.Order.{AllHold, ChainFault, Condition, FirstFails, asks, asksChain, asksDirectory, diskConditions, entryConditions, listingConditions, listingSlots, mapConditions, slotConditions, slotsConditions}
+use Rattle.d64spec.proofs.ConditionLaws.{firstFails-append}
+
+-- every fault that these conditions answer with has P
+abbrev pub Answers : (Fault → Type 0) → List Condition → Type 0
+Answers P [] = Unit {0}
+Answers P (c ∷ l) = ((f : Fault) → c .answers f → P f) × Answers P l
+
+-- the fault's number lies between these two
+abbrev pub Between : ℕ → ℕ → Fault → Type 0
+Between a b f = (a ≤ answerOf f .number) × (answerOf f .number ≤ b)
+
+module _ (P : Fault → Type 0) where
+  answers-append : (l m : List Condition) → Answers P l → Answers P m → Answers P (l ++ m)
+  answers-append [] m a b = b
+  answers-append (c ∷ l) m a b = (a .0, answers-append l m (a .1) b)
+
+  pub firstFails-answers : (l : List Condition) (f : Fault) → Answers P l → FirstFails l f → P f
+  firstFails-answers (c ∷ l) f a (inl h) = a .0 f (h .1)
+  firstFails-answers (c ∷ l) f a (inr h) = firstFails-answers l f (a .1) (h .1)
+
+  -- a fault that the first conditions cannot answer with: they hold, and the rest answers
+  pub firstFails-past : (l m : List Condition) (f : Fault) → Answers P l → (P f → ⊥) → FirstFails (l ++ m) f → AllHold l × FirstFails m f
+  firstFails-past l m f a p h = elim (firstFails-append l m f .0 h) [
+    | inl w ↦ absurd (p (firstFails-answers l f a w))
+    | inr w ↦ w
+  ]
+
+-- a chain is refused with 2 or 3
+chain-answers : (g : Geometry) (link : Bytes → Link) (d : Disk) (own : List ℕ) (holder : Address) (slot : ℕ) (k : Link) (f : Fault) → ChainFault g link d own holder slot k f → Between 2 3 f
+chain-answers g link d own holder slot k f w = elim (w .fault) [
+  | inl h ↦ let e = h .1 in rw e (omega arith)
+  | inr h ↦ let e = h .3 in rw e (omega arith)
+]
+
+-- an entry is refused with 4, 5 or 6
+entry-answers : (names : List Bytes) (s : Slot) → Answers (Between 4 6) (entryConditions names s)
+entry-answers names s = ((λ f e. rw e (omega arith)), ((λ f e. rw e (omega arith)), ((λ f e. rw e (omega arith)), tt)))
+
+answers-imp : {P Q : Fault → Type 0} → ((f : Fault) → P f → Q f) → (l : List Condition) → Answers P l → Answers Q l
+answers-imp h [] a = tt
+answers-imp h (c ∷ l) a = ((λ f e. h f (a .0 f e)), answers-imp h l (a .1))
+
+module _ (g : Geometry) (d : Disk) where
+  -- what step 3 asks of a slot after its entry: the chain and the count
+  abbrev chainConditions : List ℕ → Slot → List Condition
+  chainConditions own s =
+      asksChain g (fileLink g) d own (s .holder) (s .number) (firstLink g d s)
+      ∷ asks (countOf (s .bytes) ≡ length (fileOf g d s .sectors)) (wrongCount (s .holder) (s .number))
+      ∷ []
+
+  after-entry : (own : List ℕ) (s : Slot) → Answers (Between 2 7) (chainConditions own s)
+  after-entry own s = ((λ f w. let h = chain-answers g (fileLink g) d own (s .holder) (s .number) (firstLink g d s) f w in omega arith), ((λ f e. rw e (omega arith)), tt))
+
+  slots-answers : (own : List ℕ) (names : List Bytes) (l : List Slot) → Answers (Between 2 7) (slotsConditions g d own names l)
+  slots-answers own names [] = tt
+  slots-answers own names (s ∷ l) =
+      answers-append (Between 2 7) (slotConditions g d own names s) (slotsConditions g d (map (sectorNumber g) (fileOf g d s .sectors) ++ own) (nameOf (s .bytes) ∷ names) l)
+      (answers-append (Between 2 7) (entryConditions names s) (chainConditions own s) (answers-imp (λ f h. omega arith) (entryConditions names s) (entry-answers names s)) (after-entry own s))
+      (slots-answers (map (sectorNumber g) (fileOf g d s .sectors) ++ own) (nameOf (s .bytes) ∷ names) l)
+
+  map-answers : (l : List ℕ) → Answers (Between 8 8) (mapConditions g d l)
+  map-answers [] = tt
+  map-answers (t ∷ l) = ((λ f e. rw e (omega arith)), map-answers l)
+
+  directory-answers : (f : Fault) → asksDirectory g d .answers f → Between 2 3 f
+  directory-answers f w = chain-answers g (directoryLink g) d (sectorNumber g mapAddress ∷ []) mapAddress 255 (to directoryStart) f w
+
+  -- steps 2 to 4 of the check are refused with 2 to 8
+  pub disk-answers : Answers (Between 2 8) (diskConditions g d)
+  unfolding diskConditions
+  disk-answers =
+      let own : List ℕ = sectorNumber g mapAddress ∷ map (sectorNumber g) (directorySectors g d) in
+      ((λ f w. let h = directory-answers f w in omega arith),
+      answers-append (Between 2 8) (slotsConditions g d own [] (occupied g d)) (mapConditions g d (range 1 (tracks g)))
+      (answers-imp (λ f h. omega arith) (slotsConditions g d own [] (occupied g d)) (slots-answers own [] (occupied g d)))
+      (answers-imp (λ f h. omega arith) (mapConditions g d (range 1 (tracks g))) (map-answers (range 1 (tracks g)))))
+
+listing-slots-answers : (names : List Bytes) (l : List Slot) → Answers (Between 4 6) (listingSlots names l)
+listing-slots-answers names [] = tt
+listing-slots-answers names (s ∷ l) = answers-append (Between 4 6) (entryConditions names s) (listingSlots (nameOf (s .bytes) ∷ names) l) (entry-answers names s) (listing-slots-answers (nameOf (s .bytes) ∷ names) l)
+
+-- the number of a listing's refusal: 1, what track 18 shows (2, 3 from directory links; 4, 5, 6), or 16 (01, Sleeve listing)
+abbrev pub ListingNumber : Fault → Type 0
+ListingNumber f = (answerOf f .number ≡ 1) ⊎ (Between 2 6 f ⊎ (answerOf f .number ≡ 16))
+
+-- A LISTING IS REFUSED ONLY WITH 1, 2 TO 6 AND 16
+pub listing-answers : (g : Geometry) (b out : Bytes) → Answers ListingNumber (listingConditions g b out)
+unfolding listingConditions
+listing-answers g b out = (
+  (λ f e. rw e (inl refl)),
+  ((λ f w. let h = directory-answers g (track18 g b) f w in inr (inl (omega arith))),
+  answers-append ListingNumber (listingSlots [] (occupied g (track18 g b))) (asks (length (listingText g (track18 g b) (occupied g (track18 g b))) ≤ length out) wrongBuffer ∷ [])
+  (answers-imp (λ f h. inr (inl (omega arith))) (listingSlots [] (occupied g (track18 g b))) (listing-slots-answers [] (occupied g (track18 g b))))
+  ((λ f e. rw e (inr (inr refl))), tt)),
+)
