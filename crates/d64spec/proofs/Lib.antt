@@ -36,4 +36,5 @@ pub mod FormatReady
 pub mod ListingLaws
 pub mod HostLaws
 pub mod ConditionLaws
+pub mod ChainFaultLaws
 pub mod FirstFault
