@@ -47,7 +47,7 @@ pub record Decided {A : Type 0} (x : Result A) (l : List Condition) : Type 0 whe
   pub whenDone : ((y : A) × (x ≡ done y)) ↔ AllHold l
   pub whenRefused : (f : Fault) → (x ≡ refused f) ↔ FirstFails l f
 
-bind-refused : {A B : Type 0} (x : Result A) (k : A → Result B) (f : Fault) → (x >>= k) ≡ refused f → (x ≡ refused f) ⊎ ((a : A) × (x ≡ done a) × (k a ≡ refused f))
+pub bind-refused : {A B : Type 0} (x : Result A) (k : A → Result B) (f : Fault) → (x >>= k) ≡ refused f → (x ≡ refused f) ⊎ ((a : A) × (x ≡ done a) × (k a ≡ refused f))
 bind-refused (refused f′) k f e = inl cc
 bind-refused (done a) k f e = inr (a, refl, e)
 

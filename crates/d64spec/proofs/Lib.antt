@@ -36,6 +36,7 @@ pub mod FormatReady
 pub mod ListingLaws
 pub mod HostLaws
 pub mod ConditionLaws
+pub mod ChainFaultLaws
 pub mod FirstFault
 pub mod OrderTheorem
 pub mod NumberLaws
