@@ -85,11 +85,12 @@ module _ (g : Geometry) (d : Disk) where
   pub disk-answers : Answers (Between 2 8) (diskConditions g d)
   unfolding diskConditions
   disk-answers =
-      let own : List ℕ = sectorNumber g mapAddress ∷ map (sectorNumber g) (directorySectors g d) in
-      ((λ f w. let h = directory-answers f w in omega arith),
-      answers-append (Between 2 8) (slotsConditions g d own [] (occupied g d)) (mapConditions g d (range 1 (tracks g)))
-      (answers-imp (λ f h. omega arith) (slotsConditions g d own [] (occupied g d)) (slots-answers own [] (occupied g d)))
-      (answers-imp (λ f h. omega arith) (mapConditions g d (range 1 (tracks g))) (map-answers (range 1 (tracks g)))))
+      let own : List ℕ = sectorNumber g mapAddress ∷ map (sectorNumber g) (directorySectors g d) in (
+        (λ f w. let h = directory-answers f w in omega arith),
+        answers-append (Between 2 8) (slotsConditions g d own [] (occupied g d)) (mapConditions g d (range 1 (tracks g)))
+            (answers-imp (λ f h. omega arith) (slotsConditions g d own [] (occupied g d)) (slots-answers own [] (occupied g d)))
+            (answers-imp (λ f h. omega arith) (mapConditions g d (range 1 (tracks g))) (map-answers (range 1 (tracks g)))),
+      )
 
 listing-slots-answers : (names : List Bytes) (l : List Slot) → Answers (Between 4 6) (listingSlots names l)
 listing-slots-answers names [] = tt
@@ -104,8 +105,10 @@ pub listing-answers : (g : Geometry) (b out : Bytes) → Answers ListingNumber (
 unfolding listingConditions
 listing-answers g b out = (
   (λ f e. rw e (inl refl)),
-  ((λ f w. let h = directory-answers g (track18 g b) f w in inr (inl (omega arith))),
-  answers-append ListingNumber (listingSlots [] (occupied g (track18 g b))) (asks (length (listingText g (track18 g b) (occupied g (track18 g b))) ≤ length out) wrongBuffer ∷ [])
-  (answers-imp (λ f h. inr (inl (omega arith))) (listingSlots [] (occupied g (track18 g b))) (listing-slots-answers [] (occupied g (track18 g b))))
-  ((λ f e. rw e (inr (inr refl))), tt)),
+  (
+    (λ f w. let h = directory-answers g (track18 g b) f w in inr (inl (omega arith))),
+    answers-append ListingNumber (listingSlots [] (occupied g (track18 g b))) (asks (length (listingText g (track18 g b) (occupied g (track18 g b))) ≤ length out) wrongBuffer ∷ [])
+        (answers-imp (λ f h. inr (inl (omega arith))) (listingSlots [] (occupied g (track18 g b))) (listing-slots-answers [] (occupied g (track18 g b))))
+        ((λ f e. rw e (inr (inr refl))), tt),
+  ),
 )

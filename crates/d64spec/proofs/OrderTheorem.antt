@@ -26,17 +26,12 @@ use Rattle.d64spec.specs.Scratch.{callScratch}
 use Rattle.d64spec.specs.Call.{Call, attempt, callCheck, check, format, outputBuffer, perform, read, scratch, store}
 use Rattle.d64spec.specs.Listing.{Listed, callListing, listSlots, listingReply, listingText, track18}
 use Rattle.d64spec.specs.Order.{AllHold, Condition, FirstFails, asks, asksDirectory, asksFile, asksName, asksOutput, asksSize, asksVersion, conditions, diskConditions, listingConditions, listingSlots, tellConditions}
-use Rattle.d64spec.proofs.ConditionLaws.{Decided, decided-bind, decided-bind-done, decided-need, decided-one, decided-then, decided-then-done, done≢refused}
+use Rattle.d64spec.proofs.ConditionLaws.{Decided, decided-bind, decided-bind-done, decided-need, decided-one, decided-then, decided-then-done, done≢refused, eqb-exact}
 use Rattle.d64spec.proofs.RefusalLaws.{fault-number}
-use Rattle.d64spec.proofs.CheckLaws.{directory-met, disk-sound}
-use Rattle.d64spec.proofs.WalkLaws.{walk-sound}
+use Rattle.d64spec.proofs.FirstFault.{decided-directory, decided-disk, decided-list-slots, directory-walked, diskConditions-accepted}
 use Rattle.d64spec.proofs.ResultLaws.{refused≢done}
 
 -- ---- tests as conditions
-
--- a test that is true, exactly where two numbers are equal
-pub eqb-exact : (a b : ℕ) → (eqb a b ≡ true) ↔ (a ≡ b)
-eqb-exact a b = (eqb-true a b, eq-eqb a b)
 
 -- a test that is true, exactly where a number is at most another
 pub leb-exact : (a b : ℕ) → (leb a b ≡ true) ↔ (a ≤ b)
@@ -99,13 +94,6 @@ decided-place g d = by (emptySlots g d) (freeForDirectory g d)
     by [] (r ∷ y) = decided-holds (inNewSector r) (0 < length {A = Slot} [] + length (r ∷ y)) directoryFull (omega arith)
     by (s ∷ x) y = decided-holds (inEmptySlot s) (0 < length (s ∷ x) + length y) directoryFull (omega arith)
 
--- ---- the directory of a listing
-
--- a walk of the directory that is done has met the directory's sectors
-directory-walked : (g : Geometry) → Valid g → (d : Disk) (ds : List Address) → checkDirectory g d ≡ done ds → ds ≡ directorySectors g d
-unfolding checkDirectory
-directory-walked g v d ds e = sym (directory-met g v d ds (walk-sound g (directoryLink g) d (steps g) (sectorNumber g mapAddress ∷ []) mapAddress 255 (to directoryStart) ds e))
-
 -- ---- what the caller sees of a result
 
 -- the number of a result's answer
@@ -142,140 +130,136 @@ module _ {A : Type 0} {l : List Condition} where
   decided-some (refused f) d h = (f, d .whenRefused f .0 refl, refl)
   decided-some (done y) d h = absurd (h refl)
 
-module _ (decided-disk : (g : Geometry) → Valid g → (d : Disk) → Decided (checkDisk g d) (diskConditions g d))
-    (decided-directory : (g : Geometry) → Valid g → (d : Disk) → Decided (checkDirectory g d) (asksDirectory g d ∷ []))
-    (diskConditions-accepted : (g : Geometry) → Valid g → (d : Disk) → AllHold (diskConditions g d) ↔ AcceptedDisk g d)
-    (decided-list-slots : (names : List Bytes) (l : List Slot) → Decided (listSlots names l) (listingSlots names l)) where
-  module _ (g : Geometry) (v : Valid g) (img : Bytes) where
-    -- 1: the size
-    decided-size : Decided (need (rightSize g img) wrongSize) (asksSize g img ∷ [])
-    unfolding rightSize
-    decided-size = decided-need (rightSize g img) wrongSize (length img ≡ 256 * total g) (eqb-exact (length img) (256 * total g))
+module _ (g : Geometry) (v : Valid g) (img : Bytes) where
+  -- 1: the size
+  decided-size : Decided (need (rightSize g img) wrongSize) (asksSize g img ∷ [])
+  unfolding rightSize
+  decided-size = decided-need (rightSize g img) wrongSize (length img ≡ 256 * total g) (eqb-exact (length img) (256 * total g))
 
-    -- 16: the output buffer, for the only file of that name
-    decided-output : (name out : Bytes) (f : File) → filesNamed name (files g (disk img)) ≡ f ∷ []
-        → Decided (need (leb (length (chainData g (disk img) (f .sectors))) (length out)) wrongBuffer) (asksOutput g (disk img) name out ∷ [])
-    decided-output name out f e =
-        decided-need (leb (length (chainData g (disk img) (f .sectors))) (length out)) wrongBuffer
-        ((f : File) → filesNamed name (files g (disk img)) ≡ f ∷ [] → length (chainData g (disk img) (f .sectors)) ≤ length out)
-        ((λ t f′ e′. let same : f ≡ f′ = cc in rw (← same) (leb-true (length (chainData g (disk img) (f .sectors))) (length out) t)), (λ h. le-leb _ _ (h f e)))
+  -- 16: the output buffer, for the only file of that name
+  decided-output : (name out : Bytes) (f : File) → filesNamed name (files g (disk img)) ≡ f ∷ []
+      → Decided (need (leb (length (chainData g (disk img) (f .sectors))) (length out)) wrongBuffer) (asksOutput g (disk img) name out ∷ [])
+  decided-output name out f e =
+      decided-need (leb (length (chainData g (disk img) (f .sectors))) (length out)) wrongBuffer
+      ((f : File) → filesNamed name (files g (disk img)) ≡ f ∷ [] → length (chainData g (disk img) (f .sectors)) ≤ length out)
+      ((λ t f′ e′. let same : f ≡ f′ = cc in rw (← same) (leb-true (length (chainData g (disk img) (f .sectors))) (length out) t)), (λ h. le-leb _ _ (h f e)))
 
-    -- steps 2 to 4, then what else is asked of an accepted disk
-    decided-checked : {A : Type 0} {r : Result A} {m : List Condition} → (AcceptedDisk g (disk img) → Decided r m) → Decided (checkDisk g (disk img) >> r) (diskConditions g (disk img) ++ m)
-    decided-checked h = decided-then (decided-disk g v (disk img)) (λ held. h (diskConditions-accepted g v (disk img) .0 held))
+  -- steps 2 to 4, then what else is asked of an accepted disk
+  decided-checked : {A : Type 0} {r : Result A} {m : List Condition} → (AcceptedDisk g (disk img) → Decided r m) → Decided (checkDisk g (disk img) >> r) (diskConditions g (disk img) ++ m)
+  decided-checked h = decided-then (decided-disk g v (disk img)) (λ held. h (diskConditions-accepted g v (disk img) .0 held))
 
-    -- 13: a file of that name
-    decided-file : (name : Bytes) → Decided (first notFound (filesNamed name (files g (disk img)))) (asksFile g (disk img) name ∷ [])
-    decided-file name = decided-first notFound (filesNamed name (files g (disk img))) (0 < length (filesNamed name (files g (disk img)))) ((λ h. h), (λ h. h))
+  -- 13: a file of that name
+  decided-file : (name : Bytes) → Decided (first notFound (filesNamed name (files g (disk img)))) (asksFile g (disk img) name ∷ [])
+  decided-file name = decided-first notFound (filesNamed name (files g (disk img))) (0 < length (filesNamed name (files g (disk img)))) ((λ h. h), (λ h. h))
 
-    -- 9: the name
-    decided-name : (name : Bytes) → Decided (need (validNameArgument name) badNameArgument) (asksName name ∷ [])
-    decided-name name = decided-test (validNameArgument name) badNameArgument
+  -- 9: the name
+  decided-name : (name : Bytes) → Decided (need (validNameArgument name) badNameArgument) (asksName name ∷ [])
+  decided-name name = decided-test (validNameArgument name) badNameArgument
 
-    -- 11: the version
-    decided-version : Decided (need (writable g (disk img)) writeForbidden) (asksVersion g (disk img) ∷ [])
-    decided-version = decided-test (writable g (disk img)) writeForbidden
+  -- 11: the version
+  decided-version : Decided (need (writable g (disk img)) writeForbidden) (asksVersion g (disk img) ∷ [])
+  decided-version = decided-test (writable g (disk img)) writeForbidden
 
-    decided-check : Decided (callCheck g img) (conditions g img check)
-    unfolding callCheck checkImage conditions
-    decided-check = decided-then-done (decided-then decided-size (λ h. decided-disk g v (disk img))) _
+  decided-check : Decided (callCheck g img) (conditions g img check)
+  unfolding callCheck checkImage conditions
+  decided-check = decided-then-done (decided-then decided-size (λ h. decided-disk g v (disk img))) _
 
-    decided-format : (name : Bytes) (id1 id2 : ℕ) → Decided (callFormat g img name id1 id2) (conditions g img (format name id1 id2))
-    unfolding callFormat conditions
-    decided-format name id1 id2 = decided-then decided-size (λ h. decided-then-done (decided-name name) _)
+  decided-format : (name : Bytes) (id1 id2 : ℕ) → Decided (callFormat g img name id1 id2) (conditions g img (format name id1 id2))
+  unfolding callFormat conditions
+  decided-format name id1 id2 = decided-then decided-size (λ h. decided-then-done (decided-name name) _)
 
-    decided-read : (name out : Bytes) → Decided (callRead g img name out) (conditions g img (read name out))
-    unfolding callRead conditions
-    decided-read name out =
-        decided-then decided-size (λ h. decided-then (decided-name name) (λ h. decided-checked (λ a.
-        decided-bind (decided-file name) (λ f e h. decided-then-done (decided-output name out f (filesNamed-single g (disk img) a name f e)) _))))
+  decided-read : (name out : Bytes) → Decided (callRead g img name out) (conditions g img (read name out))
+  unfolding callRead conditions
+  decided-read name out =
+      decided-then decided-size (λ h. decided-then (decided-name name) (λ h. decided-checked (λ a.
+      decided-bind (decided-file name) (λ f e h. decided-then-done (decided-output name out f (filesNamed-single g (disk img) a name f e)) _))))
 
-    decided-store : (name : Bytes) (kind : ℕ) (bs : Bytes) → Decided (callStore g img name kind bs) (conditions g img (store name kind bs))
-    unfolding callStore conditions
-    decided-store name kind bs =
-        decided-then decided-size (λ h. decided-then (decided-name name) (λ h. decided-then (decided-test (validKind kind) badKindArgument) (λ h. decided-checked (λ a.
-        decided-then decided-version (λ h.
-        decided-then (decided-need _ nameExists _ (eqb-exact (length (filesNamed name (files g (disk img)))) 0)) (λ h.
-        decided-bind (decided-place g (disk img)) (λ place e h.
-        decided-then-done (decided-need _ diskFull _ (leb-exact (sectorsNeeded (length bs)) (length (freeForFiles g (disk img))))) _)))))))
+  decided-store : (name : Bytes) (kind : ℕ) (bs : Bytes) → Decided (callStore g img name kind bs) (conditions g img (store name kind bs))
+  unfolding callStore conditions
+  decided-store name kind bs =
+      decided-then decided-size (λ h. decided-then (decided-name name) (λ h. decided-then (decided-test (validKind kind) badKindArgument) (λ h. decided-checked (λ a.
+      decided-then decided-version (λ h.
+      decided-then (decided-need _ nameExists _ (eqb-exact (length (filesNamed name (files g (disk img)))) 0)) (λ h.
+      decided-bind (decided-place g (disk img)) (λ place e h.
+      decided-then-done (decided-need _ diskFull _ (leb-exact (sectorsNeeded (length bs)) (length (freeForFiles g (disk img))))) _)))))))
 
-    decided-scratch : (name : Bytes) → Decided (callScratch g img name) (conditions g img (scratch name))
-    unfolding callScratch conditions
-    decided-scratch name =
-        decided-then decided-size (λ h. decided-then (decided-name name) (λ h. decided-checked (λ a.
-        decided-then decided-version (λ h. decided-bind-done (decided-file name) _))))
+  decided-scratch : (name : Bytes) → Decided (callScratch g img name) (conditions g img (scratch name))
+  unfolding callScratch conditions
+  decided-scratch name =
+      decided-then decided-size (λ h. decided-then (decided-name name) (λ h. decided-checked (λ a.
+      decided-then decided-version (λ h. decided-bind-done (decided-file name) _))))
 
-    -- THE ORDER OF THE CALLS: done exactly when all that the call asks holds, else refused with the fault of the first that does not
-    pub decided-call : (c : Call) → Decided (attempt g img c) (conditions g img c)
-    unfolding attempt
-    decided-call check = decided-check
-    decided-call (format name id1 id2) = decided-format name id1 id2
-    decided-call (read name out) = decided-read name out
-    decided-call (store name kind bs) = decided-store name kind bs
-    decided-call (scratch name) = decided-scratch name
+  -- THE ORDER OF THE CALLS: done exactly when all that the call asks holds, else refused with the fault of the first that does not
+  pub decided-call : (c : Call) → Decided (attempt g img c) (conditions g img c)
+  unfolding attempt
+  decided-call check = decided-check
+  decided-call (format name id1 id2) = decided-format name id1 id2
+  decided-call (read name out) = decided-read name out
+  decided-call (store name kind bs) = decided-store name kind bs
+  decided-call (scratch name) = decided-scratch name
 
-    -- THE ORDER OF A TELL
-    pub decided-tell : (position : ℕ) → Decided (callTell g img position) (tellConditions g img position)
-    unfolding callTell tellConditions
-    decided-tell position = decided-then decided-size (λ h. decided-checked (λ a. decided-bind-done (decided-first notFound (drop position (files g (disk img))) _
-        ((λ h. omega (arith, length-drop position (files g (disk img)))), (λ h. omega (arith, length-drop position (files g (disk img)))))) _))
+  -- THE ORDER OF A TELL
+  pub decided-tell : (position : ℕ) → Decided (callTell g img position) (tellConditions g img position)
+  unfolding callTell tellConditions
+  decided-tell position = decided-then decided-size (λ h. decided-checked (λ a. decided-bind-done (decided-first notFound (drop position (files g (disk img))) _
+      ((λ h. omega (arith, length-drop position (files g (disk img)))), (λ h. omega (arith, length-drop position (files g (disk img)))))) _))
 
-    -- DONE EXACTLY: a call answers 0 exactly when all that it asks holds
-    pub done-exactly : (c : Call) → (perform g img c .answer .number ≡ 0) ↔ AllHold (conditions g img c)
-    unfolding perform
-    done-exactly c = rw (reply-number img (outputBuffer c) (attempt g img c)) (decided-zero (attempt g img c) (decided-call c))
+  -- DONE EXACTLY: a call answers 0 exactly when all that it asks holds
+  pub done-exactly : (c : Call) → (perform g img c .answer .number ≡ 0) ↔ AllHold (conditions g img c)
+  unfolding perform
+  done-exactly c = rw (reply-number img (outputBuffer c) (attempt g img c)) (decided-zero (attempt g img c) (decided-call c))
 
-    -- THE FIRST FAULT ANSWERS: its number and its place, with image and output as they were, and a report of 0 and 0
-    pub first-fault : (c : Call) (f : Fault) → FirstFails (conditions g img c) f → perform g img c ≡ record { answer = answerOf f; change = unchanged img (outputBuffer c) }
-    unfolding perform reply
-    first-fault c f h = ap (reply img (outputBuffer c)) (decided-call c .whenRefused f .1 h)
+  -- THE FIRST FAULT ANSWERS: its number and its place, with image and output as they were, and a report of 0 and 0
+  pub first-fault : (c : Call) (f : Fault) → FirstFails (conditions g img c) f → perform g img c ≡ record { answer = answerOf f; change = unchanged img (outputBuffer c) }
+  unfolding perform reply
+  first-fault c f h = ap (reply img (outputBuffer c)) (decided-call c .whenRefused f .1 h)
 
-    -- NO OTHER ANSWER: a call that does not answer 0 answers with the fault of the first condition that does not hold
-    pub some-fault : (c : Call) → (perform g img c .answer .number ≡ 0 → ⊥)
-        → (f : Fault) × FirstFails (conditions g img c) f × (perform g img c ≡ record { answer = answerOf f; change = unchanged img (outputBuffer c) })
-    unfolding perform
-    some-fault c h =
-        let w = decided-some (attempt g img c) (decided-call c) (λ e. h (reply-number img (outputBuffer c) (attempt g img c) ∙ e)) in
-        (w .0, w .1, first-fault c (w .0) (w .1))
+  -- NO OTHER ANSWER: a call that does not answer 0 answers with the fault of the first condition that does not hold
+  pub some-fault : (c : Call) → (perform g img c .answer .number ≡ 0 → ⊥)
+      → (f : Fault) × FirstFails (conditions g img c) f × (perform g img c ≡ record { answer = answerOf f; change = unchanged img (outputBuffer c) })
+  unfolding perform
+  some-fault c h =
+      let w = decided-some (attempt g img c) (decided-call c) (λ e. h (reply-number img (outputBuffer c) (attempt g img c) ∙ e)) in
+      (w .0, w .1, first-fault c (w .0) (w .1))
 
-    -- the same of a tell
-    pub tell-exactly : (position : ℕ) → (tellReply (callTell g img position) .answer .number ≡ 0) ↔ AllHold (tellConditions g img position)
-    tell-exactly position = rw (tell-number (callTell g img position)) (decided-zero (callTell g img position) (decided-tell position))
+  -- the same of a tell
+  pub tell-exactly : (position : ℕ) → (tellReply (callTell g img position) .answer .number ≡ 0) ↔ AllHold (tellConditions g img position)
+  tell-exactly position = rw (tell-number (callTell g img position)) (decided-zero (callTell g img position) (decided-tell position))
 
-    pub tell-first-fault : (position : ℕ) (f : Fault) → FirstFails (tellConditions g img position) f → tellReply (callTell g img position) ≡ record { answer = answerOf f; information = noInformation }
-    unfolding tellReply
-    tell-first-fault position f h = ap tellReply (decided-tell position .whenRefused f .1 h)
+  pub tell-first-fault : (position : ℕ) (f : Fault) → FirstFails (tellConditions g img position) f → tellReply (callTell g img position) ≡ record { answer = answerOf f; information = noInformation }
+  unfolding tellReply
+  tell-first-fault position f h = ap tellReply (decided-tell position .whenRefused f .1 h)
 
-    pub tell-some-fault : (position : ℕ) → (tellReply (callTell g img position) .answer .number ≡ 0 → ⊥)
-        → (f : Fault) × FirstFails (tellConditions g img position) f × (tellReply (callTell g img position) ≡ record { answer = answerOf f; information = noInformation })
-    tell-some-fault position h =
-        let w = decided-some (callTell g img position) (decided-tell position) (λ e. h (tell-number (callTell g img position) ∙ e)) in
-        (w .0, w .1, tell-first-fault position (w .0) (w .1))
+  pub tell-some-fault : (position : ℕ) → (tellReply (callTell g img position) .answer .number ≡ 0 → ⊥)
+      → (f : Fault) × FirstFails (tellConditions g img position) f × (tellReply (callTell g img position) ≡ record { answer = answerOf f; information = noInformation })
+  tell-some-fault position h =
+      let w = decided-some (callTell g img position) (decided-tell position) (λ e. h (tell-number (callTell g img position) ∙ e)) in
+      (w .0, w .1, tell-first-fault position (w .0) (w .1))
 
-  module _ (g : Geometry) (v : Valid g) (b out : Bytes) where
-    -- the slots of a listing, then its text
-    decided-text : (ss : List Slot) (y : Listed) → Decided (listSlots [] ss >> (need (leb (length (listingText g (track18 g b) ss)) (length out)) wrongBuffer >> done y))
-        (listingSlots [] ss ++ (asks (length (listingText g (track18 g b) ss) ≤ length out) wrongBuffer ∷ []))
-    decided-text ss y = decided-then (decided-list-slots [] ss) (λ h. decided-then-done (decided-need _ wrongBuffer _ (leb-exact (length (listingText g (track18 g b) ss)) (length out))) y)
+module _ (g : Geometry) (v : Valid g) (b out : Bytes) where
+  -- the slots of a listing, then its text
+  decided-text : (ss : List Slot) (y : Listed) → Decided (listSlots [] ss >> (need (leb (length (listingText g (track18 g b) ss)) (length out)) wrongBuffer >> done y))
+      (listingSlots [] ss ++ (asks (length (listingText g (track18 g b) ss) ≤ length out) wrongBuffer ∷ []))
+  decided-text ss y = decided-then (decided-list-slots [] ss) (λ h. decided-then-done (decided-need _ wrongBuffer _ (leb-exact (length (listingText g (track18 g b) ss)) (length out))) y)
 
-    -- THE ORDER OF A LISTING
-    pub decided-listing : Decided (callListing g b out) (listingConditions g b out)
-    unfolding callListing listingConditions occupied
-    decided-listing =
-        decided-then (decided-need _ wrongSize _ (eqb-exact (length b) (256 * sectorsOn g 18))) (λ h.
-        decided-bind (decided-directory g v (track18 g b)) (λ ds e h. rw (directory-walked g v (track18 g b) ds e) (decided-text (occupied g (track18 g b)) _)))
+  -- THE ORDER OF A LISTING
+  pub decided-listing : Decided (callListing g b out) (listingConditions g b out)
+  unfolding callListing listingConditions occupied
+  decided-listing =
+      decided-then (decided-need _ wrongSize _ (eqb-exact (length b) (256 * sectorsOn g 18))) (λ h.
+      decided-bind (decided-directory g v (track18 g b)) (λ ds e h. rw (directory-walked g v (track18 g b) ds e) (decided-text (occupied g (track18 g b)) _)))
 
-    -- the same of a listing
-    pub listing-exactly : (listingReply out (callListing g b out) .answer .number ≡ 0) ↔ AllHold (listingConditions g b out)
-    listing-exactly = rw (listing-number out (callListing g b out)) (decided-zero (callListing g b out) decided-listing)
+  -- the same of a listing
+  pub listing-exactly : (listingReply out (callListing g b out) .answer .number ≡ 0) ↔ AllHold (listingConditions g b out)
+  listing-exactly = rw (listing-number out (callListing g b out)) (decided-zero (callListing g b out) decided-listing)
 
-    pub listing-first-fault : (f : Fault) → FirstFails (listingConditions g b out) f
-        → listingReply out (callListing g b out) ≡ record { answer = answerOf f; listed = record { outputAfter = out; reportedLength = 0 } }
-    unfolding listingReply
-    listing-first-fault f h = ap (listingReply out) (decided-listing .whenRefused f .1 h)
+  pub listing-first-fault : (f : Fault) → FirstFails (listingConditions g b out) f
+      → listingReply out (callListing g b out) ≡ record { answer = answerOf f; listed = record { outputAfter = out; reportedLength = 0 } }
+  unfolding listingReply
+  listing-first-fault f h = ap (listingReply out) (decided-listing .whenRefused f .1 h)
 
-    pub listing-some-fault : (listingReply out (callListing g b out) .answer .number ≡ 0 → ⊥)
-        → (f : Fault) × FirstFails (listingConditions g b out) f × (listingReply out (callListing g b out) ≡ record { answer = answerOf f; listed = record { outputAfter = out; reportedLength = 0 } })
-    listing-some-fault h =
-        let w = decided-some (callListing g b out) decided-listing (λ e. h (listing-number out (callListing g b out) ∙ e)) in
-        (w .0, w .1, listing-first-fault (w .0) (w .1))
+  pub listing-some-fault : (listingReply out (callListing g b out) .answer .number ≡ 0 → ⊥)
+      → (f : Fault) × FirstFails (listingConditions g b out) f × (listingReply out (callListing g b out) ≡ record { answer = answerOf f; listed = record { outputAfter = out; reportedLength = 0 } })
+  listing-some-fault h =
+      let w = decided-some (callListing g b out) decided-listing (λ e. h (listing-number out (callListing g b out) ∙ e)) in
+      (w .0, w .1, listing-first-fault (w .0) (w .1))
