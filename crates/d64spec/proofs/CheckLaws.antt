@@ -30,6 +30,14 @@ equal-refl (x ∷ l) = rw (eq-eqb x x refl) (equal-refl l)
 
 -- ---- the slots
 
+-- one more name, which no name before is
+pub name-one : (x : Bytes) (names : List Bytes) → nameCount x names ≡ 0 → (n : Bytes) → nameCount n names ≤ 1 → nameCount n (x ∷ names) ≤ 1
+name-one x names e n h = go (equal n x) refl
+  where
+    go : (b : Bool) → equal n x ≡ b → indicator b + nameCount n names ≤ 1
+    go true t = rw (eq-of-equal n x t) (omega arith)
+    go false t = omega arith
+
 -- the name of a file
 abbrev slotName : File → Bytes
 slotName f = nameOf (f .slot .bytes)
@@ -83,14 +91,6 @@ module _ (g : Geometry) (d : Disk) where
   pub firstLink-on : (s : Slot) → OnDisk g (firstLink g d s)
   unfolding firstLink
   firstLink-on s = linkTo-on g (entryByte (s .bytes) 0x03) (entryByte (s .bytes) 0x04)
-
-  -- one more name, which no name before is
-  name-one : (x : Bytes) (names : List Bytes) → nameCount x names ≡ 0 → (n : Bytes) → nameCount n names ≤ 1 → nameCount n (x ∷ names) ≤ 1
-  name-one x names e n h = go (equal n x) refl
-    where
-      go : (b : Bool) → equal n x ≡ b → indicator b + nameCount n names ≤ 1
-      go true t = rw (eq-of-equal n x t) (omega arith)
-      go false t = omega arith
 
   -- the sectors that a slot's check gives are those of its file
   pub slot-met : (own : List ℕ) (names : List Bytes) (s : Slot) (l : List Address) → ((m : ℕ) → count m own ≤ 1) → checkSlot g d own names s ≡ done l → fileOf g d s .sectors ≡ l

@@ -18,7 +18,7 @@ use Rattle.d64spec.specs.Chain.{chainData}
 use Rattle.d64spec.specs.Directory.{File, Slot, files, nameOf, occupied}
 use Rattle.d64spec.specs.Owner.{freeForDirectory, freeForFiles}
 use Rattle.d64spec.specs.Accepted.{Accepted, AcceptedDisk}
-use Rattle.d64spec.specs.Reply.{filesNamed, validKind, validNameArgument}
+use Rattle.d64spec.specs.Reply.{Reply, filesNamed, validKind, validNameArgument}
 use Rattle.d64spec.specs.Read.{callTell, tellReply}
 use Rattle.d64spec.specs.Store.{emptySlots, sectorsNeeded}
 use Rattle.d64spec.specs.Call.{Call, check, format, perform, read, scratch, store}
@@ -28,9 +28,10 @@ use Rattle.d64spec.specs.Order.{AllHold, Condition, FirstFails, asks, as
 use Rattle.d64spec.specs.Exact.{Admitted, Formattable, HasFile, Listable, NoSlot, Readable, Scratchable, ShownEntry, Storable, Tellable}
 use Rattle.d64spec.proofs.ResultLaws.{refused≢done}
 use Rattle.d64spec.proofs.ReadLaws.{eq-of-equal, first-kept}
-use Rattle.d64spec.proofs.CheckLaws.{equal-refl}
+use Rattle.d64spec.proofs.CheckLaws.{equal-refl, name-one}
 use Rattle.d64spec.proofs.ConditionLaws.{Decided, allHold-append, firstFails-append}
-use Rattle.d64spec.proofs.NumberLaws.{Between, disk-answers, firstFails-past}
+use Rattle.d64spec.proofs.FirstFault.{diskConditions-accepted}
+use Rattle.d64spec.proofs.NumberLaws.{Answers, Between, answers-imp, disk-answers, firstFails-past}
 use Rattle.d64spec.proofs.ExactLaws.{filesNamed-one, name-met}
 use Rattle.d64spec.proofs.OrderTheorem.{done-exactly, first-fault, some-fault, filesNamed-single, length-filesNamed, tell-exactly, listing-exactly}
 
@@ -68,3 +69,237 @@ module _ (g : Geometry) (img name : Bytes) where
     ]),
     (λ e h. let k : 0 < length (filesNamed name (files g (disk img))) = hasFile-exact .0 h in omega arith),
   )
+
+-- ---- size and check together
+
+module _ (g : Geometry) (v : Valid g) (img : Bytes) where
+  -- the size and steps 2 to 4, exactly for an accepted image
+  accepted-exact : AllHold (conditions g img check) ↔ Accepted g img
+  unfolding conditions
+  accepted-exact = (
+    (λ h. record { size = h .0; content = diskConditions-accepted g v (disk img) .0 (h .1) }),
+    (λ a. (a .size, diskConditions-accepted g v (disk img) .1 (a .content))),
+  )
+
+  -- what is asked after the check's conditions
+  asked-after : (m : List Condition) → (length img ≡ 256 * total g) → AllHold (diskConditions g (disk img) ++ m) → Accepted g img × AllHold m
+  asked-after m s h =
+      let w = allHold-append (diskConditions g (disk img)) m .0 h in
+      (record { size = s; content = diskConditions-accepted g v (disk img) .0 (w .0) }, w .1)
+
+  after-asked : (m : List Condition) → Accepted g img → AllHold m → AllHold (diskConditions g (disk img) ++ m)
+  after-asked m a h = allHold-append (diskConditions g (disk img)) m .1 (diskConditions-accepted g v (disk img) .1 (a .content), h)
+
+  -- CHECK IS EXACT: a check answers 0 exactly for an accepted image
+  pub check-exact : (perform g img check .answer .number ≡ 0) ↔ Accepted g img
+  check-exact = Iff·trans (done-exactly g v img check) accepted-exact
+
+  -- FORMAT IS EXACT: only 1 and 9 refuse it
+  pub format-exact : (name : Bytes) (id1 id2 : ℕ) → (perform g img (format name id1 id2) .answer .number ≡ 0) ↔ Formattable g img name
+  unfolding conditions
+  format-exact name id1 id2 = Iff·trans (done-exactly g v img (format name id1 id2)) (
+    (λ h. record { size = h .0; nameValid = h .1 .0 }),
+    (λ r. (r .size, (r .nameValid, tt))),
+  )
+
+  -- TELL IS EXACT
+  pub tell-exact : (position : ℕ) → (tellReply (callTell g img position) .answer .number ≡ 0) ↔ Tellable g img position
+  unfolding tellConditions
+  tell-exact position = Iff·trans (tell-exactly g v img position) (
+    (λ h. let w = asked-after _ (h .0) (h .1) in record { accepted = w .0; there = w .1 .0 }),
+    (λ r. (r .accepted .size, after-asked _ (r .accepted) (r .there, tt))),
+  )
+
+  -- SCRATCH IS EXACT
+  pub scratch-exact : (name : Bytes) → (perform g img (scratch name) .answer .number ≡ 0) ↔ Scratchable g img name
+  unfolding conditions
+  scratch-exact name = Iff·trans (done-exactly g v img (scratch name)) (
+    (λ h. let w = asked-after _ (h .0) (h .1 .1) in
+        record { accepted = w .0; nameValid = h .1 .0; unlocked = w .1 .0; found = hasFile-exact g img name .1 (w .1 .1 .0) }),
+    (λ r. (r .accepted .size, (r .nameValid, after-asked _ (r .accepted) (r .unlocked, (hasFile-exact g img name .0 (r .found), tt))))),
+  )
+
+  -- the bytes of the only file of a name, said of the file that is there
+  fits-exact : (name : Bytes) (n : ℕ) → Accepted g img → (h : HasFile g img name)
+      → ((f : File) → filesNamed name (files g (disk img)) ≡ f ∷ [] → length (chainData g (disk img) (f .sectors)) ≤ n) ↔ (length (chainData g (disk img) (h .file .sectors)) ≤ n)
+  fits-exact name n a h = (
+    (λ fits. ∥∥₁-elim (h .there) le-prop (λ m. fits (h .file) (only m))),
+    (λ fits f e. ∥∥₁-elim (h .there) le-prop (λ m. let o = only m in let same : h .file ≡ f = cc in rw (← same) fits)),
+  )
+    where
+      only : List·Memᴰ (h .file) (files g (disk img)) → filesNamed name (files g (disk img)) ≡ h .file ∷ []
+      only m = filesNamed-single g (disk img) (a .content) name (h .file) (filesNamed-one name (files g (disk img)) (h .file) m (h .named) (a .content .names name))
+
+  -- READ IS EXACT
+  pub read-exact : (name out : Bytes) → (perform g img (read name out) .answer .number ≡ 0) ↔ Readable g img name out
+  unfolding conditions
+  read-exact name out = Iff·trans (done-exactly g v img (read name out)) (
+    (λ h. let w = asked-after _ (h .0) (h .1 .1) in
+        let f : HasFile g img name = hasFile-exact g img name .1 (w .1 .0) in
+        record { accepted = w .0; nameValid = h .1 .0; found = f; fits = fits-exact name (length out) (w .0) f .0 (w .1 .1 .0) }),
+    (λ r. (r .accepted .size, (r .nameValid, after-asked _ (r .accepted) (hasFile-exact g img name .0 (r .found), (fits-exact name (length out) (r .accepted) (r .found) .1 (r .fits), tt))))),
+  )
+
+-- ---- a store and its room
+
+-- no slot, exactly where there is neither an empty slot nor a free sector
+noSlot-exact : (g : Geometry) (d : Disk) → NoSlot g d ↔ (0 < length (emptySlots g d) + length (freeForDirectory g d) → ⊥)
+noSlot-exact g d = (
+  (λ n h. let a = ap length (n .slots) in let b = ap length (n .sectors) in omega arith),
+  (λ h. record { slots = none (emptySlots g d) (omega arith); sectors = none (freeForDirectory g d) (omega arith) }),
+)
+  where
+    none : {A : Type 0} (l : List A) → length l ≡ 0 → l ≡ []
+    none [] e = refl
+    none (x ∷ l) e = absurd (omega arith)
+
+module _ (g : Geometry) (v : Valid g) (img name : Bytes) (kind : ℕ) (bytes : Bytes) where
+  -- what a store asks up to the check
+  abbrev upToCheck : List Condition
+  upToCheck = asksSize g img ∷ asksName name ∷ asks (validKind kind ≡ true) badKindArgument ∷ diskConditions g (disk img)
+
+  -- what it asks then, before the room
+  abbrev beforeRoom : List Condition
+  beforeRoom = asksVersion g (disk img) ∷ asks (length (filesNamed name (files g (disk img))) ≡ 0) nameExists ∷ []
+
+  -- the room
+  abbrev asksRoom : List Condition
+  asksRoom =
+      asks (0 < length (emptySlots g (disk img)) + length (freeForDirectory g (disk img))) directoryFull
+      ∷ asks (sectorsNeeded (length bytes) ≤ length (freeForFiles g (disk img))) diskFull
+      ∷ []
+
+  admitted-exact : (AllHold upToCheck × AllHold beforeRoom) ↔ Admitted g img name kind
+  admitted-exact = (
+    (λ h. record {
+      accepted = record { size = h .0 .0; content = diskConditions-accepted g v (disk img) .0 (h .0 .1 .1 .1) };
+      nameValid = h .0 .1 .0;
+      kindValid = h .0 .1 .1 .0;
+      unlocked = h .1 .0;
+      absent = absent-exact g img name .1 (h .1 .1 .0);
+    }),
+    (λ a. (
+      (a .accepted .size, (a .nameValid, (a .kindValid, diskConditions-accepted g v (disk img) .1 (a .accepted .content)))),
+      (a .unlocked, (absent-exact g img name .0 (a .absent), tt)),
+    )),
+  )
+
+  -- STORE IS EXACT
+  pub store-exact : (perform g img (store name kind bytes) .answer .number ≡ 0) ↔ Storable g img name kind bytes
+  unfolding conditions
+  store-exact = Iff·trans (done-exactly g v img (store name kind bytes)) (
+    (λ h. let w = allHold-append upToCheck (beforeRoom ++ asksRoom) .0 h in
+        let u = allHold-append beforeRoom asksRoom .0 (w .1) in
+        record { admitted = admitted-exact .0 (w .0, u .0); slot = some-slot (u .1 .0); sectors = u .1 .1 .0 }),
+    (λ r. let a = admitted-exact .1 (r .admitted) in
+        allHold-append upToCheck (beforeRoom ++ asksRoom) .1 (a .0, allHold-append beforeRoom asksRoom .1 (a .1, (slot-some (r .slot), (r .sectors, tt))))),
+  )
+    where
+      some-slot : 0 < length (emptySlots g (disk img)) + length (freeForDirectory g (disk img)) → (0 < length (emptySlots g (disk img))) ⊎ (0 < length (freeForDirectory g (disk img)))
+      some-slot h = elim (decLe 1 (length (emptySlots g (disk img)))) [
+        | yes k ↦ inl k
+        | no k ↦ inr (omega arith)
+      ]
+
+      slot-some : (0 < length (emptySlots g (disk img))) ⊎ (0 < length (freeForDirectory g (disk img))) → 0 < length (emptySlots g (disk img)) + length (freeForDirectory g (disk img))
+      slot-some (inl h) = omega arith
+      slot-some (inr h) = omega arith
+
+  -- a refusal with a number past 13 is one for room, and nothing before refuses
+  room-exact : (f : Fault) → 13 < answerOf f .number → FirstFails (conditions g img (store name kind bytes)) f ↔ (Admitted g img name kind × FirstFails asksRoom f)
+  unfolding conditions
+  room-exact f h = (
+    (λ w. let a = firstFails-past (Between 1 13) upToCheck (beforeRoom ++ asksRoom) f before-answers (λ b. omega arith) w in
+        let b = firstFails-past (Between 1 13) beforeRoom asksRoom f ((λ f e. rw e (omega arith)), ((λ f e. rw e (omega arith)), tt)) (λ b. omega arith) (a .1) in
+        (admitted-exact .0 (a .0, b .0), b .1)),
+    (λ w. let a = admitted-exact .1 (w .0) in
+        firstFails-append upToCheck (beforeRoom ++ asksRoom) f .1 (inr (a .0, firstFails-append beforeRoom asksRoom f .1 (inr (a .1, w .1))))),
+  )
+    where
+      before-answers : Answers (Between 1 13) upToCheck
+      before-answers = ((λ f e. rw e (omega arith)), ((λ f e. rw e (omega arith)), ((λ f e. rw e (omega arith)), answers-imp (λ f h. omega arith) (diskConditions g (disk img)) (disk-answers g (disk img)))))
+
+  -- a number past 13 is that of a refusal for room
+  refused-room : 13 < perform g img (store name kind bytes) .answer .number
+      → (f : Fault) × Admitted g img name kind × FirstFails asksRoom f × (perform g img (store name kind bytes) .answer .number ≡ answerOf f .number)
+  refused-room h =
+      let w = some-fault g v img (store name kind bytes) (λ e. omega arith) in
+      let number : perform g img (store name kind bytes) .answer .number ≡ answerOf (w .0) .number = ap (λ (r : Reply). r .answer .number) (w .2) in
+      let a = room-exact (w .0) (omega arith) .0 (w .1) in
+      (w .0, a .0, a .1, number)
+
+  -- the two faults of the room
+  data RoomFault (f : Fault) : Type 0 where
+    slotLacks : NoSlot g (disk img) → f ≡ directoryFull → RoomFault f
+    sectorsLack : (NoSlot g (disk img) → ⊥) → length (freeForFiles g (disk img)) < sectorsNeeded (length bytes) → f ≡ diskFull → RoomFault f
+
+  room-fault : (f : Fault) → FirstFails asksRoom f → RoomFault f
+  room-fault f (inl h) = slotLacks (noSlot-exact g (disk img) .1 (h .0)) (h .1)
+  room-fault f (inr h) = elim (h .1) [
+    | inl k ↦ let slot = h .0 in sectorsLack (λ n. noSlot-exact g (disk img) .0 n slot) (let lacks = k .0 in omega arith) (k .1)
+    | inr k ↦ absurd (k .1)
+  ]
+
+  -- 14 EXACTLY: nothing before refuses, there is no empty slot and no free sector of track 18
+  pub store-14 : (perform g img (store name kind bytes) .answer .number ≡ 14) ↔ (Admitted g img name kind × NoSlot g (disk img))
+  store-14 = (
+    (λ e. let w = refused-room (omega arith) in (w .1, by (w .0) (room-fault (w .0) (w .2)) (omega arith))),
+    (λ h. ap (λ (r : Reply). r .answer .number)
+        (first-fault g v img (store name kind bytes) directoryFull (room-exact directoryFull (omega arith) .1 (h .0, inl (noSlot-exact g (disk img) .0 (h .1), refl))))),
+  )
+    where
+      by : (f : Fault) → RoomFault f → answerOf f .number ≡ 14 → NoSlot g (disk img)
+      by f (slotLacks n z) e = n
+      by f (sectorsLack n k z) e = absurd (let number : answerOf f .number ≡ 15 = rw z in omega arith)
+
+  -- 15 EXACTLY: nothing before refuses, there is a place for the entry, and fewer sectors are free off track 18 than are needed
+  pub store-15 : (perform g img (store name kind bytes) .answer .number ≡ 15)
+      ↔ (Admitted g img name kind × (NoSlot g (disk img) → ⊥) × (length (freeForFiles g (disk img)) < sectorsNeeded (length bytes)))
+  store-15 = (
+    (λ e. let w = refused-room (omega arith) in let r = by (w .0) (room-fault (w .0) (w .2)) (omega arith) in (w .1, r .0, r .1)),
+    (λ h. let lacks = h .2 in ap (λ (r : Reply). r .answer .number)
+        (first-fault g v img (store name kind bytes) diskFull (room-exact diskFull (omega arith) .1 (h .0, inr (some-place (h .1), inl ((λ k. omega arith), refl)))))),
+  )
+    where
+      by : (f : Fault) → RoomFault f → answerOf f .number ≡ 15 → (NoSlot g (disk img) → ⊥) × (length (freeForFiles g (disk img)) < sectorsNeeded (length bytes))
+      by f (slotLacks n z) e = absurd (let number : answerOf f .number ≡ 14 = rw z in omega arith)
+      by f (sectorsLack n k z) e = (n, k)
+
+      some-place : (NoSlot g (disk img) → ⊥) → 0 < length (emptySlots g (disk img)) + length (freeForDirectory g (disk img))
+      some-place n = elim (decLe 1 (length (emptySlots g (disk img)) + length (freeForDirectory g (disk img)))) [
+        | yes k ↦ k
+        | no k ↦ absurd (n (noSlot-exact g (disk img) .1 k))
+      ]
+
+-- ---- the listing
+
+-- the entries that track 18 shows, and their names beside these earlier ones
+shown-exact : (names : List Bytes) (l : List Slot) → ((n : Bytes) → nameCount n names ≤ 1)
+    → AllHold (listingSlots names l) ↔ (All ShownEntry l × ((n : Bytes) → nameCount n (map (λ s. nameOf (s .bytes)) l) + nameCount n names ≤ 1))
+shown-exact names [] u = ((λ h. (tt, λ n. omega (arith, u n))), (λ h. tt))
+shown-exact names (s ∷ l) u = (
+  (λ h. let u′ = name-one (nameOf (s .bytes)) names (h .1 .1 .0) in
+      let r = shown-exact (nameOf (s .bytes) ∷ names) l (λ n. u′ n (u n)) .0 (h .1 .1 .1) in
+      ((record { type = h .0; name = h .1 .0 }, r .0), λ n. omega (arith, r .1 n))),
+  (λ h. let self : indicator (equal (nameOf (s .bytes)) (nameOf (s .bytes))) ≡ 1 = rw (equal-refl (nameOf (s .bytes))) in
+      let new : nameCount (nameOf (s .bytes)) names ≡ 0 = omega (arith, h .1 (nameOf (s .bytes))) in
+      let r = shown-exact (nameOf (s .bytes) ∷ names) l (λ n. name-one (nameOf (s .bytes)) names new n (u n)) .1 (h .0 .1, λ n. omega (arith, h .1 n)) in
+      (h .0 .0 .type, (h .0 .0 .name, (new, r)))),
+)
+
+-- LISTING IS EXACT
+pub listing-exact : (g : Geometry) → Valid g → (b out : Bytes) → (listingReply out (callListing g b out) .answer .number ≡ 0) ↔ Listable g b out
+unfolding listingConditions
+listing-exact g v b out = Iff·trans (listing-exactly g v b out) (
+  (λ h. let w = allHold-append (listingSlots [] (occupied g (track18 g b))) _ .0 (h .1 .1) in
+      let shown = shown-exact [] (occupied g (track18 g b)) (λ n. omega arith) .0 (w .0) in
+      record { size = h .0; directory = h .1 .0; entry = shown .0; names = λ n. omega (arith, shown .1 n); fits = w .1 .0 }),
+  (λ r. (
+    r .size,
+    (
+      r .directory,
+      allHold-append (listingSlots [] (occupied g (track18 g b))) _ .1
+          (shown-exact [] (occupied g (track18 g b)) (λ n. omega arith) .1 (r .entry, λ n. omega (arith, r .names n)), (r .fits, tt)),
+    ),
+  )),
+)

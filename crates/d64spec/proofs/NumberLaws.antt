@@ -52,7 +52,8 @@ chain-answers g link d own holder slot k f w = elim (w .fault) [
 entry-answers : (names : List Bytes) (s : Slot) → Answers (Between 4 6) (entryConditions names s)
 entry-answers names s = ((λ f e. rw e (omega arith)), ((λ f e. rw e (omega arith)), ((λ f e. rw e (omega arith)), tt)))
 
-answers-imp : {P Q : Fault → Type 0} → ((f : Fault) → P f → Q f) → (l : List Condition) → Answers P l → Answers Q l
+-- the same with a weaker fact
+pub answers-imp : {P Q : Fault → Type 0} → ((f : Fault) → P f → Q f) → (l : List Condition) → Answers P l → Answers Q l
 answers-imp h [] a = tt
 answers-imp h (c ∷ l) a = ((λ f e. h f (a .0 f e)), answers-imp h l (a .1))
 
