@@ -1,3 +1,4 @@
+pub mod ExampleTables
 pub mod ListLaws
 pub mod ChainLaws
 pub mod PigeonholeLaws
@@ -35,4 +36,4 @@ pub mod LengthLaws
 pub mod FormatReady
 pub mod ListingLaws
 pub mod HostLaws
-pub mod ExampleTables
+pub mod FactLaws
