@@ -37,3 +37,6 @@ pub mod FormatReady
 pub mod ListingLaws
 pub mod HostLaws
 pub mod FactLaws
+pub mod ConditionLaws
+pub mod ChainFaultLaws
+pub mod FirstFault
