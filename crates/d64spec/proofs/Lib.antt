@@ -1,3 +1,4 @@
+pub mod ExampleTables
 pub mod ListLaws
 pub mod ChainLaws
 pub mod PigeonholeLaws
@@ -35,6 +36,7 @@ pub mod LengthLaws
 pub mod FormatReady
 pub mod ListingLaws
 pub mod HostLaws
+pub mod FactLaws
 pub mod ConditionLaws
 pub mod ChainFaultLaws
 pub mod FirstFault

@@ -19,4 +19,6 @@ pub mod Host
 pub mod Run
 pub mod Order
 pub mod Changes
+pub mod Facts
 pub mod Exact
+pub mod Examples
