@@ -1,22 +1,21 @@
--- The check answers 0 exactly for an accepted image.
-use Prim.Native.Nat.{ℕ, _+_, _*_, _≤_}
+-- Steps 2 to 4 of the check are done exactly for an accepted disk: `disk-sound`, `disk-complete`.
+use Prim.Native.Nat.{ℕ, _+_, _≤_}
 use native.Mathlib.Omega.{arith}
 use mathlib.Core.Path.{_≡_, refl, sym, ap₂, _∙_, subst}
 use mathlib.Core.Bool.{Bool, true, false}
-use mathlib.Core.Logic.{_↔_}
 use mathlib.Core.List.{List, [], _∷_, _++_, map}
 use lib.ListN.{length}
 use lib.Dec.{eqb}
 use borrow.Author.Tests.{eqb-true, eq-eqb}
 use Rattle.d64spec.specs.Lists.{All, Bytes, count, equal, indicator, nameCount, range}
-use Rattle.d64spec.specs.Answers.{Address, Result, badName, badType, done, duplicateName, wrongCount, wrongSize}
-use Rattle.d64spec.specs.Geometry.{Geometry, Valid, directoryStart, mapAddress, sectorNumber, total, tracks}
-use Rattle.d64spec.specs.Image.{Disk, disk}
+use Rattle.d64spec.specs.Answers.{Address, badName, badType, done, duplicateName, wrongCount}
+use Rattle.d64spec.specs.Geometry.{Geometry, Valid, directoryStart, mapAddress, sectorNumber, tracks}
+use Rattle.d64spec.specs.Image.{Disk}
 use Rattle.d64spec.specs.Chain.{directoryLink, fileLink, steps, to, walk}
 use Rattle.d64spec.specs.Directory.{File, Slot, countOf, directorySectors, entryByte, fileOf, files, firstLink, nameOf, occupied, occupiedIn, validName, validType}
 use Rattle.d64spec.specs.Owner.{claimCount, claimList, claimsOf, fileClaims, isFree}
-use Rattle.d64spec.specs.Check.{DirectoryContents, checkDirectory, checkDisk, checkEntry, checkImage, checkMap, checkSlot, checkSlots, rightSize}
-use Rattle.d64spec.specs.Accepted.{Accepted, AcceptedDisk, MarksFree, ValidEntry}
+use Rattle.d64spec.specs.Check.{DirectoryContents, checkDirectory, checkDisk, checkEntry, checkMap, checkSlot, checkSlots}
+use Rattle.d64spec.specs.Accepted.{AcceptedDisk, MarksFree, ValidEntry}
 use Rattle.d64spec.proofs.ListLaws.{count-append}
 use Rattle.d64spec.proofs.ResultLaws.{need-done, then-done, bind-done, done-inj, need-true}
 use Rattle.d64spec.proofs.BoundLaws.{OnDisk, linkTo-on, fileLink-on, directoryLink-on}
@@ -39,7 +38,7 @@ name-one x names e n h = go (equal n x) refl
     go false t = omega arith
 
 -- the name of a file
-abbrev slotName : File → Bytes
+abbrev pub slotName : File → Bytes
 slotName f = nameOf (f .slot .bytes)
 
 -- what an entry that passes the check says
@@ -225,15 +224,3 @@ module _ (g : Geometry) (v : Valid g) (d : Disk) where
       rw (walk-complete g (directoryLink g) d (steps g) (sectorNumber g mapAddress ∷ []) mapAddress 255 (to directoryStart) (directorySectors g d) (a .directory) (λ m. omega (arith, o m)) (omega arith))
       (rw (slots-complete g d (base (directorySectors g d)) [] (slotsOf (directorySectors g d)) (a .entry) o (λ n. omega (arith, a .names n)))
       (rw (map-complete g v d (a .once) (range 1 (tracks g)) (range-all (MarksFree g d) 1 (tracks g) (λ t l h. a .marks t l (omega arith))))))
-
--- whether a result is done
-abbrev pub Done : {A : Type 0} → Result A → Type 0
-Done {A} r = (x : A) × (r ≡ done x)
-
-pub check-accepts : (g : Geometry) → Valid g → (img : Bytes) → Done (checkImage g img) ↔ Accepted g img
-unfolding checkImage rightSize
-check-accepts g v img = (
-  (λ w. let h = need-done (rightSize g img) wrongSize (checkDisk g (disk img)) (w .0) (w .1) in
-      record { size = eqb-true (length img) (256 * total g) (h .0); content = disk-sound g v (disk img) (w .0) (h .1) .0 }),
-  (λ a. (contents g v (disk img), rw (eq-eqb (length img) (256 * total g) (a .size)) (disk-complete g v (disk img) (a .content)))),
-)

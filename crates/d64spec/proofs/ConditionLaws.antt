@@ -2,13 +2,13 @@
 -- In order: lists of conditions joined; `Decided`; one law for each step that a `do` block can have.
 -- A block's list is built from the back: `decided-then (decided-need ..) (λ h. ..)` has `asks .. ∷ m`, where m is the rest's.
 use mathlib.Core.Path.{_≡_, refl, sym, _∙_}
-use Prim.Native.Nat.{ℕ}
+use Prim.Native.Nat.{ℕ, _≤_}
 use native.Mathlib.Omega.{arith}
 use mathlib.Core.Bool.{Bool, true, false}
 use mathlib.Core.Logic.{_↔_, _⊎_, inl, inr, ⊎-elim}
 use mathlib.Core.List.{List, [], _∷_, _++_, append-nil}
-use lib.Dec.{eqb}
-use borrow.Author.Tests.{eqb-true, eq-eqb}
+use lib.Dec.{eqb, leb}
+use borrow.Author.Tests.{eqb-true, eq-eqb, leb-true, le-leb}
 use Rattle.d64spec.specs.Answers.{Fault, Result, _>>=_, _>>_, done, need, refused}
 use Rattle.d64spec.specs.Order.{AllHold, Condition, FirstFails, asks}
 use Rattle.d64spec.proofs.ResultLaws.{refused≢done, bind-done}
@@ -76,9 +76,12 @@ decided-need true fault P p = decided-one (asks P fault) ((λ w. p .0 refl), (λ
 decided-need false fault P p =
     decided-one (asks P fault) ((λ w. refused≢done fault (w .0) (w .1)), (λ h. absurd (false≢true (p .1 h)))) (λ f e. cc) (λ f no-p e. cc)
 
--- two numbers are equal exactly where the test says so, for `decided-need`
+-- what a test of two numbers says, for `decided-need`
 pub eqb-exact : (a b : ℕ) → (eqb a b ≡ true) ↔ (a ≡ b)
 eqb-exact a b = (eqb-true a b, eq-eqb a b)
+
+pub leb-exact : (a b : ℕ) → (leb a b ≡ true) ↔ (a ≤ b)
+leb-exact a b = (leb-true a b, le-leb a b)
 
 pub decided-eq : {A : Type 0} {x x′ : Result A} {l : List Condition} → x ≡ x′ → Decided x l → Decided x′ l
 decided-eq e decided = rw e at decided

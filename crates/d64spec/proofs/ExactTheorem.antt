@@ -1,39 +1,40 @@
 -- Demand 2's "exactly when", said of the number that a caller sees: each call answers 0 exactly when its record of specs/Exact holds,
 -- and a store answers 14 and 15 exactly where the room that these name is lacking.
--- In order: files of a name; the conditions before and after the check's; check, format, read, tell, store, scratch; the listing.
+-- In order: files of a name; check, format, tell, scratch and read; a store and its room; the listing.
 use Prim.Native.Nat.{ℕ, _+_, _*_, _≤_, _<_}
 use native.Mathlib.Omega.{arith}
 use native.Mathlib.Bridge.{le-prop}
 use native.Mathlib.Decide.{decLe}
-use mathlib.Core.Path.{_≡_, refl, sym, ap, _∙_}
-use mathlib.Core.Bool.{Bool, true, false}
+use mathlib.Core.Path.{_≡_, refl, sym, ap}
+use mathlib.Core.Bool.{true}
 use mathlib.Core.Logic.{_↔_, _⊎_, inl, inr, Iff·trans, ∥∥₁-elim}
 use mathlib.Core.List.{List, [], _∷_, _++_, map, List·Memᴰ}
 use lib.ListN.{length}
-use Rattle.d64spec.specs.Lists.{All, Bytes, equal, indicator, nameCount}
-use Rattle.d64spec.specs.Answers.{Fault, Result, answerOf, badKindArgument, directoryFull, diskFull, done, first, nameExists, notFound}
+use borrow.Author.Tests.{eq-eqb, le-leb}
+use Rattle.d64spec.specs.Lists.{All, Bytes, equal, indicator, nameCount, splice}
+use Rattle.d64spec.specs.Answers.{Fault, answerOf, badKindArgument, directoryFull, diskFull, done, first, nameExists, notFound}
 use Rattle.d64spec.specs.Geometry.{Geometry, Valid, total}
 use Rattle.d64spec.specs.Image.{Disk, disk}
 use Rattle.d64spec.specs.Chain.{chainData}
 use Rattle.d64spec.specs.Directory.{File, Slot, files, nameOf, occupied}
 use Rattle.d64spec.specs.Owner.{freeForDirectory, freeForFiles}
-use Rattle.d64spec.specs.Accepted.{Accepted, AcceptedDisk}
+use Rattle.d64spec.specs.Accepted.{Accepted}
 use Rattle.d64spec.specs.Reply.{Reply, filesNamed, validKind, validNameArgument}
-use Rattle.d64spec.specs.Read.{callTell, tellReply}
+use Rattle.d64spec.specs.Read.{callRead, callTell, tellReply}
 use Rattle.d64spec.specs.Store.{emptySlots, sectorsNeeded}
-use Rattle.d64spec.specs.Call.{Call, check, format, perform, read, scratch, store}
-use Rattle.d64spec.specs.Listing.{callListing, listingReply, listSlots, track18}
-use Rattle.d64spec.specs.Check.{checkDirectory, checkDisk}
-use Rattle.d64spec.specs.Order.{AllHold, Condition, FirstFails, asks, asksDirectory, asksName, asksSize, asksVersion, conditions, diskConditions, listingConditions, listingSlots, tellConditions}
-use Rattle.d64spec.specs.Exact.{Admitted, Formattable, HasFile, Listable, NoSlot, Readable, Scratchable, ShownEntry, Storable, Tellable}
-use Rattle.d64spec.proofs.ResultLaws.{refused≢done}
+use Rattle.d64spec.specs.Call.{check, format, perform, read, scratch, store}
+use Rattle.d64spec.specs.Listing.{callListing, listingReply, track18}
+use Rattle.d64spec.specs.Check.{rightSize}
+use Rattle.d64spec.specs.Order.{AllHold, Condition, FirstFails, asks, asksName, asksSize, asksVersion, conditions, diskConditions, listingConditions, listingSlots, tellConditions}
+use Rattle.d64spec.specs.Exact.{Admitted, Formattable, HasFile, Listable, ListingNumber, NoSlot, Readable, Scratchable, ShownEntry, Storable, Tellable}
 use Rattle.d64spec.proofs.ReadLaws.{eq-of-equal, first-kept}
-use Rattle.d64spec.proofs.CheckLaws.{equal-refl, name-one}
-use Rattle.d64spec.proofs.ConditionLaws.{Decided, allHold-append, firstFails-append}
+use Rattle.d64spec.proofs.CheckLaws.{disk-complete, equal-refl, name-one}
+use Rattle.d64spec.proofs.ConditionLaws.{allHold-append, firstFails-append}
+use Rattle.d64spec.proofs.FactLaws.{kind-exact, name-argument-exact, version-exact}
 use Rattle.d64spec.proofs.FirstFault.{diskConditions-accepted}
-use Rattle.d64spec.proofs.NumberLaws.{Answers, Between, answers-imp, disk-answers, firstFails-past}
-use Rattle.d64spec.proofs.ExactLaws.{filesNamed-one, name-met}
-use Rattle.d64spec.proofs.OrderTheorem.{done-exactly, first-fault, some-fault, filesNamed-single, length-filesNamed, tell-exactly, listing-exactly}
+use Rattle.d64spec.proofs.NumberLaws.{Answers, Between, answers-imp, disk-answers, firstFails-answers, firstFails-past, listing-answers}
+use Rattle.d64spec.proofs.NamedLaws.{filesNamed-one, filesNamed-single, length-filesNamed, name-met}
+use Rattle.d64spec.proofs.OrderTheorem.{done-exactly, first-fault, listing-exactly, listing-some-fault, some-fault, tell-exactly}
 
 -- ---- files of a name
 
@@ -70,7 +71,7 @@ module _ (g : Geometry) (img name : Bytes) where
     (λ e h. let k : 0 < length (filesNamed name (files g (disk img))) = hasFile-exact .0 h in omega arith),
   )
 
--- ---- size and check together
+-- ---- check, format, tell, scratch, read
 
 module _ (g : Geometry) (v : Valid g) (img : Bytes) where
   -- the size and steps 2 to 4, exactly for an accepted image
@@ -98,9 +99,17 @@ module _ (g : Geometry) (v : Valid g) (img : Bytes) where
   pub format-exact : (name : Bytes) (id1 id2 : ℕ) → (perform g img (format name id1 id2) .answer .number ≡ 0) ↔ Formattable g img name
   unfolding conditions
   format-exact name id1 id2 = Iff·trans (done-exactly g v img (format name id1 id2)) (
-    (λ h. record { size = h .0; nameValid = h .1 .0 }),
-    (λ r. (r .size, (r .nameValid, tt))),
+    (λ h. record { size = h .0; nameValid = name-argument-exact name .0 (h .1 .0) }),
+    (λ r. (r .size, (name-argument-exact name .1 (r .nameValid), tt))),
   )
+
+  -- A FORMAT IS REFUSED ONLY WITH 1 AND 9
+  pub format-only : (name : Bytes) (id1 id2 : ℕ) → (perform g img (format name id1 id2) .answer .number ≡ 0 → ⊥)
+      → (perform g img (format name id1 id2) .answer .number ≡ 1) ⊎ (perform g img (format name id1 id2) .answer .number ≡ 9)
+  unfolding conditions
+  format-only name id1 id2 h =
+      let w = some-fault g v img (format name id1 id2) h in
+      rw (w .2) (firstFails-answers (λ f. (answerOf f .number ≡ 1) ⊎ (answerOf f .number ≡ 9)) (asksSize g img ∷ asksName name ∷ []) (w .0) ((λ f e. rw e (inl refl)), ((λ f e. rw e (inr refl)), tt)) (w .1))
 
   -- TELL IS EXACT
   pub tell-exact : (position : ℕ) → (tellReply (callTell g img position) .answer .number ≡ 0) ↔ Tellable g img position
@@ -115,8 +124,8 @@ module _ (g : Geometry) (v : Valid g) (img : Bytes) where
   unfolding conditions
   scratch-exact name = Iff·trans (done-exactly g v img (scratch name)) (
     (λ h. let w = asked-after _ (h .0) (h .1 .1) in
-        record { accepted = w .0; nameValid = h .1 .0; unlocked = w .1 .0; found = hasFile-exact g img name .1 (w .1 .1 .0) }),
-    (λ r. (r .accepted .size, (r .nameValid, after-asked _ (r .accepted) (r .unlocked, (hasFile-exact g img name .0 (r .found), tt))))),
+        record { accepted = w .0; nameValid = name-argument-exact name .0 (h .1 .0); unlocked = version-exact g (disk img) .0 (w .1 .0); found = hasFile-exact g img name .1 (w .1 .1 .0) }),
+    (λ r. (r .accepted .size, (name-argument-exact name .1 (r .nameValid), after-asked _ (r .accepted) (version-exact g (disk img) .1 (r .unlocked), (hasFile-exact g img name .0 (r .found), tt))))),
   )
 
   -- the bytes of the only file of a name, said of the file that is there
@@ -136,9 +145,23 @@ module _ (g : Geometry) (v : Valid g) (img : Bytes) where
   read-exact name out = Iff·trans (done-exactly g v img (read name out)) (
     (λ h. let w = asked-after _ (h .0) (h .1 .1) in
         let f : HasFile g img name = hasFile-exact g img name .1 (w .1 .0) in
-        record { accepted = w .0; nameValid = h .1 .0; found = f; fits = fits-exact name (length out) (w .0) f .0 (w .1 .1 .0) }),
-    (λ r. (r .accepted .size, (r .nameValid, after-asked _ (r .accepted) (hasFile-exact g img name .0 (r .found), (fits-exact name (length out) (r .accepted) (r .found) .1 (r .fits), tt))))),
+        record { accepted = w .0; nameValid = name-argument-exact name .0 (h .1 .0); found = f; fits = fits-exact name (length out) (w .0) f .0 (w .1 .1 .0) }),
+    (λ r. (r .accepted .size, (name-argument-exact name .1 (r .nameValid), after-asked _ (r .accepted) (hasFile-exact g img name .0 (r .found), (fits-exact name (length out) (r .accepted) (r .found) .1 (r .fits), tt))))),
   )
+
+  -- A READ GIVES THE FILE'S BYTES: of each file of an accepted image, whole, where the output has room
+  pub read-gives : Accepted g img → (name out : Bytes) → validNameArgument name ≡ true
+      → (f : File) → List·Memᴰ f (files g (disk img)) → nameOf (f .slot .bytes) ≡ name → length (chainData g (disk img) (f .sectors)) ≤ length out
+      → callRead g img name out ≡ done (record { imageAfter = img; outputAfter = splice out 0 (chainData g (disk img) (f .sectors)); reportedLength = length (chainData g (disk img) (f .sectors)); reportedSectors = length (f .sectors) })
+  unfolding callRead rightSize
+  read-gives a name out asked f m e fits =
+      rw (
+        eq-eqb (length img) (256 * total g) (a .size),
+        asked,
+        disk-complete g v (disk img) (a .content),
+        filesNamed-one name (files g (disk img)) f m e (a .content .names name),
+        le-leb (length (chainData g (disk img) (f .sectors))) (length out) fits,
+      )
 
 -- ---- a store and its room
 
@@ -173,14 +196,14 @@ module _ (g : Geometry) (v : Valid g) (img name : Bytes) (kind : ℕ) (bytes : B
   admitted-exact = (
     (λ h. record {
       accepted = record { size = h .0 .0; content = diskConditions-accepted g v (disk img) .0 (h .0 .1 .1 .1) };
-      nameValid = h .0 .1 .0;
-      kindValid = h .0 .1 .1 .0;
-      unlocked = h .1 .0;
+      nameValid = name-argument-exact name .0 (h .0 .1 .0);
+      kindValid = kind-exact kind .0 (h .0 .1 .1 .0);
+      unlocked = version-exact g (disk img) .0 (h .1 .0);
       absent = absent-exact g img name .1 (h .1 .1 .0);
     }),
     (λ a. (
-      (a .accepted .size, (a .nameValid, (a .kindValid, diskConditions-accepted g v (disk img) .1 (a .accepted .content)))),
-      (a .unlocked, (absent-exact g img name .0 (a .absent), tt)),
+      (a .accepted .size, (name-argument-exact name .1 (a .nameValid), (kind-exact kind .1 (a .kindValid), diskConditions-accepted g v (disk img) .1 (a .accepted .content)))),
+      (version-exact g (disk img) .1 (a .unlocked), (absent-exact g img name .0 (a .absent), tt)),
     )),
   )
 
@@ -303,3 +326,9 @@ listing-exact g v b out = Iff·trans (listing-exactly g v b out) (
     ),
   )),
 )
+
+-- A LISTING IS REFUSED ONLY WITH 1, 2 TO 6 AND 16
+pub listing-only : (g : Geometry) → Valid g → (b out : Bytes) → (listingReply out (callListing g b out) .answer .number ≡ 0 → ⊥) → ListingNumber (listingReply out (callListing g b out) .answer .number)
+listing-only g v b out h =
+    let w = listing-some-fault g v b out h in
+    rw (w .2) (firstFails-answers (λ f. ListingNumber (answerOf f .number)) (listingConditions g b out) (w .0) (listing-answers g b out) (w .1))

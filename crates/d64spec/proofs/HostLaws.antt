@@ -29,7 +29,7 @@ use Rattle.d64spec.proofs.CheckLaws.{disk-sound}
 use Rattle.d64spec.proofs.FormatLaws.{format-step}
 use Rattle.d64spec.proofs.ScratchStep.{scratch-step}
 use Rattle.d64spec.proofs.StoreStep.{store-step}
-use Rattle.d64spec.proofs.ExactLaws.{check-exact}
+use Rattle.d64spec.proofs.ExactTheorem.{check-exact}
 
 -- ---- the block
 

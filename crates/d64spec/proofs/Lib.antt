@@ -27,9 +27,8 @@ pub mod AllocationLaws
 pub mod StoreStep
 pub mod RunTheorem
 pub mod MapEntryLaws
-pub mod RoomLaws
 pub mod InPlaceLaws
-pub mod ExactLaws
+pub mod NamedLaws
 pub mod OtherBytes
 pub mod RoundTrip
 pub mod LengthLaws

@@ -1,9 +1,9 @@
 -- Which numbers a list of conditions can answer with (01, Answer numbers; Format; Sleeve listing).
 -- In order: conditions that answer only with some faults; steps 2 to 4 of the check; the listing.
-use Prim.Native.Nat.{ℕ, _≤_, _<_}
+use Prim.Native.Nat.{ℕ, _≤_}
 use native.Mathlib.Omega.{arith}
 use mathlib.Core.Path.{_≡_, refl}
-use mathlib.Core.Logic.{_↔_, _⊎_, inl, inr}
+use mathlib.Core.Logic.{inl, inr}
 use mathlib.Core.List.{List, [], _∷_, _++_, map}
 use lib.ListN.{length}
 use Rattle.d64spec.specs.Lists.{Bytes, range}
@@ -14,6 +14,7 @@ use Rattle.d64spec.specs.Chain.{Link, directoryLink, fileLink, to}
 use Rattle.d64spec.specs.Directory.{Slot, countOf, directorySectors, fileOf, firstLink, nameOf, occupied}
 use Rattle.d64spec.specs.Listing.{listingText, track18}
 use Rattle.d64spec.specs.Order.{AllHold, ChainFault, Condition, FirstFails, asks, asksChain, asksDirectory, diskConditions, entryConditions, listingConditions, listingSlots, mapConditions, slotConditions, slotsConditions}
+use Rattle.d64spec.specs.Exact.{ListingNumber}
 use Rattle.d64spec.proofs.ConditionLaws.{firstFails-append}
 
 -- every fault that these conditions answer with has P
@@ -97,18 +98,14 @@ listing-slots-answers : (names : List Bytes) (l : List Slot) → Answers (Betwee
 listing-slots-answers names [] = tt
 listing-slots-answers names (s ∷ l) = answers-append (Between 4 6) (entryConditions names s) (listingSlots (nameOf (s .bytes) ∷ names) l) (entry-answers names s) (listing-slots-answers (nameOf (s .bytes) ∷ names) l)
 
--- the number of a listing's refusal: 1, what track 18 shows (2, 3 from directory links; 4, 5, 6), or 16 (01, Sleeve listing)
-abbrev pub ListingNumber : Fault → Type 0
-ListingNumber f = (answerOf f .number ≡ 1) ⊎ (Between 2 6 f ⊎ (answerOf f .number ≡ 16))
-
--- A LISTING IS REFUSED ONLY WITH 1, 2 TO 6 AND 16
-pub listing-answers : (g : Geometry) (b out : Bytes) → Answers ListingNumber (listingConditions g b out)
+-- a listing is refused with its numbers alone
+pub listing-answers : (g : Geometry) (b out : Bytes) → Answers (λ f. ListingNumber (answerOf f .number)) (listingConditions g b out)
 unfolding listingConditions
 listing-answers g b out = (
   (λ f e. rw e (inl refl)),
   (
     (λ f w. let h = directory-answers g (track18 g b) f w in inr (inl (omega arith))),
-    answers-append ListingNumber (listingSlots [] (occupied g (track18 g b))) (asks (length (listingText g (track18 g b) (occupied g (track18 g b))) ≤ length out) wrongBuffer ∷ [])
+    answers-append (λ f. ListingNumber (answerOf f .number)) (listingSlots [] (occupied g (track18 g b))) (asks (length (listingText g (track18 g b) (occupied g (track18 g b))) ≤ length out) wrongBuffer ∷ [])
         (answers-imp (λ f h. inr (inl (omega arith))) (listingSlots [] (occupied g (track18 g b))) (listing-slots-answers [] (occupied g (track18 g b))))
         ((λ f e. rw e (inr (inr refl))), tt),
   ),

@@ -1,45 +1,37 @@
 -- Each call is done exactly when all that it asks holds, and is else refused with the fault of the first that does not (01, Answer numbers: "Where several apply").
--- In order: tests as conditions; files of a name; room; the calls, tell and the listing; what the caller sees.
+-- In order: steps of one condition; room for an entry; what the caller sees of a result; the calls and tell; the listing.
 use Prim.Native.Nat.{ℕ, suc, _+_, _*_, _≤_, _<_}
 use native.Mathlib.Omega.{arith}
-use mathlib.Core.Path.{_≡_, refl, sym, ap, ap₂, _∙_}
-use mathlib.Core.Bool.{Bool, true, false, cond}
-use mathlib.Core.Logic.{_↔_, _⊎_, inl, inr}
-use mathlib.Core.List.{List, [], _∷_, _++_, map}
+use mathlib.Core.Path.{_≡_, refl, ap, _∙_}
+use mathlib.Core.Logic.{_↔_, Iff·rfl}
+use mathlib.Core.List.{List, [], _∷_, _++_}
 use lib.ListN.{length, drop, length-drop}
-use lib.Dec.{eqb, leb}
-use borrow.Author.Tests.{eqb-true, eq-eqb, leb-true, le-leb}
-use Rattle.d64spec.specs.Lists.{Bytes, equal, nameCount}
+use lib.Dec.{leb}
+use borrow.Author.Tests.{leb-true, le-leb}
+use Rattle.d64spec.specs.Lists.{Bytes}
 use Rattle.d64spec.specs.Answers.{Address, Fault, Result, _>>=_, _>>_, answerOf, badKindArgument, badNameArgument, directoryFull, diskFull, done, first, nameExists, need, notFound, refused, writeForbidden, wrongBuffer, wrongSize}
-use Rattle.d64spec.specs.Geometry.{Geometry, Valid, mapAddress, directoryStart, sectorNumber, sectorsOn, total}
+use Rattle.d64spec.specs.Geometry.{Geometry, Valid, sectorsOn, total}
 use Rattle.d64spec.specs.Image.{Disk, disk}
-use Rattle.d64spec.specs.Chain.{chainData, directoryLink, steps, to}
-use Rattle.d64spec.specs.Directory.{File, Slot, directorySectors, files, nameOf, occupied, occupiedIn}
+use Rattle.d64spec.specs.Chain.{chainData}
+use Rattle.d64spec.specs.Directory.{File, Slot, files, occupied}
 use Rattle.d64spec.specs.Owner.{freeForDirectory, freeForFiles}
-use Rattle.d64spec.specs.Check.{checkDirectory, checkDisk, checkImage, rightSize}
+use Rattle.d64spec.specs.Check.{checkDisk, checkImage, rightSize}
 use Rattle.d64spec.specs.Accepted.{AcceptedDisk}
-use Rattle.d64spec.specs.Reply.{Change, Reply, filesNamed, reply, unchanged, validKind, validNameArgument, writable}
+use Rattle.d64spec.specs.Reply.{Change, filesNamed, reply, unchanged, validKind, validNameArgument, writable}
 use Rattle.d64spec.specs.Format.{callFormat}
 use Rattle.d64spec.specs.Read.{FileInformation, callRead, callTell, noInformation, tellReply}
 use Rattle.d64spec.specs.Store.{SlotPlace, callStore, emptySlots, inEmptySlot, inNewSector, sectorsNeeded, slotPlaceFor}
 use Rattle.d64spec.specs.Scratch.{callScratch}
 use Rattle.d64spec.specs.Call.{Call, attempt, callCheck, check, format, outputBuffer, perform, read, scratch, store}
 use Rattle.d64spec.specs.Listing.{Listed, callListing, listSlots, listingReply, listingText, track18}
-use Rattle.d64spec.specs.Order.{AllHold, Condition, FirstFails, asks, asksDirectory, asksFile, asksName, asksOutput, asksSize, asksVersion, conditions, diskConditions, listingConditions, listingSlots, tellConditions}
-use Rattle.d64spec.proofs.ConditionLaws.{Decided, decided-bind, decided-bind-done, decided-need, decided-one, decided-then, decided-then-done, done≢refused, eqb-exact}
+use Rattle.d64spec.specs.Order.{AllHold, Condition, FirstFails, asks, asksFile, asksName, asksOutput, asksSize, asksVersion, conditions, diskConditions, listingConditions, listingSlots, tellConditions}
+use Rattle.d64spec.proofs.ConditionLaws.{Decided, decided-bind, decided-bind-done, decided-need, decided-one, decided-then, decided-then-done, done≢refused, eqb-exact, leb-exact}
+use Rattle.d64spec.proofs.NamedLaws.{filesNamed-single}
 use Rattle.d64spec.proofs.RefusalLaws.{fault-number}
 use Rattle.d64spec.proofs.FirstFault.{decided-directory, decided-disk, decided-list-slots, directory-walked, diskConditions-accepted}
 use Rattle.d64spec.proofs.ResultLaws.{refused≢done}
 
--- ---- tests as conditions
-
--- a test that is true, exactly where a number is at most another
-pub leb-exact : (a b : ℕ) → (leb a b ≡ true) ↔ (a ≤ b)
-leb-exact a b = (leb-true a b, le-leb a b)
-
--- a test that is asked itself
-pub decided-test : (b : Bool) (f : Fault) → Decided (need b f) (asks (b ≡ true) f ∷ [])
-decided-test b f = decided-need b f (b ≡ true) ((λ t. t), (λ t. t))
+-- ---- steps of one condition
 
 -- a condition that holds, and a step that is done
 decided-holds : {A : Type 0} (y : A) (P : Type 0) (f : Fault) → P → Decided (done y) (asks P f ∷ [])
@@ -54,33 +46,6 @@ decided-first : {A : Type 0} (f : Fault) (l : List A) (P : Type 0) → (0 < leng
 unfolding first
 decided-first f [] P h = decided-fails P f (λ p. omega (arith, h .1 p))
 decided-first f (x ∷ l) P h = decided-holds x P f (h .0 (omega arith))
-
--- ---- files of a name
-
--- the name of a file
-abbrev slotName : File → Bytes
-slotName f = nameOf (f .slot .bytes)
-
--- as many files have a name as names equal it
-pub length-filesNamed : (n : Bytes) (fs : List File) → length (filesNamed n fs) ≡ nameCount n (map slotName fs)
-unfolding filesNamed
-length-filesNamed n [] = refl
-length-filesNamed n (f ∷ fs) = go (equal n (slotName f)) refl (length-filesNamed n fs)
-  where
-    go : (b : Bool) → equal n (slotName f) ≡ b → length (filesNamed n fs) ≡ nameCount n (map slotName fs) → length (filesNamed n (f ∷ fs)) ≡ nameCount n (map slotName (f ∷ fs))
-    go true t h = rw t (omega arith)
-    go false t h = rw t (omega arith)
-
--- a list of at most one element that has a first
-single : {A : Type 0} (f : Fault) (l : List A) (x : A) → length l ≤ 1 → first f l ≡ done x → l ≡ x ∷ []
-unfolding first
-single f [] x h e = refused≢done f x e
-single f (y ∷ []) x h e = cc
-single f (y ∷ z ∷ l) x h e = absurd (omega arith)
-
--- on an accepted disk, the file that a name finds is the only one of that name
-pub filesNamed-single : (g : Geometry) (d : Disk) → AcceptedDisk g d → (n : Bytes) (f : File) → first notFound (filesNamed n (files g d)) ≡ done f → filesNamed n (files g d) ≡ f ∷ []
-filesNamed-single g d a n f e = single notFound (filesNamed n (files g d)) f (omega (arith, a .names n, length-filesNamed n (files g d))) e
 
 -- ---- room for an entry
 
@@ -150,15 +115,15 @@ module _ (g : Geometry) (v : Valid g) (img : Bytes) where
 
   -- 13: a file of that name
   decided-file : (name : Bytes) → Decided (first notFound (filesNamed name (files g (disk img)))) (asksFile g (disk img) name ∷ [])
-  decided-file name = decided-first notFound (filesNamed name (files g (disk img))) (0 < length (filesNamed name (files g (disk img)))) ((λ h. h), (λ h. h))
+  decided-file name = decided-first notFound (filesNamed name (files g (disk img))) _ Iff·rfl
 
   -- 9: the name
   decided-name : (name : Bytes) → Decided (need (validNameArgument name) badNameArgument) (asksName name ∷ [])
-  decided-name name = decided-test (validNameArgument name) badNameArgument
+  decided-name name = decided-need (validNameArgument name) badNameArgument _ Iff·rfl
 
   -- 11: the version
   decided-version : Decided (need (writable g (disk img)) writeForbidden) (asksVersion g (disk img) ∷ [])
-  decided-version = decided-test (writable g (disk img)) writeForbidden
+  decided-version = decided-need (writable g (disk img)) writeForbidden _ Iff·rfl
 
   decided-check : Decided (callCheck g img) (conditions g img check)
   unfolding callCheck checkImage conditions
@@ -177,7 +142,7 @@ module _ (g : Geometry) (v : Valid g) (img : Bytes) where
   decided-store : (name : Bytes) (kind : ℕ) (bs : Bytes) → Decided (callStore g img name kind bs) (conditions g img (store name kind bs))
   unfolding callStore conditions
   decided-store name kind bs =
-      decided-then decided-size (λ h. decided-then (decided-name name) (λ h. decided-then (decided-test (validKind kind) badKindArgument) (λ h. decided-checked (λ a.
+      decided-then decided-size (λ h. decided-then (decided-name name) (λ h. decided-then (decided-need (validKind kind) badKindArgument _ Iff·rfl) (λ h. decided-checked (λ a.
       decided-then decided-version (λ h.
       decided-then (decided-need _ nameExists _ (eqb-exact (length (filesNamed name (files g (disk img)))) 0)) (λ h.
       decided-bind (decided-place g (disk img)) (λ place e h.

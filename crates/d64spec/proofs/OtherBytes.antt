@@ -41,7 +41,7 @@ use Rattle.d64spec.proofs.WriteSlotLaws.{last-in}
 use Rattle.d64spec.proofs.StoreLaws
 use Rattle.d64spec.proofs.StoreStep
 use Rattle.d64spec.proofs.StoreStep.{Taken, placement-taken, placement-length, some-sector, filesNamed-count, PlaceCase, place-case, slot-place, extraOf}
-use Rattle.d64spec.proofs.ExactLaws.{filesNamed-one}
+use Rattle.d64spec.proofs.NamedLaws.{filesNamed-one}
 
 -- ---- places: byte i of sector n
 

@@ -21,7 +21,7 @@ use Rattle.d64spec.specs.Run.{plainListAfter}
 use Rattle.d64spec.proofs.ResultLaws.{need-done}
 use Rattle.d64spec.proofs.RunLaws.{StepHolds}
 use Rattle.d64spec.proofs.StoreStep.{store-step}
-use Rattle.d64spec.proofs.ExactLaws.{read-exact}
+use Rattle.d64spec.proofs.ExactTheorem.{read-gives}
 
 mem-map : {A B : Type 0} (f : A → B) (b : B) (l : List A) → List·Memᴰ b (map f l) → (a : A) × List·Memᴰ a l × (f a ≡ b)
 mem-map f b (x ∷ l) (List·Memᴰ·head h) = (x, List·Memᴰ·head refl, sym h)
@@ -51,5 +51,5 @@ stored-read g v img a name kind bs ch e out fits =
         record {
           sectors = length (f .sectors);
           reads = subst (λ (y : Bytes). length y ≤ length out → callRead g (ch .imageAfter) name out ≡ done (record { imageAfter = ch .imageAfter; outputAfter = splice out 0 y; reportedLength = length y; reportedSectors = length (f .sectors) })) equal
-              (λ q. read-exact g v (ch .imageAfter) acc name out asked f m (ap (λ (y : PlainEntry). y .name) z) q) fits;
+              (λ q. read-gives g v (ch .imageAfter) acc name out asked f m (ap (λ (y : PlainEntry). y .name) z) q) fits;
         }

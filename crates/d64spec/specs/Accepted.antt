@@ -1,5 +1,5 @@
 -- What an accepted image is, with no order (demand 2): the published layout with document 01's entry rules, each sector with at most one
--- claim on it, and a map that marks exactly nobody's sectors free. That the check answers 0 exactly here: proofs/OrderTheorem.
+-- claim on it, and a map that marks exactly nobody's sectors free. That the check answers 0 exactly here: proofs/ExactTheorem, `check-exact`.
 use Prim.Native.Nat.{ℕ, _*_, _≤_, _<_}
 use mathlib.Core.Path.{_≡_}
 use mathlib.Core.Bool.{true}

@@ -1,6 +1,6 @@
 -- The check in document 01's order, with the place of the first fault (01, Order of the check).
 -- In order: one occupied slot; the slots; the map; steps 2 to 4 on the sectors; steps 1 to 4 on an image.
--- What it accepts is said again with no order in specs/Accepted; that the two agree: proofs/CheckLaws, `check-accepts`.
+-- What it accepts is said again with no order in specs/Accepted; that the two agree: proofs/ExactTheorem, `check-exact`.
 use Prim.Native.Nat.{ℕ, _*_}
 use mathlib.Core.Bool.{Bool}
 use mathlib.Core.List.{List, [], _∷_, _++_, map}

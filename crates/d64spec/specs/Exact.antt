@@ -13,15 +13,15 @@ use Rattle.d64spec.specs.Chain.{to, directoryLink, chainData}
 use Rattle.d64spec.specs.Directory.{Slot, File, entryByte, validType, validName, nameOf, occupied, files}
 use Rattle.d64spec.specs.Owner.{freeForFiles, freeForDirectory}
 use Rattle.d64spec.specs.Accepted.{Accepted}
-use Rattle.d64spec.specs.Reply.{validNameArgument, validKind, writable}
 use Rattle.d64spec.specs.Store.{sectorsNeeded, emptySlots}
 use Rattle.d64spec.specs.Listing.{track18, listingText}
 use Rattle.d64spec.specs.Order.{ClaimsOnce}
+use Rattle.d64spec.specs.Facts.{IsName, IsKind, MayWrite}
 
 -- a format is done: only 1 and 9 refuse it (01, Format)
 pub record Formattable (g : Geometry) (img name : Bytes) : Type 0 where
   pub size : length img ≡ 256 * total g
-  pub nameValid : validNameArgument name ≡ true
+  pub nameValid : IsName name
 
 -- a file of the image has this name (01, What demand 3 compares: a file's name)
 pub record HasFile (g : Geometry) (img name : Bytes) : Type 0 where
@@ -32,7 +32,7 @@ pub record HasFile (g : Geometry) (img name : Bytes) : Type 0 where
 -- a read is done: the file is there, and its bytes fit the output (01, Read)
 pub record Readable (g : Geometry) (img name out : Bytes) : Type 0 where
   pub accepted : Accepted g img
-  pub nameValid : validNameArgument name ≡ true
+  pub nameValid : IsName name
   pub found : HasFile g img name
   pub fits : length (chainData g (disk img) (found .file .sectors)) ≤ length out
 
@@ -44,9 +44,9 @@ pub record Tellable (g : Geometry) (img : Bytes) (position : ℕ) : Type 0 where
 -- no number before 14 and 15 refuses a store (01, Answer numbers: "Where several apply")
 pub record Admitted (g : Geometry) (img name : Bytes) (kind : ℕ) : Type 0 where
   pub accepted : Accepted g img
-  pub nameValid : validNameArgument name ≡ true
-  pub kindValid : validKind kind ≡ true
-  pub unlocked : writable g (disk img) ≡ true
+  pub nameValid : IsName name
+  pub kindValid : IsKind kind
+  pub unlocked : MayWrite g (disk img)
   pub absent : HasFile g img name → ⊥
 
 -- 14: no empty slot, and no free sector on track 18 (01, Answer numbers)
@@ -63,8 +63,8 @@ pub record Storable (g : Geometry) (img name : Bytes) (kind : ℕ) (bytes : Byte
 -- a scratch is done: the disk is writable, and the file is there (01, Scratch)
 pub record Scratchable (g : Geometry) (img name : Bytes) : Type 0 where
   pub accepted : Accepted g img
-  pub nameValid : validNameArgument name ≡ true
-  pub unlocked : writable g (disk img) ≡ true
+  pub nameValid : IsName name
+  pub unlocked : MayWrite g (disk img)
   pub found : HasFile g img name
 
 -- what track 18 shows of an entry (01, The directory): kind and flags, and the name
@@ -79,3 +79,7 @@ pub record Listable (g : Geometry) (b out : Bytes) : Type 0 where
   pub entry : All ShownEntry (occupied g (track18 g b))
   pub names : (n : Bytes) → nameCount n (map (λ s. nameOf (s .bytes)) (occupied g (track18 g b))) ≤ 1  -- no two files share a name
   pub fits : length (listingText g (track18 g b) (occupied g (track18 g b))) ≤ length out
+
+-- the numbers of a listing's refusals: 1, what track 18 shows (2, 3 from directory links; 4, 5, 6), and 16 (01, Sleeve listing)
+abbrev pub ListingNumber : ℕ → Type 0
+ListingNumber n = (n ≡ 1) ⊎ (((2 ≤ n) × (n ≤ 6)) ⊎ (n ≡ 16))
