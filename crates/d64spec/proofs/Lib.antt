@@ -3,6 +3,7 @@ pub mod ListLaws
 pub mod ChainLaws
 pub mod PigeonholeLaws
 pub mod ResultLaws
+pub mod CallLaws
 pub mod BoundLaws
 pub mod RunLaws
 pub mod RefusalLaws
