@@ -153,11 +153,11 @@ pub fn valid_name(slot: &[u8]) -> bool
     if field.len() != 16 {
         return false;
     }
-    let n = name_length(field);
-    if n == 0 {
+    let letters = name_length(field);
+    if letters == 0 {
         return false;
     }
-    padded_from(field, n)
+    padded_from(field, letters)
 }
 
 // Whether two slots have the same name, where both names keep the rule: their name fields are then equal.
@@ -189,14 +189,14 @@ pub fn has_name(slot: &[u8], name: &[u8]) -> bool
 pub fn valid_name_argument(name: &[u8]) -> bool
     ensures { λ r. ⌜ r ≡ validNameArgument (now (name .entry)) ⌝ }
 {
-    let n = name.len();
-    if n == 0 {
+    let size = name.len();
+    if size == 0 {
         return false;
     }
-    if 16 < n {
+    if 16 < size {
         return false;
     }
-    name_length(name) == n
+    name_length(name) == size
 }
 
 // Whether a store takes this kind: 1 SEQ, 2 PRG or 3 USR.
