@@ -35,3 +35,4 @@ pub mod LengthLaws
 pub mod FormatReady
 pub mod ListingLaws
 pub mod HostLaws
+pub mod OwnerTheorem
