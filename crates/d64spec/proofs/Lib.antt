@@ -36,3 +36,4 @@ pub mod FormatReady
 pub mod ListingLaws
 pub mod HostLaws
 pub mod OwnerTheorem
+pub mod SlotBounds

@@ -17,7 +17,7 @@ use Rattle.d64spec.specs.Check.{checkDirectory, checkEntry}
 use Rattle.d64spec.specs.Listing.{Listed, callListing, digit, freeTotal, headFrame, line, listSlots, listingText, slotFrame, track18}
 use Rattle.d64spec.proofs.ResultLaws.{need-done, then-done, bind-done, done-inj}
 use Rattle.d64spec.proofs.PigeonholeLaws.{pigeon}
-use Rattle.d64spec.proofs.WalkLaws.{walk-sound}
+use Rattle.d64spec.proofs.WalkLaws.{Walked, walk-sound}
 use Rattle.d64spec.proofs.RunTheorem.{valid35}
 
 -- ---- the directory stays on track 18
@@ -66,10 +66,9 @@ below-18 g [] a = tt
 below-18 g (r ∷ l) a = (a .0 .1, below-18 g l (a .1))
 
 -- a directory that a walk finds leaves out 18/0
-directory-few : (g : Geometry) → Valid g → (d : Disk) (n : ℕ) (l : List Address) → walk g (directoryLink g) d n (sectorNumber g mapAddress ∷ []) mapAddress 255 (to directoryStart) ≡ done l → 1 + length l ≤ sectorsOn g 18
+pub directory-few : (g : Geometry) → Valid g → (d : Disk) (l : List Address) → Walked g (directoryLink g) d (sectorNumber g mapAddress ∷ []) (to directoryStart) l → 1 + length l ≤ sectorsOn g 18
 unfolding onDisk sectorNumber
-directory-few g v d n l e =
-    let w = walk-sound g (directoryLink g) d n (sectorNumber g mapAddress ∷ []) mapAddress 255 (to directoryStart) l e in
+directory-few g v d l w =
     let on : 1 < sectorsOn g 18 = ltb-true 1 (sectorsOn g 18) (v .directory) in
     let a : All (λ r. On18 g (to r)) l = chain-18 g d (to directoryStart) l (refl, on) (w .chain) in
     let few : (i : ℕ) → count i (0 ∷ map (λ r. r .sector) l) ≤ 1 = λ i. once i (w .once (firstOn g 18 + i)) a in
@@ -132,7 +131,7 @@ filter-length p (x ∷ l) = go (p x) (filter-length p l)
     go true h = omega arith
     go false h = omega arith
 
-slots-length : (g : Geometry) (d : Disk) (n : ℕ) (l : List Address) → length (slotsFrom g d n l) ≡ 8 * length l
+pub slots-length : (g : Geometry) (d : Disk) (n : ℕ) (l : List Address) → length (slotsFrom g d n l) ≡ 8 * length l
 unfolding slotsIn
 slots-length g d n [] = refl
 slots-length g d n (r ∷ l) = omega (arith, length-append (slotsIn (d (sectorNumber g r)) r n) (slotsFrom g d (n + 8) l), slots-length g d (n + 8) l)
@@ -152,7 +151,7 @@ module _ (g : Geometry) (v : Valid g) (b : Bytes) where
 
   text-bound : (ds : List Address) → walk g (directoryLink g) d (steps g) (sectorNumber g mapAddress ∷ []) mapAddress 255 (to directoryStart) ≡ done ds → length (listingText g d (slots ds)) ≤ longest g
   text-bound ds e =
-      omega (arith, text-length g d (slots ds), filter-length (λ s. not (isEmpty (s .bytes))) (slotsFrom g d 0 ds), slots-length g d 0 ds, directory-few g v d (steps g) ds e)
+      omega (arith, text-length g d (slots ds), filter-length (λ s. not (isEmpty (s .bytes))) (slotsFrom g d 0 ds), slots-length g d 0 ds, directory-few g v d ds (walk-sound g (directoryLink g) d (steps g) (sectorNumber g mapAddress ∷ []) mapAddress 255 (to directoryStart) ds e))
 
   -- A LISTING IS NO LONGER
   pub listing-bound : (out : Bytes) (l : Listed) → callListing g b out ≡ done l → l .reportedLength ≤ longest g
