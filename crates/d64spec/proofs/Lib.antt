@@ -33,7 +33,10 @@ pub mod OtherBytes
 pub mod RoundTrip
 pub mod LengthLaws
 pub mod FormatReady
+pub mod OutcomeLaws
 pub mod ListingLaws
 pub mod HostLaws
 pub mod OwnerTheorem
 pub mod SlotBounds
+pub mod PlaceLaws
+pub mod WidthTheorem
