@@ -40,3 +40,4 @@ pub mod OwnerTheorem
 pub mod SlotBounds
 pub mod PlaceLaws
 pub mod WidthTheorem
+pub mod FormatTheorem
