@@ -80,7 +80,7 @@ module _ (g : Geometry) (d : Disk) where
     once : (m : ℕ) → count m (fileClaims g fs) + count m own ≤ 1
     differ : (n : Bytes) → nameCount n names ≤ 1 → nameCount n (map slotName fs) + nameCount n names ≤ 1
 
-  firstLink-on : (s : Slot) → OnDisk g (firstLink g d s)
+  pub firstLink-on : (s : Slot) → OnDisk g (firstLink g d s)
   unfolding firstLink
   firstLink-on s = linkTo-on g (entryByte (s .bytes) 0x03) (entryByte (s .bytes) 0x04)
 

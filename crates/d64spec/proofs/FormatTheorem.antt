@@ -20,7 +20,7 @@ use Rattle.d64spec.specs.Map.{bitmapByte, expectedBit, expectedEntry, ma
 use Rattle.d64spec.specs.Reply.{Change}
 use Rattle.d64spec.specs.Format.{callFormat, emptyDirectorySector, freeAfterFormat}
 use Rattle.d64spec.specs.Call.{attempt, format, outputBuffer, perform}
-use Rattle.d64spec.specs.Facts.{Formatted, FormattedMap}
+use Rattle.d64spec.specs.Facts.{Formatted, FormattedMap, MapBesideName}
 use Rattle.d64spec.proofs.BoundLaws.{sectorNumber-lt, map-on}
 use Rattle.d64spec.proofs.SpliceLaws.{part-same}
 use Rattle.d64spec.proofs.ImageLaws.{Whole}
@@ -64,10 +64,6 @@ module _ (name : Bytes) (i j : ℕ) (short : length name ≤ 16) where
   header-rest k l (inr h) = let z : k ≡ 0xAB + (k - 0xAB) = omega arith in ap (byte (header name i j)) z ∙ header-high (k - 0xAB)
 
 -- ---- 18/0
-
--- the map entries lie apart from the name and what follows it
-abbrev pub MapBesideName : Geometry → Type 0
-MapBesideName g = (t : ℕ) → 1 ≤ t → t ≤ tracks g → (g .mapAt t + 3 < 0x90) ⊎ (0xAA < g .mapAt t)
 
 module _ (g : Geometry) (v : Valid g) (beside : MapBesideName g) (name : Bytes) (i j : ℕ) (short : length name ≤ 16) where
   -- the formatted disk

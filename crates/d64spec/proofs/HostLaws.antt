@@ -6,9 +6,9 @@ use mathlib.Core.Bool.{Bool, true, false, cond}
 use mathlib.Core.Logic.{_↔_}
 use lib.ListN.{length}
 use lib.Dec.{eqb, leb}
-use borrow.Author.Tests.{eq-eqb, ne-eqb, eqb-true, leb-true}
+use borrow.Author.Tests.{eq-eqb, ne-eqb, eqb-true}
 use Rattle.d64spec.specs.Lists.{Bytes, byte}
-use Rattle.d64spec.specs.Answers.{Result, badKindArgument, badNameArgument, diskFull, done, first, nameExists, notFound, refused, writeForbidden, wrongBuffer, wrongSize}
+use Rattle.d64spec.specs.Answers.{Result, badKindArgument, badNameArgument, diskFull, done, first, nameExists, notFound, refused, writeForbidden, wrongSize}
 use Rattle.d64spec.specs.Geometry.{Geometry, Valid, total}
 use Rattle.d64spec.specs.Image.{disk}
 use Rattle.d64spec.specs.Chain.{chainData}
@@ -24,6 +24,7 @@ use Rattle.d64spec.specs.Scratch.{callScratch}
 use Rattle.d64spec.specs.Call.{Call, attempt, callCheck, check, format, outputBuffer, perform, read, scratch, store}
 use Rattle.d64spec.specs.Host.{HostReply, answerBlock, blockRefused, hostCall, hostReply, littleEndian}
 use Rattle.d64spec.proofs.ResultLaws.{need-done, then-done, bind-done, done-inj}
+use Rattle.d64spec.proofs.ReadLaws.{read-steps}
 use Rattle.d64spec.proofs.SpliceLaws.{length-splice}
 use Rattle.d64spec.proofs.CheckLaws.{disk-sound}
 use Rattle.d64spec.proofs.FormatLaws.{format-step}
@@ -71,7 +72,7 @@ host-check g v img block h = rw (right-block g img block check h) (check-exact g
 -- ---- the image and the output
 
 module _ (g : Geometry) (v : Valid g) (img : Bytes) where
-  accepted-of : rightSize g img ≡ true → (c : DirectoryContents) → checkDisk g (disk img) ≡ done c → Accepted g img
+  pub accepted-of : rightSize g img ≡ true → (c : DirectoryContents) → checkDisk g (disk img) ≡ done c → Accepted g img
   unfolding rightSize
   accepted-of s c e = record { size = eqb-true (length img) (256 * total g) s; content = disk-sound g v (disk img) c e .0 }
 
@@ -87,13 +88,7 @@ module _ (g : Geometry) (v : Valid g) (img : Bytes) where
     where
       formatted : (name : Bytes) (i j : ℕ) (ch : Change) → callFormat g img name i j ≡ done ch → rightSize g img ≡ true
       formatted name i j ch e = need-done (rightSize g img) wrongSize _ ch e .0
-  image-kept (read name out) ch e =
-      let h1 = need-done (rightSize g img) wrongSize _ ch e in
-      let h2 = need-done (validNameArgument name) badNameArgument _ ch (h1 .1) in
-      let h3 = then-done (checkDisk g (disk img)) _ ch (h2 .1) in
-      let h4 = bind-done (first notFound (filesNamed name (files g (disk img)))) _ ch (h3 .2) in
-      let h5 = need-done (leb (length (chainData g (disk img) (h4 .0 .sectors))) (length out)) wrongBuffer _ ch (h4 .2) in
-      ap (λ (x : Change). length (x .imageAfter)) (sym (done-inj (h5 .1)))
+  image-kept (read name out) ch e = ap (λ (x : Change). length (x .imageAfter)) (read-steps g img name out ch e .leaves)
   image-kept (store name kind bs) ch e =
       store-step g v img (stored name kind bs ch e) name kind bs ch e .accepted .size ∙ sym (stored name kind bs ch e .size)
     where
@@ -132,13 +127,8 @@ out-kept g img (format name i j) ch e =
     let h2 = need-done (validNameArgument name) badNameArgument _ ch (h1 .1) in
     ap (λ (x : Change). length (x .outputAfter)) (sym (done-inj (h2 .1)))
 out-kept g img (read name out) ch e =
-    let h1 = need-done (rightSize g img) wrongSize _ ch e in
-    let h2 = need-done (validNameArgument name) badNameArgument _ ch (h1 .1) in
-    let h3 = then-done (checkDisk g (disk img)) _ ch (h2 .1) in
-    let h4 = bind-done (first notFound (filesNamed name (files g (disk img)))) _ ch (h3 .2) in
-    let b : Bytes = chainData g (disk img) (h4 .0 .sectors) in
-    let h5 = need-done (leb (length b) (length out)) wrongBuffer _ ch (h4 .2) in
-    ap (λ (x : Change). length (x .outputAfter)) (sym (done-inj (h5 .1))) ∙ length-splice out 0 b (omega (arith, leb-true (length b) (length out) (h5 .0)))
+    let r = read-steps g img name out ch e in
+    ap (λ (x : Change). length (x .outputAfter)) (r .leaves) ∙ length-splice out 0 (chainData g (disk img) (r .file .sectors)) (omega (arith, r .room))
 out-kept g img (store name kind bs) ch e =
     let h1 = need-done (rightSize g img) wrongSize _ ch e in
     let h2 = need-done (validNameArgument name) badNameArgument _ ch (h1 .1) in

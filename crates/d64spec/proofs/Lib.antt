@@ -41,3 +41,4 @@ pub mod SlotBounds
 pub mod PlaceLaws
 pub mod WidthTheorem
 pub mod FormatTheorem
+pub mod ReadTheorem

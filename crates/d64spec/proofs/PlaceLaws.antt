@@ -13,14 +13,15 @@ use Rattle.d64spec.specs.Answers.{Address, Fault, answerOf, done, placed
 use Rattle.d64spec.specs.Geometry.{Geometry, Valid, directoryStart, mapAddress, onDisk, sectorNumber, sectorsOn, tracks}
 use Rattle.d64spec.specs.Image.{Disk}
 use Rattle.d64spec.specs.Chain.{directoryLink, fileLink, steps, to, walk}
-use Rattle.d64spec.specs.Directory.{Slot, countOf, entryByte, firstLink, isEmpty, nameOf, occupiedIn, slotsFrom}
+use Rattle.d64spec.specs.Directory.{Slot, countOf, firstLink, isEmpty, nameOf, occupiedIn, slotsFrom}
 use Rattle.d64spec.specs.Owner.{claimsOf}
 use Rattle.d64spec.specs.Map.{entryCorrect}
 use Rattle.d64spec.specs.Check.{checkDirectory, checkDisk, checkEntry, checkMap, checkSlot, checkSlots}
 use Rattle.d64spec.specs.Facts.{AnswerFits}
-use Rattle.d64spec.proofs.BoundLaws.{OnDisk, directoryLink-on, fileLink-on, linkTo-on, map-on}
+use Rattle.d64spec.proofs.BoundLaws.{directoryLink-on, fileLink-on, map-on}
 use Rattle.d64spec.proofs.WalkLaws.{Walked, walk-sound}
 use Rattle.d64spec.proofs.MapLaws.{range-all}
+use Rattle.d64spec.proofs.CheckLaws.{firstLink-on}
 use Rattle.d64spec.proofs.SplitLaws.{mem-filter}
 use Rattle.d64spec.proofs.OutcomeLaws.{Refusals, OfEntry, bind-outcome, then-outcome, need-outcome, walk-refusals, entry-refusals}
 use Rattle.d64spec.proofs.ListingLaws.{On18, chain-18, slots-length}
@@ -111,16 +112,12 @@ module _ (g : Geometry) (v : Valid g) (few : tracks g < 256) where
     checkDirectory-fits =
         walk-refusals FaultFits g (directoryLink g) (directoryLink-on g) d 255 (chain-fits 255 (omega arith)) (steps g) (sectorNumber g mapAddress ∷ []) mapAddress (to directoryStart) (map-on g (v .directory)) (v .directory)
 
-    firstLink-on : (s : Slot) → OnDisk g (firstLink g d s)
-    unfolding firstLink
-    firstLink-on s = linkTo-on g (entryByte (s .bytes) 0x03) (entryByte (s .bytes) 0x04)
-
     checkSlot-fits : (own : List ℕ) (names : List Bytes) (s : Slot) → SlotFits s → Refusals FaultFits (checkSlot g d own names s)
     unfolding checkSlot
     checkSlot-fits own names s f =
         then-outcome FaultFits (λ x. Unit {0}) (checkEntry names s) _ (entry-refusals FaultFits names s (entry-fits s f))
         (λ x e. bind-outcome FaultFits (λ x. Unit {0}) (walk g (fileLink g) d (steps g) own (s .holder) (s .number) (firstLink g d s)) _
-        (walk-refusals FaultFits g (fileLink g) (fileLink-on g) d (s .number) (chain-fits (s .number) (f .number)) (steps g) own (s .holder) (firstLink g d s) (f .holder) (firstLink-on s))
+        (walk-refusals FaultFits g (fileLink g) (fileLink-on g) d (s .number) (chain-fits (s .number) (f .number)) (steps g) own (s .holder) (firstLink g d s) (f .holder) (firstLink-on g d s))
         (λ l e′. need-outcome FaultFits (λ x. Unit {0}) (eqb (countOf (s .bytes)) (length l)) (wrongCount (s .holder) (s .number)) (done l) (placed-fits 7 (s .holder) (s .number) (omega arith) (f .holder) (f .number)) (λ n. tt)))
 
     checkSlots-fits : (own : List ℕ) (names : List Bytes) (l : List Slot) → All SlotFits l → Refusals FaultFits (checkSlots g d own names l)

@@ -6,15 +6,15 @@ use mathlib.Core.Bool.{Bool, true, false, cond, _&&_}
 use mathlib.Core.List.{List, [], _∷_, Perm·refl, List·Memᴰ, List·Memᴰ·head, List·Memᴰ·tail}
 use lib.ListN.{length}
 use lib.Dec.{eqb, leb}
-use borrow.Author.Tests.{eqb-true}
-use Rattle.d64spec.specs.Lists.{All, Bytes, equal, filter}
+use borrow.Author.Tests.{eqb-true, leb-true}
+use Rattle.d64spec.specs.Lists.{All, Bytes, equal, filter, splice}
 use Rattle.d64spec.specs.Answers.{Fault, badNameArgument, done, first, notFound, wrongBuffer, wrongSize}
 use Rattle.d64spec.specs.Geometry.{Geometry, Valid, total}
 use Rattle.d64spec.specs.Image.{disk}
 use Rattle.d64spec.specs.Chain.{chainData}
 use Rattle.d64spec.specs.Directory.{File, files, nameOf, plainList}
 use Rattle.d64spec.specs.Owner.{claimCount}
-use Rattle.d64spec.specs.Check.{checkDisk, checkImage, rightSize}
+use Rattle.d64spec.specs.Check.{DirectoryContents, checkDisk, checkImage, rightSize}
 use Rattle.d64spec.specs.Accepted.{Accepted}
 use Rattle.d64spec.specs.Reply.{Change, filesNamed, reply, validNameArgument}
 use Rattle.d64spec.specs.Read.{callRead}
@@ -63,6 +63,27 @@ unchanged-step g img c r a e l h = record {
   read = h;
 }
 
+-- the steps of a read that is done
+pub record ReadSteps (g : Geometry) (img name out : Bytes) (ch : Change) : Type 0 where
+  pub size : rightSize g img ≡ true
+  pub contents : DirectoryContents
+  pub checked : checkDisk g (disk img) ≡ done contents
+  pub file : File
+  pub found : first notFound (filesNamed name (files g (disk img))) ≡ done file
+  pub room : length (chainData g (disk img) (file .sectors)) ≤ length out
+  pub leaves : ch ≡ record { imageAfter = img; outputAfter = splice out 0 (chainData g (disk img) (file .sectors)); reportedLength = length (chainData g (disk img) (file .sectors)); reportedSectors = length (file .sectors) }
+
+pub read-steps : (g : Geometry) (img name out : Bytes) (ch : Change) → callRead g img name out ≡ done ch → ReadSteps g img name out ch
+unfolding callRead
+read-steps g img name out ch e =
+    let h1 = need-done (rightSize g img) wrongSize _ ch e in
+    let h2 = need-done (validNameArgument name) badNameArgument _ ch (h1 .1) in
+    let h3 = then-done (checkDisk g (disk img)) _ ch (h2 .1) in
+    let h4 = bind-done (first notFound (filesNamed name (files g (disk img)))) _ ch (h3 .2) in
+    let b : Bytes = chainData g (disk img) (h4 .0 .sectors) in
+    let h5 = need-done (leb (length b) (length out)) wrongBuffer _ ch (h4 .2) in
+    record { size = h1 .0; contents = h3 .0; checked = h3 .1; file = h4 .0; found = h4 .1; room = leb-true (length b) (length out) (h5 .0); leaves = sym (done-inj (h5 .1)) }
+
 module _ (g : Geometry) (v : Valid g) (img : Bytes) (a : Accepted g img) where
   pub check-step : (ch : Change) → callCheck g img ≡ done ch → StepHolds g img check (hostReply (reply img [] (done ch)))
   unfolding callCheck reply plainListAfter
@@ -71,16 +92,11 @@ module _ (g : Geometry) (v : Valid g) (img : Bytes) (a : Accepted g img) where
       unchanged-step g img check (hostReply (reply img [] (done ch))) a (ap (λ (x : Change). x .imageAfter) (sym z)) refl tt
 
   pub read-step : (name out : Bytes) (ch : Change) → callRead g img name out ≡ done ch → StepHolds g img (read name out) (hostReply (reply img out (done ch)))
-  unfolding callRead reply plainListAfter filesNamed answerBlock
+  unfolding reply plainListAfter filesNamed answerBlock
   read-step name out ch e =
-      let h1 = need-done (rightSize g img) wrongSize _ ch e in
-      let h2 = need-done (validNameArgument name) badNameArgument _ ch (h1 .1) in
-      let h3 = then-done (checkDisk g (disk img)) _ ch (h2 .1) in
-      let h4 = bind-done (first notFound (filesNamed name (files g (disk img)))) _ ch (h3 .2) in
-      let f : File = h4 .0 in
-      let h5 = need-done (leb (length (chainData g (disk img) (f .sectors))) (length out)) wrongBuffer _ ch (h4 .2) in
-      let z = done-inj (h5 .1) in
-      let k = first-kept (λ f. equal name (nameOf (f .slot .bytes))) (λ f. length (f .sectors) ≤ total g - 2) notFound (files g (disk img)) f (file-bound g (disk img) v (a .content)) (h4 .1) in
-      let n : ch .reportedSectors ≡ length (f .sectors) = ap (λ (x : Change). x .reportedSectors) (sym z) in
-      unchanged-step g img (read name out) (hostReply (reply img out (done ch))) a (ap (λ (x : Change). x .imageAfter) (sym z)) refl
+      let r = read-steps g img name out ch e in
+      let f : File = r .file in
+      let k = first-kept (λ f. equal name (nameOf (f .slot .bytes))) (λ f. length (f .sectors) ≤ total g - 2) notFound (files g (disk img)) f (file-bound g (disk img) v (a .content)) (r .found) in
+      let n : ch .reportedSectors ≡ length (f .sectors) = ap (λ (x : Change). x .reportedSectors) (r .leaves) in
+      unchanged-step g img (read name out) (hostReply (reply img out (done ch))) a (ap (λ (x : Change). x .imageAfter) (r .leaves)) refl
       (λ e₀. (f, ∣ k .element ∣₁, sym (eq-of-equal name (nameOf (f .slot .bytes)) (k .test)), ap (littleEndian 2) n, k .fact))

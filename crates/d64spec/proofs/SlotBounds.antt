@@ -14,7 +14,7 @@ use Rattle.d64spec.specs.Chain.{directoryLink, steps, to}
 use Rattle.d64spec.specs.Directory.{Slot, directorySectors, slotIn, slotsFrom, slotsIn}
 use Rattle.d64spec.specs.Check.{checkDirectory}
 use Rattle.d64spec.specs.Accepted.{Accepted, AcceptedDisk}
-use Rattle.d64spec.specs.Facts.{Numbered}
+use Rattle.d64spec.specs.Facts.{Numbered, slotsMost}
 use Rattle.d64spec.proofs.WalkLaws.{Walked, walk-sound}
 use Rattle.d64spec.proofs.ScratchLaws.{claimCount-of}
 use Rattle.d64spec.proofs.ListingLaws.{directory-few, slots-length}
@@ -71,10 +71,6 @@ slot-number-lt g d l s m =
     omega arith
 
 -- ---- the whole directory
-
--- the slots that a directory of track 18 can have: eight in each sector but 18/0
-abbrev pub slotsMost : Geometry → ℕ
-slotsMost g = 8 * (sectorsOn g 18 - 1)
 
 module _ (g : Geometry) (v : Valid g) (d : Disk) where
   slots-walked : (l : List Address) → Walked g (directoryLink g) d (sectorNumber g mapAddress ∷ []) (to directoryStart) l → (s : Slot) → List·Memᴰ s (slotsFrom g d 0 l) → s .number < slotsMost g

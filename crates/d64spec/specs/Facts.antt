@@ -1,20 +1,24 @@
--- What the theorems of proofs/ say beside the calls' own definitions: owners, slots, the answer block, a formatted disk, a read (01; demand 2).
-use Prim.Native.Nat.{ℕ, _+_, _*_, _/_, _%_, _≤_, _<_}
+-- What the theorems say that are not about one definition alone (01; demand 2): records that their statements name.
+-- In order: owners (proofs/OwnerTheorem); slots (SlotBounds); the answer block (WidthTheorem); a formatted disk (FormatTheorem); files, read and told (ReadTheorem).
+use Prim.Native.Nat.{ℕ, _+_, _*_, _-_, _/_, _%_, _≤_, _<_}
 use mathlib.Core.Path.{_≡_}
 use mathlib.Core.Bool.{true}
 use mathlib.Core.Logic.{_⊎_, _↔_}
-use mathlib.Core.List.{List, [], _∷_}
+use mathlib.Core.List.{List, [], _∷_, _++_, List·Memᴰ}
 use lib.ListN.{length, drop, getD}
-use Rattle.d64spec.specs.Lists.{Bytes, byte, part, zeros}
-use Rattle.d64spec.specs.Answers.{Address, Answer}
+use Rattle.d64spec.specs.Lists.{Bytes, byte, part, splice, zeros}
+use Rattle.d64spec.specs.Answers.{Address, Answer, address}
 use Rattle.d64spec.specs.Geometry.{Geometry, directoryStart, mapAddress, sectorNumber, sectorsOn, total, tracks}
 use Rattle.d64spec.specs.Image.{Disk, disk}
-use Rattle.d64spec.specs.Directory.{Slot, padded, plainList}
+use Rattle.d64spec.specs.Chain.{chainData}
+use Rattle.d64spec.specs.Directory.{File, Slot, entryByte, files, nameOf, padded, plainEntryOf, plainList}
 use Rattle.d64spec.specs.Owner.{Owner, Owns}
 use Rattle.d64spec.specs.Map.{expectedEntry, mapBit}
 use Rattle.d64spec.specs.Accepted.{Accepted}
-use Rattle.d64spec.specs.Reply.{Reply, writable}
+use Rattle.d64spec.specs.Reply.{Change, Reply, writable}
 use Rattle.d64spec.specs.Format.{freeAfterFormat}
+use Rattle.d64spec.specs.Read.{FileInformation}
+use Rattle.d64spec.specs.Store.{lastOf}
 
 -- ---- owners
 
@@ -32,6 +36,10 @@ pub record Numbered (g : Geometry) (d : Disk) (l : List Address) (i : ℕ) (s : 
   pub index : s .index ≡ i % 8
   pub number : s .number ≡ i
   pub bytes : s .bytes ≡ part 0x02 0x1F (drop (32 * (i % 8)) (d (sectorNumber g (s .holder))))
+
+-- the slots that a directory can have: eight in each sector of track 18 but 18/0
+abbrev pub slotsMost : Geometry → ℕ
+slotsMost g = 8 * (sectorsOn g 18 - 1)
 
 -- ---- the answer block
 
@@ -66,7 +74,11 @@ pub record Ready (g : Geometry) (img : Bytes) : Type 0 where
   pub writable : writable g (disk img) ≡ true
   pub bare : plainList g (disk img) ≡ []
 
--- every byte of 18/0 after a format (01, Format). Here and below m is 18/0
+-- what the bytes of 18/0 ask of a layout: its map entries lie apart from the name and what follows it
+abbrev pub MapBesideName : Geometry → Type 0
+MapBesideName g = (t : ℕ) → 1 ≤ t → t ≤ tracks g → (g .mapAt t + 3 < 0x90) ⊎ (0xAA < g .mapAt t)
+
+-- every byte of 18/0 after a format (01, Format); m is 18/0
 pub record FormattedMap (g : Geometry) (name : Bytes) (id1 id2 : ℕ) (m : Bytes) : Type 0 where
   pub start : part 0x00 0x03 m ≡ 0x12 ∷ 0x01 ∷ 0x41 ∷ 0x00 ∷ []
   pub named : part 0x90 0x9F m ≡ padded name
@@ -86,3 +98,45 @@ pub record Formatted (g : Geometry) (name : Bytes) (id1 id2 : ℕ) (img : Bytes)
   pub map : FormattedMap g name id1 id2 (disk img (sectorNumber g mapAddress))
   pub other : (n : ℕ) → n < total g → (n ≡ sectorNumber g mapAddress → ⊥) → (n ≡ sectorNumber g directoryStart → ⊥) → disk img n ≡ zeros 256
   pub ready : Ready g img
+
+-- ---- files, read and told
+
+-- n of a file: the second byte of its last sector (01, Chains). A file has a sector, so that `lastOf` gives one of its own
+abbrev pub lastByte : Geometry → Disk → File → ℕ
+lastByte g d f = byte (d (sectorNumber g (lastOf (f .slot .holder) (f .sectors)))) 1
+
+-- a file of k sectors holds 254(k-1) + n-1 bytes, n being 1 to 255 (01, Chains)
+pub record FileLength (g : Geometry) (d : Disk) (f : File) : Type 0 where
+  pub some : 1 ≤ length (f .sectors)
+  pub low : 1 ≤ lastByte g d f
+  pub high : lastByte g d f ≤ 255
+  pub bytes : length (chainData g d (f .sectors)) ≡ 254 * (length (f .sectors) - 1) + lastByte g d f - 1
+
+-- what a read that is done has read: the one file of that name, whole (01, Read)
+pub record WasRead (g : Geometry) (img name out : Bytes) (ch : Change) : Type 0 where
+  pub accepted : Accepted g img
+  pub file : File
+  pub element : List·Memᴰ file (files g (disk img))
+  pub named : nameOf (file .slot .bytes) ≡ name
+  pub only : (f : File) → List·Memᴰ f (files g (disk img)) → nameOf (f .slot .bytes) ≡ name → f ≡ file
+  pub listed : List·Memᴰ (plainEntryOf g (disk img) file) (plainList g (disk img))
+  pub room : length (plainEntryOf g (disk img) file .content) ≤ length out
+  pub output : ch .outputAfter ≡ splice out 0 (plainEntryOf g (disk img) file .content)
+  pub image : ch .imageAfter ≡ img
+  pub reportedLength : ch .reportedLength ≡ length (plainEntryOf g (disk img) file .content)
+  pub reportedSectors : ch .reportedSectors ≡ length (file .sectors)
+
+-- what a tell that is done has told: of the file before which there are as many as the position says (01, Tell)
+pub record WasTold (g : Geometry) (img : Bytes) (position : ℕ) (i : FileInformation) : Type 0 where
+  pub accepted : Accepted g img
+  pub front : List File
+  pub file : File
+  pub back : List File
+  pub whole : files g (disk img) ≡ front ++ file ∷ back
+  pub place : length front ≡ position
+  pub typeByte : i .typeByte ≡ entryByte (file .slot .bytes) 0x02
+  pub nameBytes : i .nameBytes ≡ padded (nameOf (file .slot .bytes))
+  pub further : List Address
+  pub first : file .sectors ≡ address (i .firstTrack) (i .firstSector) ∷ further
+  pub sectorCount : i .sectorCount ≡ length (file .sectors)
+  pub byteLength : i .byteLength ≡ length (chainData g (disk img) (file .sectors))
