@@ -35,9 +35,16 @@ pub mod OtherBytes
 pub mod RoundTrip
 pub mod LengthLaws
 pub mod FormatReady
+pub mod OutcomeLaws
 pub mod ListingLaws
 pub mod HostLaws
-pub mod FactLaws
+pub mod RuleLaws
 pub mod ConditionLaws
 pub mod ChainFaultLaws
 pub mod FirstFault
+pub mod OwnerTheorem
+pub mod SlotBounds
+pub mod PlaceLaws
+pub mod WidthTheorem
+pub mod FormatTheorem
+pub mod ReadTheorem

@@ -258,7 +258,7 @@ pub store-step : (g : Geometry) → Valid g → (img : Bytes) → Accepted g img
 unfolding reply
 store-step g v img a name kind bs ch e =
     let h = store-done g img name kind bs ch e in
-    by-placement g v img a name kind bs (h .asked) (h .kind-asked) (sym (filesNamed-count name (files g (disk img))) ∙ eqb-true (length (filesNamed name (files g (disk img)))) 0 (h .absent))
+    by-placement g v img a name kind bs (h .asked) (h .kind-asked) (sym (filesNamed-count name (files g (disk img))) ∙ h .absent)
     (placement g (disk img) (sectorsNeeded (length bs))) (placement-taken g (disk img) (sectorsNeeded (length bs)))
-    (placement-length g (disk img) (sectorsNeeded (length bs)) (leb-true (sectorsNeeded (length bs)) (length (freeForFiles g (disk img))) (h .room)))
+    (placement-length g (disk img) (sectorsNeeded (length bs)) (h .room))
     (h .place) (place-case g (disk img) (h .place) (h .found)) (hostReply (reply img [] (done ch))) refl (ap (λ (x : Change). x .imageAfter) (sym (h .change)))
