@@ -1,8 +1,8 @@
 //! Rows of the comparison, as terms of the prover's language.
 
 use independent::answer::Answer;
-use independent::calls::{scratch, store};
-use independent::check::{check, examine};
+use independent::calls::{scratch, store, tell};
+use independent::check::check;
 use independent::geometry::{IMAGE_BYTES, TRACK_18_BYTES, TRACK_18_OFFSET};
 use independent::listing::sleeve_output;
 
@@ -10,25 +10,58 @@ use independent::listing::sleeve_output;
 pub const DEFINITIONS: &str = include_str!("rows.antt.txt");
 
 /// The head of each module of cases.
-pub const MODULE_HEAD: &str = include_str!("head.antt.txt");
+const MODULE_HEAD: &str = include_str!("head.antt.txt");
 
 /// Every definition on the way of a computation.
-pub const UNFOLDED: &str = include_str!("unfolded.txt");
+const UNFOLDED: &str = include_str!("unfolded.txt");
 
 /// The lengths that a store of a case hands in.
 const LENGTHS: [usize; 4] = [0, 254, 255, 1000];
 
-/// One case: where it comes from, and its term but for the number.
+/// Images with more files than this are left out: the prover computes the
+/// owners anew for every bit of the map.
+const MOST_FILES: usize = 12;
+
+/// With more files than this no store and no scratch is computed.
+const MOST_FILES_WRITTEN: usize = 1;
+
+/// One case: where it comes from, and its term.
 pub struct Row {
-    pub what: String,
-    head: &'static str,
-    rest: String,
+    what: String,
+    term: String,
 }
 
 impl Row {
-    pub fn term(&self, number: usize) -> String {
-        format!("{} {number} {}", self.head, self.rest)
+    /// The module that states it.
+    pub fn module(&self) -> String {
+        let Row { what, term } = self;
+        format!(
+            "{MODULE_HEAD}\n-- {what}\nhere : Case\nhere = {term}\n\nagrees : holds here ≡ true\nunfolding here {UNFOLDED}\nagrees = refl\n"
+        )
     }
+}
+
+/// Whether an image is cheap enough to compute on.
+pub fn is_small(image: &[u8]) -> bool {
+    occupied(image) <= MOST_FILES
+}
+
+/// The occupied slots of the sectors that the directory's links lead to.
+fn occupied(image: &[u8]) -> usize {
+    let mut sector = 1;
+    let mut found = 0;
+    for _ in 0..18 {
+        let start = TRACK_18_OFFSET + 256 * sector;
+        found += (0..8)
+            .filter(|slot| image[start + 32 * slot + 2] != 0)
+            .count();
+        let (track, next) = (image[start], image[start + 1] as usize);
+        if track != 18 || next == 0 || next > 18 {
+            break;
+        }
+        sector = next;
+    }
+    found
 }
 
 /// The cases of one image: its check and its listing, and where it is
@@ -36,23 +69,40 @@ impl Row {
 pub fn of_image(kind: &str, seed: u64, image: &[u8]) -> Vec<Row> {
     let answer = check(image);
     let mut rows = vec![
-        row(kind, seed, "checks", format!("{} {}", disk(image), numbers(&answer_of(&answer)))),
-        row(kind, seed, "lists", format!("{} {}", sectors(image), numbers(&sleeve_output(image)))),
+        row(
+            kind,
+            seed,
+            "checks",
+            format!("{} {}", disk(image), numbers(&answer_of(&answer))),
+        ),
+        row(
+            kind,
+            seed,
+            "lists",
+            format!("{} {}", sectors(image), numbers(&sleeve_output(image))),
+        ),
     ];
-    if let Ok(layout) = examine(image) {
-        let _ = layout;
+    if answer.number == 0 && occupied(image) <= MOST_FILES_WRITTEN {
         rows.extend(store_row(kind, seed, image));
         rows.extend(scratch_row(kind, seed, image));
     }
     rows
 }
 
-fn row(kind: &str, seed: u64, head: &'static str, rest: String) -> Row {
-    Row { what: format!("{kind} {seed}: {head}"), head, rest }
+fn row(kind: &str, seed: u64, head: &str, rest: String) -> Row {
+    Row {
+        what: format!("{kind} {seed}: {head}"),
+        term: format!("{head} {rest}"),
+    }
 }
 
 fn answer_of(answer: &Answer) -> [u8; 4] {
-    [answer.number, answer.place.track, answer.place.sector, answer.place.slot]
+    [
+        answer.number,
+        answer.place.track,
+        answer.place.sector,
+        answer.place.slot,
+    ]
 }
 
 /// A store that is done, and the disk after it.
@@ -65,7 +115,12 @@ fn store_row(kind: &str, seed: u64, image: &[u8]) -> Option<Row> {
     if store(&mut after, name, file_kind, &data).number != 0 {
         return None;
     }
-    let rest = format!("{} {} {file_kind} {length} {}", disk(image), numbers(name), disk(&after));
+    let rest = format!(
+        "{} {} {file_kind} {length} {}",
+        disk(image),
+        numbers(name),
+        disk(&after)
+    );
     Some(row(kind, seed, "stores", rest))
 }
 
@@ -76,13 +131,24 @@ fn scratch_row(kind: &str, seed: u64, image: &[u8]) -> Option<Row> {
     if scratch(&mut after, &name).number != 0 {
         return None;
     }
-    Some(row(kind, seed, "scratches", format!("{} {} {}", disk(image), numbers(&name), disk(&after))))
+    Some(row(
+        kind,
+        seed,
+        "scratches",
+        format!("{} {} {}", disk(image), numbers(&name), disk(&after)),
+    ))
 }
 
 /// The name of the file at position 0.
 fn first_name(image: &[u8]) -> Option<Vec<u8>> {
-    let (answer, told) = independent::calls::tell(image, 0);
-    (answer.number == 0).then(|| told.name.iter().copied().take_while(|&b| b != 0xA0).collect())
+    let (answer, told) = tell(image, 0);
+    (answer.number == 0).then(|| {
+        told.name
+            .iter()
+            .copied()
+            .take_while(|&b| b != 0xA0)
+            .collect()
+    })
 }
 
 /// Track 18 whole, and of every other sector its two link bytes.
@@ -92,7 +158,10 @@ fn disk(image: &[u8]) -> String {
 
 fn sectors(image: &[u8]) -> String {
     let track = &image[TRACK_18_OFFSET..TRACK_18_OFFSET + TRACK_18_BYTES];
-    let runs: String = track.chunks(256).map(|s| format!("{} ∷ ", run_lengths(s))).collect();
+    let runs: String = track
+        .chunks(256)
+        .map(|s| format!("{} ∷ ", run_lengths(s)))
+        .collect();
     format!("({runs}[])")
 }
 
@@ -105,7 +174,10 @@ fn run_lengths(sector: &[u8]) -> String {
             _ => runs.push((1, byte)),
         }
     }
-    let text: String = runs.iter().map(|(count, value)| format!("{count} ∷ {value} ∷ ")).collect();
+    let text: String = runs
+        .iter()
+        .map(|(count, value)| format!("{count} ∷ {value} ∷ "))
+        .collect();
     format!("({text}[])")
 }
 
