@@ -13,19 +13,20 @@ use Rattle.d64spec.specs.Directory.{File, fileOf, files, nameOf}
 use Rattle.d64spec.specs.Accepted.{Accepted}
 use Rattle.d64spec.specs.Reply.{Change, changed}
 use Rattle.d64spec.specs.Store.{SlotPlace, callStore, newEntry, placement, sectorsNeeded, slotPlaceFor, storedDisk, writeChain, writeSlot}
-use Rattle.d64spec.specs.Scratch.{callScratch, scratchedDisk}
+use Rattle.d64spec.specs.Scratch.{callScratch, scratchChange, scratchedDisk}
 use Rattle.d64spec.specs.Changes.{ScratchWrites, ScratchedBytes, StoreWrites, StoredBytes, addedSectors}
 use Rattle.d64spec.proofs.ResultLaws.{done-inj}
+use Rattle.d64spec.proofs.CallLaws.{StoreDone, scratch-done, store-done}
 use Rattle.d64spec.proofs.FrameLaws.{Sound}
 use Rattle.d64spec.proofs.ImageLaws.{Whole, disk-whole}
 use Rattle.d64spec.proofs.MapBytes.{Prepared}
 use Rattle.d64spec.proofs.OtherBytes.{after-disk, after-size, after-map, after-rest}
 use Rattle.d64spec.proofs.ScratchLaws.{OccupiedSlot, d2, prepared2, rest2}
 use Rattle.d64spec.proofs.ScratchedLaws.{scratch-cleared, scratch-slot}
-use Rattle.d64spec.proofs.ScratchStep.{Found, ScratchDone, found, scratch-done, sound-of}
+use Rattle.d64spec.proofs.ScratchStep.{Found, found, sound-of}
 use Rattle.d64spec.proofs.WriteChainLaws.{sectors-fit}
 use Rattle.d64spec.proofs.StoreLaws.{StoreLeaves}
-use Rattle.d64spec.proofs.StoreStep.{StoreDone, Taken, place-case, placement-taken, store-done, stored}
+use Rattle.d64spec.proofs.StoreStep.{Taken, place-case, placement-taken, store-enough, store-new, stored}
 use Rattle.d64spec.proofs.ExactLaws.{filesNamed-one}
 
 -- ---- scratch
@@ -50,12 +51,10 @@ scratched-slot g v img a small o =
 
 -- the file that a scratch finds is the one of that name
 scratch-change : (g : Geometry) (img : Bytes) → Accepted g img → (name : Bytes) (ch : Change) → callScratch g img name ≡ done ch → (f : File) → List·Memᴰ f (files g (disk img)) → nameOf (f .slot .bytes) ≡ name
-    → ch ≡ changed (image g (scratchedDisk g (disk img) f)) (length (chainData g (disk img) (f .sectors))) (length (f .sectors))
+    → ch ≡ scratchChange g img f
 scratch-change g img a name ch e f m is =
-    let k : ScratchDone g img name ch = scratch-done g img name ch e in
-    let once = a .content .names name in
-    let z : k .file ≡ f = done-inj (sym (filesNamed-one name (files g (disk img)) (k .file) (k .met) (sym (k .named)) once) ∙ filesNamed-one name (files g (disk img)) f m is once) in
-    k .is ∙ ap (λ (x : File). changed (image g (scratchedDisk g (disk img) x)) (length (chainData g (disk img) (x .sectors))) (length (x .sectors))) z
+    let h = scratch-done g img name ch e in
+    sym (h .change) ∙ ap (λ (x : File). scratchChange g img x) (done-inj (sym (h .found) ∙ filesNamed-one name (files g (disk img)) f m is (a .content .names name)))
 
 -- EVERY BYTE AFTER A SCRATCH: the file's sectors and its slot are zero, the map follows the owners, and every other byte is as it was
 pub scratched-bytes : (g : Geometry) → Valid g → (img : Bytes) → Accepted g img → ((k : ℕ) → byte img k < 256) → (name : Bytes) (ch : Change) → callScratch g img name ≡ done ch
@@ -75,16 +74,16 @@ scratch-reports g img a name ch e f m is =
 
 module _ (g : Geometry) (img name : Bytes) (kind : ℕ) (bs : Bytes) (ch : Change) (e : callStore g img name kind bs ≡ done ch) (place : SlotPlace) (r : Address) (l : List Address)
     (found : slotPlaceFor g (disk img) ≡ done place) (takes : placement g (disk img) (sectorsNeeded (length bs)) ≡ r ∷ l) where
-  asked : StoreDone g img name kind bs ch
-  asked = store-done g img name kind bs ch e
+  h : StoreDone g img name kind bs ch
+  h = store-done g img name kind bs ch e
 
   store-size : sectorsNeeded (length bs) ≡ length (r ∷ l)
-  store-size = sym (asked .enough) ∙ ap length takes
+  store-size = sym (store-enough h) ∙ ap length takes
 
   store-change : ch ≡ changed (image g (storedDisk g (disk img) place (r ∷ l) name kind bs)) (length bs) (sectorsNeeded (length bs))
   store-change =
-      asked .is
-      ∙ ap₂ (λ (x : SlotPlace) (y : List Address). changed (image g (storedDisk g (disk img) x y name kind bs)) (length bs) (sectorsNeeded (length bs))) (done-inj (sym (asked .place-found) ∙ found)) takes
+      sym (h .change)
+      ∙ ap₂ (λ (x : SlotPlace) (y : List Address). changed (image g (storedDisk g (disk img) x y name kind bs)) (length bs) (sectorsNeeded (length bs))) (done-inj (sym (h .found) ∙ found)) takes
 
   -- A STORE REPORTS the length of the bytes handed in and the number of sectors taken
   pub store-reports : (ch .reportedLength ≡ length bs) × (ch .reportedSectors ≡ length (r ∷ l))
@@ -97,7 +96,7 @@ module _ (g : Geometry) (img name : Bytes) (kind : ℕ) (bs : Bytes) (ch : Chang
 
     leaves : StoreLeaves g (disk img) e2 place (r ∷ l) (newEntry name kind r (length (r ∷ l))) (record { name = name; kind = kind; content = bs })
     leaves =
-        stored g v img a name kind bs (asked .name-right) (asked .kind-right) (asked .new) r l (subst (Taken g (disk img)) takes (placement-taken g (disk img) (sectorsNeeded (length bs))))
+        stored g v img a name kind bs (h .asked) (h .kind-asked) (store-new h) r l (subst (Taken g (disk img)) takes (placement-taken g (disk img) (sectorsNeeded (length bs))))
         (sectors-fit (r ∷ l) (length bs) store-size) place (place-case g (disk img) place found)
 
     stored-place : ((k : ℕ) → byte img k < 256) → StoredBytes g img place r l name kind bs (image g (storedDisk g (disk img) place (r ∷ l) name kind bs))

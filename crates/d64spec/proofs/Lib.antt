@@ -1,7 +1,9 @@
+pub mod ExampleTables
 pub mod ListLaws
 pub mod ChainLaws
 pub mod PigeonholeLaws
 pub mod ResultLaws
+pub mod CallLaws
 pub mod BoundLaws
 pub mod RunLaws
 pub mod RefusalLaws
@@ -40,3 +42,7 @@ pub mod LengthLaws
 pub mod FormatReady
 pub mod ListingLaws
 pub mod HostLaws
+pub mod FactLaws
+pub mod ConditionLaws
+pub mod ChainFaultLaws
+pub mod FirstFault

@@ -7,24 +7,24 @@ use mathlib.Core.Bool.{Bool, true, false, cond, not}
 use mathlib.Core.List.{List, [], _∷_, map, List·Memᴰ, List·Memᴰ·head, List·Memᴰ·tail}
 use lib.ListN.{length, take}
 use lib.Seq.{length-take-le}
-use lib.Dec.{eqb, leb}
+use lib.Dec.{eqb}
 use borrow.Author.Tests.{eq-eqb, ne-eqb, eqb-true, leb-true}
 use Rattle.d64spec.specs.Lists.{All, Bytes, count, equal, filter, indicator, nameCount, range}
-use Rattle.d64spec.specs.Answers.{Address, Result, _>>=_, address, badKindArgument, badNameArgument, directoryFull, diskFull, done, first, nameExists, writeForbidden, wrongSize}
+use Rattle.d64spec.specs.Answers.{Address, Result, _>>=_, address, directoryFull, done, first}
 use Rattle.d64spec.specs.Geometry.{Geometry, Valid, allocationOrder, mapAddress, onDisk, sectorNumber, sectorsOfTrack, sectorsOn}
 use Rattle.d64spec.specs.Image.{Disk, disk, image}
 use Rattle.d64spec.specs.Directory.{File, Slot, directorySectors, files, isEmpty, nameOf, slotsFrom}
 use Rattle.d64spec.specs.Owner.{claimCount, freeForDirectory, freeForFiles, isFree}
 use Rattle.d64spec.specs.Map.{rewriteMap}
-use Rattle.d64spec.specs.Check.{checkDisk, rightSize}
 use Rattle.d64spec.specs.Accepted.{Accepted}
-use Rattle.d64spec.specs.Reply.{Change, changed, filesNamed, reply, validKind, validNameArgument, writable}
+use Rattle.d64spec.specs.Reply.{Change, filesNamed, reply, validKind, validNameArgument}
 use Rattle.d64spec.specs.Store.{SlotPlace, callStore, emptySlots, inEmptySlot, inNewSector, newEntry, placement, sectorsNeeded, slotPlaceFor, storedDisk, writeChain, writeSlot}
 use Rattle.d64spec.specs.Changes.{addedSectors}
 use Rattle.d64spec.specs.Call.{store}
 use Rattle.d64spec.specs.Host.{HostReply, hostReply}
 use Rattle.d64spec.specs.Run.{plainListAfter}
-use Rattle.d64spec.proofs.ResultLaws.{need-done, then-done, bind-done, done-inj, refused≢done}
+use Rattle.d64spec.proofs.ResultLaws.{done-inj, refused≢done}
+use Rattle.d64spec.proofs.CallLaws.{StoreDone, store-done}
 use Rattle.d64spec.proofs.RunLaws.{StepHolds}
 use Rattle.d64spec.proofs.FrameLaws.{Sound}
 use Rattle.d64spec.proofs.ImageLaws.{Whole, disk-whole}
@@ -236,36 +236,11 @@ unfolding sectorsNeeded
 some-sector zero = omega arith
 some-sector (suc n) = rw (ne-eqb (suc n) 0 (λ e. omega arith)) (omega arith)
 
--- what a store that is done has asked, and what it leaves
-pub record StoreDone (g : Geometry) (img name : Bytes) (kind : ℕ) (bs : Bytes) (ch : Change) : Type 0 where
-  pub name-right : validNameArgument name ≡ true
-  pub kind-right : validKind kind ≡ true
-  pub new : nameCount name (map (λ f. nameOf (f .slot .bytes)) (files g (disk img))) ≡ 0
-  pub place : SlotPlace
-  pub place-found : slotPlaceFor g (disk img) ≡ done place
-  pub enough : length (placement g (disk img) (sectorsNeeded (length bs))) ≡ sectorsNeeded (length bs)
-  pub is : ch ≡ changed (image g (storedDisk g (disk img) place (placement g (disk img) (sectorsNeeded (length bs))) name kind bs)) (length bs) (sectorsNeeded (length bs))
+pub store-new : {g : Geometry} {img name : Bytes} {kind : ℕ} {bs : Bytes} {ch : Change} → StoreDone g img name kind bs ch → nameCount name (map (λ f. nameOf (f .slot .bytes)) (files g (disk img))) ≡ 0
+store-new {g} {img} {name} h = sym (filesNamed-count name (files g (disk img))) ∙ eqb-true (length (filesNamed name (files g (disk img)))) 0 (h .absent)
 
-pub store-done : (g : Geometry) (img name : Bytes) (kind : ℕ) (bs : Bytes) (ch : Change) → callStore g img name kind bs ≡ done ch → StoreDone g img name kind bs ch
-unfolding callStore
-store-done g img name kind bs ch e =
-    let h1 = need-done (rightSize g img) wrongSize _ ch e in
-    let h2 = need-done (validNameArgument name) badNameArgument _ ch (h1 .1) in
-    let h3 = need-done (validKind kind) badKindArgument _ ch (h2 .1) in
-    let h4 = then-done (checkDisk g (disk img)) _ ch (h3 .1) in
-    let h5 = need-done (writable g (disk img)) writeForbidden _ ch (h4 .2) in
-    let h6 = need-done (eqb (length (filesNamed name (files g (disk img)))) 0) nameExists _ ch (h5 .1) in
-    let h7 = bind-done (slotPlaceFor g (disk img)) _ ch (h6 .1) in
-    let h8 = need-done (leb (sectorsNeeded (length bs)) (length (freeForFiles g (disk img)))) diskFull _ ch (h7 .2) in
-    record {
-      name-right = h2 .0;
-      kind-right = h3 .0;
-      new = sym (filesNamed-count name (files g (disk img))) ∙ eqb-true (length (filesNamed name (files g (disk img)))) 0 (h6 .0);
-      place = h7 .0;
-      place-found = h7 .1;
-      enough = placement-length g (disk img) (sectorsNeeded (length bs)) (leb-true (sectorsNeeded (length bs)) (length (freeForFiles g (disk img))) (h8 .0));
-      is = sym (done-inj (h8 .1));
-    }
+pub store-enough : {g : Geometry} {img name : Bytes} {kind : ℕ} {bs : Bytes} {ch : Change} → StoreDone g img name kind bs ch → length (placement g (disk img) (sectorsNeeded (length bs))) ≡ sectorsNeeded (length bs)
+store-enough {g} {img} {bs = bs} h = placement-length g (disk img) (sectorsNeeded (length bs)) (leb-true (sectorsNeeded (length bs)) (length (freeForFiles g (disk img))) (h .room))
 
 by-placement : (g : Geometry) (v : Valid g) (img : Bytes) (a : Accepted g img) (name : Bytes) (kind : ℕ) (bs : Bytes)
     → validNameArgument name ≡ true → validKind kind ≡ true → nameCount name (map (λ f. nameOf (f .slot .bytes)) (files g (disk img))) ≡ 0
@@ -280,6 +255,6 @@ pub store-step : (g : Geometry) → Valid g → (img : Bytes) → Accepted g img
     → callStore g img name kind bs ≡ done ch → StepHolds g img (store name kind bs) (hostReply (reply img [] (done ch)))
 unfolding reply
 store-step g v img a name kind bs ch e =
-    let k : StoreDone g img name kind bs ch = store-done g img name kind bs ch e in
-    by-placement g v img a name kind bs (k .name-right) (k .kind-right) (k .new) (placement g (disk img) (sectorsNeeded (length bs))) (placement-taken g (disk img) (sectorsNeeded (length bs))) (k .enough)
-    (k .place) (place-case g (disk img) (k .place) (k .place-found)) (hostReply (reply img [] (done ch))) refl (ap (λ (x : Change). x .imageAfter) (k .is))
+    let h : StoreDone g img name kind bs ch = store-done g img name kind bs ch e in
+    by-placement g v img a name kind bs (h .asked) (h .kind-asked) (store-new h) (placement g (disk img) (sectorsNeeded (length bs))) (placement-taken g (disk img) (sectorsNeeded (length bs))) (store-enough h)
+    (h .place) (place-case g (disk img) (h .place) (h .found)) (hostReply (reply img [] (done ch))) refl (ap (λ (x : Change). x .imageAfter) (sym (h .change)))

@@ -19,3 +19,5 @@ pub mod Host
 pub mod Run
 pub mod Order
 pub mod Changes
+pub mod Facts
+pub mod Examples
