@@ -1,8 +1,10 @@
--- Every byte of the image after a store and after a scratch, as one statement each (01, Store; Scratch: "no other byte changes"), and what they report.
+-- Every byte of the image after a scratch and after a store, as one statement each (01, Store; Scratch: "no other byte changes"), and what the calls report.
+-- In order: scratch; store; for each, that what the statement speaks of is there. What both share: proofs/OtherBytes, MapBytes.
 use Prim.Native.Nat.{ℕ, _<_}
-use mathlib.Core.Path.{_≡_, sym, ap, ap₂, _∙_, subst}
+use native.Mathlib.Omega.{arith}
+use mathlib.Core.Path.{_≡_, refl, sym, ap, ap₂, _∙_, subst}
 use mathlib.Core.Logic.{inl, inr}
-use mathlib.Core.List.{List, _∷_, _++_, map, List·Memᴰ}
+use mathlib.Core.List.{List, [], _∷_, _++_, List·Memᴰ}
 use lib.ListN.{length}
 use Rattle.d64spec.specs.Lists.{Bytes, byte}
 use Rattle.d64spec.specs.Answers.{Address, done}
@@ -16,17 +18,17 @@ use Rattle.d64spec.specs.Store.{SlotPlace, callStore, newEntry, placemen
 use Rattle.d64spec.specs.Scratch.{callScratch, scratchChange, scratchedDisk}
 use Rattle.d64spec.specs.Changes.{ScratchWrites, ScratchedBytes, StoreWrites, StoredBytes, addedSectors}
 use Rattle.d64spec.proofs.ResultLaws.{done-inj}
-use Rattle.d64spec.proofs.CallLaws.{StoreDone, scratch-done, store-done}
+use Rattle.d64spec.proofs.CallLaws.{ScratchDone, StoreDone, scratch-done, store-done}
 use Rattle.d64spec.proofs.FrameLaws.{Sound}
 use Rattle.d64spec.proofs.ImageLaws.{Whole, disk-whole}
 use Rattle.d64spec.proofs.MapBytes.{Prepared}
 use Rattle.d64spec.proofs.OtherBytes.{after-disk, after-size, after-map, after-rest}
 use Rattle.d64spec.proofs.ScratchLaws.{OccupiedSlot, d2, prepared2, rest2}
 use Rattle.d64spec.proofs.ScratchedLaws.{scratch-cleared, scratch-slot}
-use Rattle.d64spec.proofs.ScratchStep.{Found, found, sound-of}
+use Rattle.d64spec.proofs.ScratchStep.{Found, found, scratch-finds, sound-of}
 use Rattle.d64spec.proofs.WriteChainLaws.{sectors-fit}
 use Rattle.d64spec.proofs.StoreLaws.{StoreLeaves}
-use Rattle.d64spec.proofs.StoreStep.{Taken, place-case, placement-taken, store-enough, store-new, stored}
+use Rattle.d64spec.proofs.StoreStep.{Taken, place-case, placement-taken, some-sector, store-enough, store-new, stored}
 use Rattle.d64spec.proofs.ExactLaws.{filesNamed-one}
 
 -- ---- scratch
@@ -70,20 +72,26 @@ scratch-reports g img a name ch e f m is =
     let z = scratch-change g img a name ch e f m is in
     (ap (λ (x : Change). x .reportedLength) z, ap (λ (x : Change). x .reportedSectors) z)
 
+-- and there is such a file
+pub scratched-file : (g : Geometry) (img name : Bytes) (ch : Change) → callScratch g img name ≡ done ch → (f : File) × List·Memᴰ f (files g (disk img)) × (nameOf (f .slot .bytes) ≡ name)
+scratched-file g img name ch e =
+    let h : ScratchDone g img name ch = scratch-done g img name ch e in
+    (h .file, scratch-finds h .0, sym (scratch-finds h .1))
+
 -- ---- store
 
 module _ (g : Geometry) (img name : Bytes) (kind : ℕ) (bs : Bytes) (ch : Change) (e : callStore g img name kind bs ≡ done ch) (place : SlotPlace) (r : Address) (l : List Address)
     (found : slotPlaceFor g (disk img) ≡ done place) (takes : placement g (disk img) (sectorsNeeded (length bs)) ≡ r ∷ l) where
-  h : StoreDone g img name kind bs ch
-  h = store-done g img name kind bs ch e
+  told : StoreDone g img name kind bs ch
+  told = store-done g img name kind bs ch e
 
   store-size : sectorsNeeded (length bs) ≡ length (r ∷ l)
-  store-size = sym (store-enough h) ∙ ap length takes
+  store-size = sym (store-enough told) ∙ ap length takes
 
   store-change : ch ≡ changed (image g (storedDisk g (disk img) place (r ∷ l) name kind bs)) (length bs) (sectorsNeeded (length bs))
   store-change =
-      sym (h .change)
-      ∙ ap₂ (λ (x : SlotPlace) (y : List Address). changed (image g (storedDisk g (disk img) x y name kind bs)) (length bs) (sectorsNeeded (length bs))) (done-inj (sym (h .found) ∙ found)) takes
+      sym (told .change)
+      ∙ ap₂ (λ (x : SlotPlace) (y : List Address). changed (image g (storedDisk g (disk img) x y name kind bs)) (length bs) (sectorsNeeded (length bs))) (done-inj (sym (told .found) ∙ found)) takes
 
   -- A STORE REPORTS the length of the bytes handed in and the number of sectors taken
   pub store-reports : (ch .reportedLength ≡ length bs) × (ch .reportedSectors ≡ length (r ∷ l))
@@ -96,7 +104,7 @@ module _ (g : Geometry) (img name : Bytes) (kind : ℕ) (bs : Bytes) (ch : Chang
 
     leaves : StoreLeaves g (disk img) e2 place (r ∷ l) (newEntry name kind r (length (r ∷ l))) (record { name = name; kind = kind; content = bs })
     leaves =
-        stored g v img a name kind bs (h .asked) (h .kind-asked) (store-new h) r l (subst (Taken g (disk img)) takes (placement-taken g (disk img) (sectorsNeeded (length bs))))
+        stored g v img a name kind bs (told .asked) (told .kind-asked) (store-new told) r l (subst (Taken g (disk img)) takes (placement-taken g (disk img) (sectorsNeeded (length bs))))
         (sectors-fit (r ∷ l) (length bs) store-size) place (place-case g (disk img) place found)
 
     stored-place : ((k : ℕ) → byte img k < 256) → StoredBytes g img place r l name kind bs (image g (storedDisk g (disk img) place (r ∷ l) name kind bs))
@@ -117,3 +125,22 @@ pub stored-bytes : (g : Geometry) → Valid g → (img : Bytes) → Accepted g i
     → (place : SlotPlace) (r : Address) (l : List Address) → slotPlaceFor g (disk img) ≡ done place → placement g (disk img) (sectorsNeeded (length bs)) ≡ r ∷ l → StoredBytes g img place r l name kind bs (ch .imageAfter)
 stored-bytes g v img a small name kind bs ch e place r l found takes =
     rw (store-change g img name kind bs ch e place r l found takes) (stored-place g img name kind bs ch e place r l found takes v a small)
+
+-- what a store takes: a place for its entry, and at least one sector
+pub record Takes (g : Geometry) (img bs : Bytes) : Type 0 where
+  pub place : SlotPlace
+  pub found : slotPlaceFor g (disk img) ≡ done place
+  pub start : Address
+  pub others : List Address
+  pub sectors : placement g (disk img) (sectorsNeeded (length bs)) ≡ start ∷ others
+
+-- and a store that is done takes them
+pub store-takes : (g : Geometry) (img name : Bytes) (kind : ℕ) (bs : Bytes) (ch : Change) → callStore g img name kind bs ≡ done ch → Takes g img bs
+store-takes g img name kind bs ch e = go (placement g (disk img) (sectorsNeeded (length bs))) refl
+  where
+    told′ : StoreDone g img name kind bs ch
+    told′ = store-done g img name kind bs ch e
+
+    go : (l : List Address) → placement g (disk img) (sectorsNeeded (length bs)) ≡ l → Takes g img bs
+    go [] z = absurd (omega (arith, some-sector (length bs), store-enough told′, ap length z))
+    go (r ∷ l) z = record { place = told′ .place; found = told′ .found; start = r; others = l; sectors = z }

@@ -147,7 +147,7 @@ module _ (g : Geometry) (v : Valid g) (d d2 : Disk) (l : List Address) (a : Acce
       same-owner : (t : ℕ) → g .mapAt t ≤ i → i ≤ g .mapAt t + 3 → (s : ℕ) → s < sectorsOn g t → claimCount g d (sectorNumber g (address t s)) ≡ claimCount g (rewriteMap g d2) (sectorNumber g (address t s))
       same-owner t low high s on =
           let n : ℕ = sectorNumber g (address t s) in
-          p .owners n (zero-of-none (count n (map (sectorNumber g) l)) (λ k. out (record { holder = refl; track = t; sector = s; on = on; among = k; low = low; high = high })))
+          p .owners n (zero-of-none (count n (map (sectorNumber g) l)) (λ k. out (record { holder = refl; track = t; sector = s; on = on; among = k; low = low; high = omega arith })))
           ∙ sym (rewrite-claims g v d2 (p .whole) (p .sound) n)
 
       at-track : Entry g i (tracks g) → byte (rewriteMap g d2 m) i ≡ byte (d m) i

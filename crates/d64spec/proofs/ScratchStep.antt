@@ -15,7 +15,7 @@ use Rattle.d64spec.specs.Scratch.{callScratch, scratchedDisk}
 use Rattle.d64spec.specs.Call.{Call, scratch}
 use Rattle.d64spec.specs.Host.{HostReply, hostReply}
 use Rattle.d64spec.specs.Run.{ReadReports, plainListAfter}
-use Rattle.d64spec.proofs.CallLaws.{scratch-done}
+use Rattle.d64spec.proofs.CallLaws.{ScratchDone, scratch-done}
 use Rattle.d64spec.proofs.ReadLaws.{eq-of-equal, first-kept}
 use Rattle.d64spec.proofs.RunLaws.{StepHolds}
 use Rattle.d64spec.proofs.FrameLaws.{Sound}
@@ -63,6 +63,13 @@ all-unit : {A : Type 0} (l : List A) → All (λ x. Unit {0}) l
 all-unit [] = tt
 all-unit (x ∷ l) = (tt, all-unit l)
 
+-- a scratch that is done has found a file of that name
+pub scratch-finds : {g : Geometry} {img name : Bytes} {ch : Change} (h : ScratchDone g img name ch) → List·Memᴰ (h .file) (files g (disk img)) × (name ≡ nameOf (h .file .slot .bytes))
+unfolding filesNamed
+scratch-finds {g} {img} {name} h =
+    let k = first-kept (λ f. equal name (nameOf (f .slot .bytes))) (λ f. Unit {0}) notFound (files g (disk img)) (h .file) (all-unit (files g (disk img))) (h .found) in
+    (k .element, eq-of-equal name (nameOf (h .file .slot .bytes)) (k .test))
+
 module _ (g : Geometry) (v : Valid g) (img : Bytes) (a : Accepted g img) where
   by-found : (name : Bytes) (f : File) (r : HostReply) → Found g (disk img) f → name ≡ nameOf (f .slot .bytes) → r .number ≡ 0
       → r .imageAfter ≡ image g (scratchedDisk g (disk img) f) → StepHolds g img (scratch name) r
@@ -81,10 +88,8 @@ module _ (g : Geometry) (v : Valid g) (img : Bytes) (a : Accepted g img) where
       tt
 
   pub scratch-step : (name : Bytes) (ch : Change) → callScratch g img name ≡ done ch → StepHolds g img (scratch name) (hostReply (reply img [] (done ch)))
-  unfolding reply filesNamed
+  unfolding reply
   scratch-step name ch e =
-      let h = scratch-done g img name ch e in
-      let f : File = h .file in
-      let k = first-kept (λ f. equal name (nameOf (f .slot .bytes))) (λ f. Unit {0}) notFound (files g (disk img)) f (all-unit (files g (disk img))) (h .found) in
-      by-found name f (hostReply (reply img [] (done ch))) (found g (disk img) f (k .element)) (eq-of-equal name (nameOf (f .slot .bytes)) (k .test)) refl
-      (ap (λ (x : Change). x .imageAfter) (sym (h .change)))
+      let h : ScratchDone g img name ch = scratch-done g img name ch e in
+      let k = scratch-finds h in
+      by-found name (h .file) (hostReply (reply img [] (done ch))) (found g (disk img) (h .file) (k .0)) (k .1) refl (ap (λ (x : Change). x .imageAfter) (sym (h .change)))
