@@ -100,7 +100,7 @@ module _ (g : Geometry) (v : Valid g) (d : Disk) (w : Whole g d) (a : Sound g d)
   back = o .split .back
 
   -- the file
-  abbrev pub f : File
+  abbrev f : File
   f = fileOf g d s
 
   -- its sectors, by number
