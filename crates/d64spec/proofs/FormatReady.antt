@@ -19,7 +19,7 @@ use Rattle.d64spec.proofs.BoundLaws.{sectorNumber-lt, map-on}
 use Rattle.d64spec.proofs.ImageLaws.{put-same, image-disk}
 use Rattle.d64spec.proofs.MapWriteLaws.{rewrite-whole}
 use Rattle.d64spec.proofs.FormatLaws.{formatted-same, blank-whole, blank-sound, name-short, format-step, blankDisk, header}
-use Rattle.d64spec.proofs.OtherBytes.{map-other}
+use Rattle.d64spec.proofs.MapBytes.{map-other}
 
 -- the version byte of a blank disk, its map written
 version : (g : Geometry) → Valid g → (name : Bytes) (i j : ℕ) → length name ≤ 16 → byte (rewriteMap g (blankDisk g name i j) (sectorNumber g mapAddress)) 2 ≡ 0x41

@@ -28,7 +28,7 @@ use Rattle.d64spec.proofs.MapWriteLaws.{entry-length, rewrite-accepted,
 use Rattle.d64spec.proofs.AllocationLaws.{one-track}
 use Rattle.d64spec.proofs.FormatLaws.{blankDisk, blank-claims, blank-dir, blank-map, blank-other, blank-sound, blank-whole, free-same, header, padded-length}
 use Rattle.d64spec.proofs.FormatReady.{formatted-disk, format-ready}
-use Rattle.d64spec.proofs.OtherBytes.{map-other}
+use Rattle.d64spec.proofs.MapBytes.{map-other}
 use Rattle.d64spec.proofs.ExactLaws.{zero-change}
 use Rattle.d64spec.proofs.RunTheorem.{valid35}
 

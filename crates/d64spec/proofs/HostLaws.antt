@@ -17,7 +17,6 @@ use Rattle.d64spec.specs.Accepted.{Accepted}
 use Rattle.d64spec.specs.Reply.{Change, reply}
 use Rattle.d64spec.specs.Call.{Call, attempt, callCheck, check, format, outputBuffer, perform, read, scratch, store}
 use Rattle.d64spec.specs.Host.{HostReply, answerBlock, blockRefused, hostCall, hostReply, littleEndian}
-use Rattle.d64spec.specs.Examples.{accepted, content}
 use Rattle.d64spec.proofs.ResultLaws.{then-done, done-inj}
 use Rattle.d64spec.proofs.CallLaws.{format-done, read-done, store-done, scratch-done}
 use Rattle.d64spec.proofs.SpliceLaws.{length-splice}
