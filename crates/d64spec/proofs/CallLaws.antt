@@ -1,10 +1,11 @@
 -- What a call that is done says: each of its tests passed, and the change is the one that its last line gives. Every law about a done call cites these.
-use Prim.Native.Nat.{ℕ}
+use Prim.Native.Nat.{ℕ, _≤_}
 use mathlib.Core.Path.{_≡_}
 use mathlib.Core.Bool.{true}
 use mathlib.Core.List.{List, []}
 use lib.ListN.{length}
 use lib.Dec.{eqb, leb}
+use borrow.Author.Tests.{eqb-true, leb-true}
 use Rattle.d64spec.proofs.ResultLaws.{need-done, then-done, bind-done, done-inj}
 use Rattle.d64spec.specs.Lists.{Bytes}
 use Rattle.d64spec.specs.Answers.{badKindArgument, badNameArgument, diskFull, done, first, nameExists, notFound, writeForbidden, wrongBuffer, wrongSize}
@@ -41,7 +42,7 @@ pub record ReadDone (g : Geometry) (img name out : Bytes) (ch : Change) : Type 0
   pub checked : checkDisk g (disk img) ≡ done contents
   pub file : File
   pub found : first notFound (filesNamed name (files g (disk img))) ≡ done file
-  pub fits : leb (length (chainData g (disk img) (file .sectors))) (length out) ≡ true
+  pub fits : length (chainData g (disk img) (file .sectors)) ≤ length out
   pub change : readChange g img out file ≡ ch
 
 pub read-done : (g : Geometry) (img name out : Bytes) (ch : Change) → callRead g img name out ≡ done ch → ReadDone g img name out ch
@@ -52,7 +53,7 @@ read-done g img name out ch e =
     let h3 = then-done (checkDisk g (disk img)) _ ch (h2 .1) in
     let h4 = bind-done (first notFound (filesNamed name (files g (disk img)))) _ ch (h3 .2) in
     let h5 = need-done (leb (length (chainData g (disk img) (h4 .0 .sectors))) (length out)) wrongBuffer _ ch (h4 .2) in
-    record { size = h1 .0; asked = h2 .0; contents = h3 .0; checked = h3 .1; file = h4 .0; found = h4 .1; fits = h5 .0; change = done-inj (h5 .1) }
+    record { size = h1 .0; asked = h2 .0; contents = h3 .0; checked = h3 .1; file = h4 .0; found = h4 .1; fits = leb-true _ _ (h5 .0); change = done-inj (h5 .1) }
 
 -- a store that is done
 pub record StoreDone (g : Geometry) (img name : Bytes) (kind : ℕ) (bs : Bytes) (ch : Change) : Type 0 where
@@ -62,10 +63,10 @@ pub record StoreDone (g : Geometry) (img name : Bytes) (kind : ℕ) (bs : Bytes)
   pub contents : DirectoryContents
   pub checked : checkDisk g (disk img) ≡ done contents
   pub may-write : writable g (disk img) ≡ true
-  pub absent : eqb (length (filesNamed name (files g (disk img)))) 0 ≡ true
+  pub absent : length (filesNamed name (files g (disk img))) ≡ 0
   pub place : SlotPlace
   pub found : slotPlaceFor g (disk img) ≡ done place
-  pub room : leb (sectorsNeeded (length bs)) (length (freeForFiles g (disk img))) ≡ true
+  pub room : sectorsNeeded (length bs) ≤ length (freeForFiles g (disk img))
   pub change : storeChange g img place name kind bs ≡ ch
 
 pub store-done : (g : Geometry) (img name : Bytes) (kind : ℕ) (bs : Bytes) (ch : Change) → callStore g img name kind bs ≡ done ch → StoreDone g img name kind bs ch
@@ -86,10 +87,10 @@ store-done g img name kind bs ch e =
       contents = h4 .0;
       checked = h4 .1;
       may-write = h5 .0;
-      absent = h6 .0;
+      absent = eqb-true _ _ (h6 .0);
       place = h7 .0;
       found = h7 .1;
-      room = h8 .0;
+      room = leb-true _ _ (h8 .0);
       change = done-inj (h8 .1);
     }
 

@@ -11,9 +11,9 @@ use borrow.Author.Tests.{eq-eqb, ne-eqb, eqb-true, ltb-true}
 use Rattle.d64spec.specs.Lists.{Bytes, count, equal, filter, indicator, zeros}
 use Rattle.d64spec.specs.Answers.{Address}
 use Rattle.d64spec.specs.Directory.{countOf, entryByte, isEmpty, kindOf, nameField, nameOf, padded, validName, validType}
+use Rattle.d64spec.specs.Rules.{NewEntryBytes}
 use Rattle.d64spec.specs.Reply.{validKind, validNameArgument}
 use Rattle.d64spec.specs.Store.{newEntry}
-use Rattle.d64spec.specs.Facts.{NewEntryBytes}
 use Rattle.d64spec.proofs.CheckLaws.{equal-refl}
 use Rattle.d64spec.proofs.MapLaws.{and-true, both-true}
 use Rattle.d64spec.proofs.SplitLaws.{filter-append}

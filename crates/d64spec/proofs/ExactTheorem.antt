@@ -30,7 +30,7 @@ use Rattle.d64spec.specs.Exact.{Admitted, Formattable, HasFile, Listable
 use Rattle.d64spec.proofs.ReadLaws.{eq-of-equal, first-kept}
 use Rattle.d64spec.proofs.CheckLaws.{disk-complete, equal-refl, name-one}
 use Rattle.d64spec.proofs.ConditionLaws.{allHold-append, firstFails-append}
-use Rattle.d64spec.proofs.FactLaws.{kind-exact, name-argument-exact, version-exact}
+use Rattle.d64spec.proofs.RuleLaws.{kind-exact, name-argument-exact, version-exact}
 use Rattle.d64spec.proofs.FirstFault.{diskConditions-accepted}
 use Rattle.d64spec.proofs.NumberLaws.{Answers, Between, answers-imp, disk-answers, firstFails-answers, firstFails-past, listing-answers}
 use Rattle.d64spec.proofs.NamedLaws.{filesNamed-one, filesNamed-single, length-filesNamed, name-met}

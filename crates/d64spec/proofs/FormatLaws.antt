@@ -171,12 +171,12 @@ none-not : (n : ℕ) → not (ltb 0 n) ≡ eqb n 0
 none-not zero = refl
 none-not (suc n) = ap not (lt-ltb 0 (suc n) (omega arith)) ∙ sym (ne-eqb (suc n) 0 (λ e. omega arith))
 
-blank-map : (g : Geometry) (name : Bytes) (i j : ℕ) → blankDisk g name i j (sectorNumber g mapAddress) ≡ header name i j
+pub blank-map : (g : Geometry) (name : Bytes) (i j : ℕ) → blankDisk g name i j (sectorNumber g mapAddress) ≡ header name i j
 unfolding blankDisk
 blank-map g name i j = put-same (put (disk (zeros (256 * total g))) (sectorNumber g directoryStart) emptyDirectorySector) (sectorNumber g mapAddress) (header name i j)
 
 module _ (g : Geometry) (v : Valid g) (name : Bytes) (i j : ℕ) (short : length name ≤ 16) where
-  free-same : _≡_ {A = Address → Bool} (freeAfterFormat g) (isFree g (blankDisk g name i j))
+  pub free-same : _≡_ {A = Address → Bool} (freeAfterFormat g) (isFree g (blankDisk g name i j))
   unfolding freeAfterFormat
   free-same = fun-ext (λ r.
       let n : count (sectorNumber g r) (sectorNumber g mapAddress ∷ sectorNumber g directoryStart ∷ []) ≡ claimCount g (blankDisk g name i j) (sectorNumber g r) = omega (arith, blank-claims g v name i j short (sectorNumber g r)) in

@@ -6,7 +6,7 @@ use mathlib.Core.Bool.{Bool, true, false, cond}
 use mathlib.Core.Logic.{_↔_}
 use lib.ListN.{length}
 use lib.Dec.{eqb, leb}
-use borrow.Author.Tests.{eq-eqb, ne-eqb, eqb-true, leb-true}
+use borrow.Author.Tests.{eq-eqb, ne-eqb, eqb-true}
 use Rattle.d64spec.specs.Lists.{Bytes, byte}
 use Rattle.d64spec.specs.Answers.{Result, done, refused}
 use Rattle.d64spec.specs.Geometry.{Geometry, Valid, total}
@@ -17,7 +17,6 @@ use Rattle.d64spec.specs.Accepted.{Accepted}
 use Rattle.d64spec.specs.Reply.{Change, reply}
 use Rattle.d64spec.specs.Call.{Call, attempt, callCheck, check, format, outputBuffer, perform, read, scratch, store}
 use Rattle.d64spec.specs.Host.{HostReply, answerBlock, blockRefused, hostCall, hostReply, littleEndian}
-use Rattle.d64spec.specs.Examples.{accepted, content}
 use Rattle.d64spec.proofs.ResultLaws.{then-done, done-inj}
 use Rattle.d64spec.proofs.CallLaws.{format-done, read-done, store-done, scratch-done}
 use Rattle.d64spec.proofs.SpliceLaws.{length-splice}
@@ -67,7 +66,7 @@ host-check g v img block h = rw (right-block g img block check h) (check-exact g
 -- ---- the image and the output
 
 module _ (g : Geometry) (v : Valid g) (img : Bytes) where
-  accepted-of : rightSize g img ≡ true → (c : DirectoryContents) → checkDisk g (disk img) ≡ done c → Accepted g img
+  pub accepted-of : rightSize g img ≡ true → (c : DirectoryContents) → checkDisk g (disk img) ≡ done c → Accepted g img
   unfolding rightSize
   accepted-of s c e = record { size = eqb-true (length img) (256 * total g) s; content = disk-sound g v (disk img) c e .0 }
 
@@ -103,7 +102,7 @@ out-kept g img (format name i j) ch e = ap (λ (x : Change). length (x .outputAf
 out-kept g img (read name out) ch e =
     let h = read-done g img name out ch e in
     let b : Bytes = chainData g (disk img) (h .file .sectors) in
-    ap (λ (x : Change). length (x .outputAfter)) (sym (h .change)) ∙ length-splice out 0 b (omega (arith, leb-true (length b) (length out) (h .fits)))
+    ap (λ (x : Change). length (x .outputAfter)) (sym (h .change)) ∙ length-splice out 0 b (omega (arith, h .fits))
 out-kept g img (store name kind bs) ch e = ap (λ (x : Change). length (x .outputAfter)) (sym (store-done g img name kind bs ch e .change))
 out-kept g img (scratch name) ch e = ap (λ (x : Change). length (x .outputAfter)) (sym (scratch-done g img name ch e .change))
 

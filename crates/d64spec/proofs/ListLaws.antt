@@ -1,5 +1,5 @@
--- Laws of `keep`, `count` and tests.
-use Prim.Native.Nat.{ℕ, _+_}
+-- Laws of `filter` and `count`.
+use Prim.Native.Nat.{ℕ, _+_, _<_}
 use native.Mathlib.Omega.{arith}
 use mathlib.Core.Path.{_≡_, refl}
 use mathlib.Core.Bool.{Bool, true, false, cond}
@@ -32,3 +32,7 @@ module _ {A : Type 0} (p : A → Bool) where
 pub count-append : (n : ℕ) (a b : List ℕ) → count n (a ++ b) ≡ count n a + count n b
 count-append n [] b = omega arith
 count-append n (x ∷ a) b = omega (arith, count-append n a b)
+
+-- what is not positive
+pub zero-of-none : (k : ℕ) → (0 < k → ⊥) → k ≡ 0
+zero-of-none k h = omega arith

@@ -1,4 +1,4 @@
--- An accepted map's entry is settled by the owners of the track's sectors, so that `followMap` changes no other entry.
+-- An accepted map's entry is settled by the owners of the track's sectors, so that `rewriteMap` changes no other entry.
 use Prim.Native.Nat.{ℕ, zero, suc, _+_, _*_, _/_, _%_, _^_, _≤_, _<_}
 use native.Mathlib.Omega.{arith}
 use native.Mathlib.Decide.{decLe}

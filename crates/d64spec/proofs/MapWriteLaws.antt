@@ -1,12 +1,12 @@
 -- The map written from the owners is right.
-use Prim.Native.Nat.{ℕ, zero, suc, _+_, _*_, _/_, _%_, _^_, _≤_, _<_}
+use Prim.Native.Nat.{ℕ, zero, suc, _+_, _*_, _-_, _/_, _%_, _^_, _≤_, _<_}
 use native.Mathlib.Omega.{arith}
 use native.Mathlib.Decide.{decLe}
-use mathlib.Core.Path.{_≡_, refl, sym, ap, _∙_, subst}
+use mathlib.Core.Path.{_≡_, refl, sym, ap, _∙_, subst, fun-ext}
 use mathlib.Core.Bool.{Bool, true, false, _&&_}
-use mathlib.Core.Logic.{_⊎_, ⊎-elim}
+use mathlib.Core.Logic.{⊎-elim}
 use mathlib.Core.List.{_++_, map}
-use lib.ListN.{length, getD}
+use lib.ListN.{length, take, drop, getD}
 use lib.Dec.{eqb, ltb}
 use borrow.Author.Tests.{eq-eqb}
 use Rattle.d64spec.specs.Lists.{Bytes, byte, indicator, range, splice, sum}
@@ -17,9 +17,10 @@ use Rattle.d64spec.specs.Directory.{directorySectors, files, plainList}
 use Rattle.d64spec.specs.Owner.{claimCount, claimList, claimsOf, fileClaims, isFree}
 use Rattle.d64spec.specs.Map.{bitmapByte, expectedBit, expectedEntry, mapBit, mapOnes, rewriteMap, withEntries}
 use Rattle.d64spec.specs.Accepted.{AcceptedDisk, MarksFree}
+use Rattle.d64spec.specs.Changes.{MapFollows}
 use Rattle.d64spec.proofs.BoundLaws.{sectorNumber-lt, map-on}
 use Rattle.d64spec.proofs.MapLaws.{in-bit, mark-of-sum, past-bit}
-use Rattle.d64spec.proofs.SpliceLaws.{length-splice, splice-before, splice-in, splice-after}
+use Rattle.d64spec.proofs.SpliceLaws.{length-splice, splice-before, splice-in, splice-after, part-of-bytes}
 use Rattle.d64spec.proofs.FrameLaws.{Sound, Agree, frame-plainList, frame-claims, frame-sound}
 use Rattle.d64spec.proofs.ImageLaws.{Whole, put-same, put-other, put-whole}
 
@@ -53,7 +54,7 @@ module _ (g : Geometry) (v : Valid g) (free : Address → Bool) where
   entry-length t = refl
 
   -- m holds the right entry of track t
-  abbrev Holds : Bytes → ℕ → Type 0
+  abbrev pub Holds : Bytes → ℕ → Type 0
   Holds m t = (i : ℕ) → i < 4 → byte m (g .mapAt t + i) ≡ getD (expectedEntry g free t) i 0
 
   bitmap-at : (t j : ℕ) → j < 3 → getD (expectedEntry g free t) (suc j) 0 ≡ bitmapByte g free t j
@@ -131,10 +132,19 @@ module _ (g : Geometry) (v : Valid g) (d : Disk) (w : Whole g d) (s : Sound g d)
   pub rewrite-claims : (n : ℕ) → claimCount g (rewriteMap g d) n ≡ claimCount g d n
   rewrite-claims = frame-claims g d (rewriteMap g d) map-apart
 
-  rewrite-holds : (t : ℕ) → 1 ≤ t → t ≤ tracks g → Holds g v (isFree g d) (rewriteMap g d (sectorNumber g mapAddress)) t
+  pub rewrite-holds : (t : ℕ) → 1 ≤ t → t ≤ tracks g → Holds g v (isFree g d) (rewriteMap g d (sectorNumber g mapAddress)) t
   unfolding rewriteMap
   rewrite-holds t l h = rw (put-same d (sectorNumber g mapAddress) (withEntries g (isFree g d) (d (sectorNumber g mapAddress)) (range 1 (tracks g))))
       (written g v (isFree g d) (d (sectorNumber g mapAddress)) (w .full (sectorNumber g mapAddress) map-below) 1 (tracks g) (omega arith) (omega arith) t l (omega arith))
+
+  -- every entry read back is the one that the owners ask for, and these are still the same
+  pub rewrite-follows : MapFollows g (rewriteMap g d)
+  rewrite-follows t l h =
+      let m : Bytes = rewriteMap g d (sectorNumber g mapAddress) in
+      let four : g .mapAt t + 3 + 1 - g .mapAt t ≡ length (expectedEntry g (isFree g d) t) = omega (arith, entry-length g v (isFree g d) t) in
+      ap (λ (n : ℕ). take n (drop (g .mapAt t) m)) four
+      ∙ part-of-bytes m (g .mapAt t) (expectedEntry g (isFree g d) t) (omega (arith, entry-length g v (isFree g d) t, v .mapFits t l h, rewrite-whole .full (sectorNumber g mapAddress) map-below)) (λ i k. rewrite-holds t l h i (omega (arith, entry-length g v (isFree g d) t)))
+      ∙ ap (λ (f : Address → Bool). expectedEntry g f t) (fun-ext (λ r. ap (λ (x : ℕ). eqb x 0) (sym (rewrite-claims (sectorNumber g r)))))
 
   rewrite-track : (t : ℕ) → 1 ≤ t → t ≤ tracks g → MarksFree g (rewriteMap g d) t
   rewrite-track t l h =

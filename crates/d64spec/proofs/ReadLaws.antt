@@ -20,7 +20,6 @@ use Rattle.d64spec.specs.Read.{callRead}
 use Rattle.d64spec.specs.Call.{Call, callCheck, check, read}
 use Rattle.d64spec.specs.Host.{HostReply, answerBlock, hostReply, littleEndian}
 use Rattle.d64spec.specs.Run.{ReadReports, plainListAfter}
-use Rattle.d64spec.specs.Examples.{accepted, bytes, content, holds}
 use Rattle.d64spec.proofs.ResultLaws.{then-done, done-inj, refused≢done}
 use Rattle.d64spec.proofs.CallLaws.{read-done}
 use Rattle.d64spec.proofs.BoundLaws.{file-bound}

@@ -38,6 +38,12 @@ fault-number directoryFull = (13, refl)
 fault-number diskFull = (14, refl)
 fault-number wrongBuffer = (15, refl)
 
+-- a reply that says 0 has the change of the call
+pub zero-change : (img out : Bytes) (x : Result Change) → reply img out x .answer .number ≡ 0 → x ≡ done (reply img out x .change)
+unfolding reply
+zero-change img out (refused f) e = absurd (let h : answerOf f .number ≡ suc (fault-number f .0) = fault-number f .1 in omega arith)
+zero-change img out (done c) e = refl
+
 plainListAfter-refused : (l : List PlainEntry) (c : Call) (m : ℕ) → plainListAfter l c (suc m) ≡ l
 unfolding plainListAfter
 plainListAfter-refused l check m = refl

@@ -17,7 +17,6 @@ use Rattle.d64spec.specs.Read.{callRead}
 use Rattle.d64spec.specs.Store.{callStore}
 use Rattle.d64spec.specs.Host.{hostReply}
 use Rattle.d64spec.specs.Run.{plainListAfter}
-use Rattle.d64spec.specs.Examples.{accepted, content, holds}
 use Rattle.d64spec.proofs.CallLaws.{store-done}
 use Rattle.d64spec.proofs.RunLaws.{StepHolds}
 use Rattle.d64spec.proofs.StoreStep.{store-step}

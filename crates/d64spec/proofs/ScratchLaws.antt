@@ -1,53 +1,33 @@
--- A file scratched.
-use Prim.Native.Nat.{ℕ, _+_, _≤_, _<_}
+-- A file scratched, but for the map: its sectors and its slot are zeroed. The map: proofs/ScratchedLaws.
+use Prim.Native.Nat.{ℕ, _+_, _*_, _≤_, _<_}
 use native.Mathlib.Omega.{arith}
 use mathlib.Core.Path.{_≡_, refl, sym, ap, ap₂, _∙_}
 use mathlib.Core.Bool.{Bool, true, false, cond, not}
 use mathlib.Core.List.{List, [], _∷_, _++_, map}
-use lib.ListN.{length-replicate}
+use lib.ListN.{drop, length-replicate}
 use lib.Dec.{eqb}
-use borrow.Author.Tests.{eq-eqb, eqb-true, eqb-false}
-use Rattle.d64spec.specs.Lists.{All, Bytes, count, equal, filter, indicator, nameCount, zeros}
+use borrow.Author.Tests.{eq-eqb, eqb-true}
+use Rattle.d64spec.specs.Lists.{All, Bytes, byte, count, equal, filter, indicator, nameCount, part, zeros}
 use Rattle.d64spec.specs.Answers.{Address}
 use Rattle.d64spec.specs.Geometry.{Geometry, Valid, directoryStart, mapAddress, sectorNumber, total}
-use Rattle.d64spec.specs.Image.{Disk, put}
+use Rattle.d64spec.specs.Image.{Disk}
 use Rattle.d64spec.specs.Chain.{directoryLink, fileLink, steps, to}
 use Rattle.d64spec.specs.Directory.{File, PlainEntry, Slot, directorySectors, entryByte, fileOf, files, firstLink, isEmpty, nameOf, occupied, plainEntryOf, plainList, slotsFrom}
-use Rattle.d64spec.specs.Owner.{claimCount, claimList, claimsOf, fileClaims}
-use Rattle.d64spec.specs.Map.{rewriteMap}
-use Rattle.d64spec.specs.Accepted.{AcceptedDisk, ValidEntry}
+use Rattle.d64spec.specs.Owner.{Among, claimCount, claimList, claimsOf, fileClaims}
+use Rattle.d64spec.specs.Accepted.{ValidEntry}
 use Rattle.d64spec.specs.Store.{overwriteSlot}
 use Rattle.d64spec.specs.Scratch.{clearSectors}
-use Rattle.d64spec.proofs.ListLaws.{count-append}
+use Rattle.d64spec.specs.Changes.{InSlot}
+use Rattle.d64spec.proofs.ListLaws.{count-append, zero-of-none}
 use Rattle.d64spec.proofs.CheckLaws.{equal-refl}
 use Rattle.d64spec.proofs.BoundLaws.{all-append, follow-on, fileLink-on, directoryLink-on, linkTo-on}
 use Rattle.d64spec.proofs.ChainLaws.{chain-frame}
 use Rattle.d64spec.proofs.FrameLaws.{Sound, Agree, all-of-count, all-map, same-directory, same-slots, same-files, same-valid-entries, same-plainList}
-use Rattle.d64spec.proofs.ImageLaws.{Whole, put-same, put-other, put-whole}
-use Rattle.d64spec.proofs.SplitLaws.{all-front, all-back, filter-append, map-append}
-use Rattle.d64spec.proofs.MapWriteLaws.{rewrite-whole, rewrite-accepted, rewrite-plainList, rewrite-claims, rewrite-other}
-use Rattle.d64spec.proofs.SlotLaws.{withBytes, slot-whole, slot-other, slot-link, slots-written, Placed}
-
--- ---- wiping sectors
-
-module _ (g : Geometry) where
-  pub clear-other : (l : List Address) (d : Disk) (n : ℕ) → count n (map (sectorNumber g) l) ≡ 0 → clearSectors g l d n ≡ d n
-  clear-other [] d n h = refl
-  clear-other (r ∷ l) d n h =
-      put-other (clearSectors g l d) (sectorNumber g r) (zeros 256) n (λ e. let z : indicator (eqb n (sectorNumber g r)) ≡ 1 = rw (eq-eqb n (sectorNumber g r) e) in omega arith)
-      ∙ clear-other l d n (omega arith)
-
-  pub clear-in : (l : List Address) (d : Disk) (n : ℕ) → 0 < count n (map (sectorNumber g) l) → clearSectors g l d n ≡ zeros 256
-  clear-in [] d n h = absurd (omega arith)
-  clear-in (r ∷ l) d n h = go (eqb n (sectorNumber g r)) refl (λ k. clear-in l d n k)
-    where
-      go : (b : Bool) → eqb n (sectorNumber g r) ≡ b → (0 < count n (map (sectorNumber g) l) → clearSectors g l d n ≡ zeros 256) → put (clearSectors g l d) (sectorNumber g r) (zeros 256) n ≡ zeros 256
-      go true t k = rw (eqb-true n (sectorNumber g r) t) (put-same (clearSectors g l d) (sectorNumber g r) (zeros 256))
-      go false t k = put-other (clearSectors g l d) (sectorNumber g r) (zeros 256) n (eqb-false n (sectorNumber g r) t) ∙ k (let z : indicator (eqb n (sectorNumber g r)) ≡ 0 = rw t in omega arith)
-
-  pub clear-whole : (l : List Address) (d : Disk) → All (λ x. x < total g) (map (sectorNumber g) l) → Whole g d → Whole g (clearSectors g l d)
-  clear-whole [] d a w = w
-  clear-whole (r ∷ l) d a w = put-whole g (clearSectors g l d) (sectorNumber g r) (zeros 256) (clear-whole l d (a .1) w) (a .0) (length-replicate {A = ℕ} 256 0)
+use Rattle.d64spec.proofs.ImageLaws.{Whole}
+use Rattle.d64spec.proofs.SplitLaws.{Split, all-front, all-back, filter-append, map-append}
+use Rattle.d64spec.proofs.MapBytes.{Prepared}
+use Rattle.d64spec.proofs.SlotLaws.{withBytes, slot-whole, slot-other, slot-link, slot-written, slot-rest, slots-written, Placed}
+use Rattle.d64spec.proofs.ClearLaws.{clear-other, clear-whole}
 
 -- the claims of files before, of one, and behind
 pub claims-apart : (g : Geometry) (n : ℕ) (a b : List File) → count n (fileClaims g (a ++ b)) ≡ count n (fileClaims g a) + count n (fileClaims g b)
@@ -98,8 +78,27 @@ gone g d n f l t = rw t
 abbrev pub isOccupied : Slot → Bool
 isOccupied s = not (isEmpty (s .bytes))
 
-module _ (g : Geometry) (v : Valid g) (d : Disk) (w : Whole g d) (a : Sound g d)
-    (s : Slot) (front back : List Slot) (whole : slotsFrom g d 0 (directorySectors g d) ≡ front ++ s ∷ back) (is-used : isOccupied s ≡ true) (placed : Placed g (directorySectors g d) s) where
+-- an occupied slot among those of the directory
+pub record OccupiedSlot (g : Geometry) (d : Disk) : Type 0 where
+  pub slot : Slot
+  pub split : Split slot (slotsFrom g d 0 (directorySectors g d))
+  pub used : isOccupied slot ≡ true
+  pub placed : Placed g (directorySectors g d) slot
+
+-- the file of such a slot scratched, but for the map
+module _ (g : Geometry) (v : Valid g) (d : Disk) (w : Whole g d) (a : Sound g d) (o : OccupiedSlot g d) where
+  -- the slot
+  abbrev s : Slot
+  s = o .slot
+
+  -- the slots before it
+  abbrev front : List Slot
+  front = o .split .front
+
+  -- the slots behind it
+  abbrev back : List Slot
+  back = o .split .back
+
   -- the file
   abbrev f : File
   f = fileOf g d s
@@ -117,16 +116,16 @@ module _ (g : Geometry) (v : Valid g) (d : Disk) (w : Whole g d) (a : Sound g d)
   behind = map (fileOf g d) (filter isOccupied back)
 
   -- without the file's sectors
-  abbrev d1 : Disk
+  abbrev pub d1 : Disk
   d1 = clearSectors g (f .sectors) d
 
   -- and without its slot
-  abbrev d2 : Disk
+  abbrev pub d2 : Disk
   d2 = overwriteSlot g (s .holder) (s .index) (zeros 30) d1
 
   occupied-is : occupied g d ≡ filter isOccupied front ++ s ∷ filter isOccupied back
   unfolding occupied
-  occupied-is = ap (filter isOccupied) whole ∙ filter-append isOccupied front (s ∷ back) ∙ ap (λ (c : Bool). filter isOccupied front ++ cond c (s ∷ filter isOccupied back) (filter isOccupied back)) is-used
+  occupied-is = ap (filter isOccupied) (o .split .whole) ∙ filter-append isOccupied front (s ∷ back) ∙ ap (λ (c : Bool). filter isOccupied front ++ cond c (s ∷ filter isOccupied back) (filter isOccupied back)) (o .used)
 
   files-are : files g d ≡ before ++ f ∷ behind
   unfolding files
@@ -157,19 +156,19 @@ module _ (g : Geometry) (v : Valid g) (d : Disk) (w : Whole g d) (a : Sound g d)
   dirs1 = same-directory g d d1 (all-map (λ r h. ap (directoryLink g) h) (directorySectors g d) directory-alike)
 
   slots1 : slotsFrom g d1 0 (directorySectors g d) ≡ front ++ s ∷ back
-  slots1 = same-slots g d d1 0 (directorySectors g d) directory-alike ∙ whole
+  slots1 = same-slots g d d1 0 (directorySectors g d) directory-alike ∙ o .split .whole
 
   at-on : sectorNumber g (s .holder) < total g
-  at-on = of-count (λ x. x < total g) (map (sectorNumber g) (directorySectors g d)) (directory-on g v d) (sectorNumber g (s .holder)) (placed .sector)
+  at-on = of-count (λ x. x < total g) (map (sectorNumber g) (directorySectors g d)) (directory-on g v d) (sectorNumber g (s .holder)) (o .placed .sector)
 
   at-once : count (sectorNumber g (s .holder)) (map (sectorNumber g) (directorySectors g d)) ≤ 1
   at-once = omega (arith, one-owner (sectorNumber g (s .holder)))
 
   whole2 : Whole g d2
-  whole2 = slot-whole g d1 whole1 (s .holder) at-on (s .index) (placed .place) (zeros 30) (length-replicate {A = ℕ} 30 0)
+  whole2 = slot-whole g d1 whole1 (s .holder) at-on (s .index) (o .placed .place) (zeros 30) (length-replicate {A = ℕ} 30 0)
 
   links2 : (n : ℕ) → directoryLink g (d1 n) ≡ directoryLink g (d2 n)
-  links2 = slot-link g d1 whole1 (s .holder) at-on (s .index) (placed .place) (zeros 30) (length-replicate {A = ℕ} 30 0)
+  links2 = slot-link g d1 whole1 (s .holder) at-on (s .index) (o .placed .place) (zeros 30) (length-replicate {A = ℕ} 30 0)
 
   all-links : (l : List Address) → All (λ r. directoryLink g (d1 (sectorNumber g r)) ≡ directoryLink g (d2 (sectorNumber g r))) l
   all-links [] = tt
@@ -180,17 +179,21 @@ module _ (g : Geometry) (v : Valid g) (d : Disk) (w : Whole g d) (a : Sound g d)
 
   slots2 : slotsFrom g d2 0 (directorySectors g d) ≡ front ++ withBytes s (zeros 30) ∷ back
   slots2 =
-      slots-written g d1 whole1 (s .holder) at-on (s .index) (placed .place) (zeros 30) (length-replicate {A = ℕ} 30 0) (directorySectors g d) s front back slots1 refl refl at-once
+      slots-written g d1 whole1 (s .holder) at-on (s .index) (o .placed .place) (zeros 30) (length-replicate {A = ℕ} 30 0) (directorySectors g d) s front back slots1 refl refl at-once
 
   occupied2 : occupied g d2 ≡ filter isOccupied front ++ filter isOccupied back
   unfolding occupied
   occupied2 = ap (λ (l : List Address). filter isOccupied (slotsFrom g d2 0 l)) dirs2 ∙ ap (filter isOccupied) slots2 ∙ filter-append isOccupied front (withBytes s (zeros 30) ∷ back)
 
-  -- the other files' sectors stay
+  -- a sector that is not the directory's
+  pub sector2 : (n : ℕ) → count n (map (sectorNumber g) (directorySectors g d)) ≡ 0 → d2 n ≡ d1 n
+  sector2 n h =
+      slot-other g d1 whole1 (s .holder) at-on (s .index) (o .placed .place) (zeros 30) (length-replicate {A = ℕ} 30 0) n
+      (λ e. let z : 0 < count n (map (sectorNumber g) (directorySectors g d)) = rw e (o .placed .sector) in omega arith)
+
+  -- nor the file's
   other2 : (n : ℕ) → count n own ≡ 0 → count n (map (sectorNumber g) (directorySectors g d)) ≡ 0 → d n ≡ d2 n
-  other2 n h k =
-      sym (slot-other g d1 whole1 (s .holder) at-on (s .index) (placed .place) (zeros 30) (length-replicate {A = ℕ} 30 0) n
-      (λ e. let z : 0 < count n (map (sectorNumber g) (directorySectors g d)) = rw e (placed .sector) in omega arith) ∙ clear-other g (f .sectors) d n h)
+  other2 n h k = sym (sector2 n k ∙ clear-other g (f .sectors) d n h)
 
   agree2 : Agree g d d2 (fileClaims g (before ++ behind))
   agree2 n h = other2 n (omega (arith, one-owner n, claims-apart g n before behind)) (omega (arith, one-owner n, claims-apart g n before behind))
@@ -263,36 +266,18 @@ module _ (g : Geometry) (v : Valid g) (d : Disk) (w : Whole g d) (a : Sound g d)
       (gone g d n f (map (plainEntryOf g d) behind) (equal-refl n) ∙ others g d n behind (omega (arith, names-are n)))
       ∙ sym plainList2
 
-  -- ---- and the map
+  -- ---- what is left to do, and every byte so far
 
-  -- and with the map
-  abbrev d3 : Disk
-  d3 = rewriteMap g d2
+  pub prepared2 : Prepared g d d2 (f .sectors)
+  prepared2 =
+      let m : ℕ = sectorNumber g mapAddress in
+      let self : indicator (eqb m m) ≡ 1 = rw (eq-eqb m m refl) in
+      record { whole = whole2; sound = sound2; unmapped = sym (other2 m (omega (arith, one-owner m)) (omega (arith, one-owner m))); owners = λ n h. omega (arith, claims2 n) }
 
-  pub scratch-whole : Whole g d3
-  scratch-whole = rewrite-whole g v d2 whole2 sound2
+  pub slot2 : part 0x02 0x1F (drop (32 * s .index) (d2 (sectorNumber g (s .holder)))) ≡ zeros 30
+  slot2 = slot-written g d1 whole1 (s .holder) at-on (s .index) (o .placed .place) (zeros 30) (length-replicate {A = ℕ} 30 0)
 
-  pub scratch-accepted : AcceptedDisk g d3
-  scratch-accepted = rewrite-accepted g v d2 whole2 sound2
-
-  pub scratch-plainList : plainList g d3 ≡ filter (λ x. not (equal (nameOf (s .bytes)) (x .name))) (plainList g d)
-  scratch-plainList = rewrite-plainList g v d2 whole2 sound2 ∙ sym kept-plainList
-
-  pub scratch-claims : (n : ℕ) → claimCount g d3 n + count n own ≡ claimCount g d n
-  scratch-claims n = ap (λ (x : ℕ). x + count n own) (rewrite-claims g v d2 whole2 sound2 n) ∙ claims2 n
-
-  -- a sector that is free afterwards
-  free-after : (n : ℕ) → claimCount g d3 n ≡ 0 → d3 n ≡ d1 n
-  free-after n h =
-      let o : claimCount g d2 n ≡ 0 = sym (rewrite-claims g v d2 whole2 sound2 n) ∙ h in
-      let k : count n (map (sectorNumber g) (directorySectors g d2)) ≡ count n (map (sectorNumber g) (directorySectors g d)) = ap (λ (l : List Address). count n (map (sectorNumber g) l)) dirs2 in
-      rewrite-other g d2 n (λ e. let z : indicator (eqb n (sectorNumber g mapAddress)) ≡ 1 = rw (eq-eqb n (sectorNumber g mapAddress) e) in omega (arith, claimCount-of g d2 n))
-      ∙ slot-other g d1 whole1 (s .holder) at-on (s .index) (placed .place) (zeros 30) (length-replicate {A = ℕ} 30 0) n
-      (λ e. let z : 0 < count n (map (sectorNumber g) (directorySectors g d)) = rw e (placed .sector) in omega (arith, claimCount-of g d2 n))
-
-  pub scratch-given : (n : ℕ) → 0 < claimCount g d n → claimCount g d3 n ≡ 0 → d3 n ≡ zeros 256
-  scratch-given n o h =
-      free-after n h ∙ clear-in g (f .sectors) d n (omega (arith, claims2 n, rewrite-claims g v d2 whole2 sound2 n))
-
-  pub scratch-kept : (n : ℕ) → claimCount g d n ≡ 0 → claimCount g d3 n ≡ 0 → d3 n ≡ d n
-  scratch-kept n o h = free-after n h ∙ clear-other g (f .sectors) d n (omega (arith, claims-are n))
+  pub rest2 : (n i : ℕ) → (Among g n (f .sectors) → ⊥) → (InSlot g (s .holder) (s .index) n i → ⊥) → byte (d2 n) i ≡ byte (d n) i
+  rest2 n i out out′ =
+      slot-rest g d1 whole1 (s .holder) at-on (s .index) (o .placed .place) (zeros 30) (length-replicate {A = ℕ} 30 0) n i out′
+      ∙ ap (λ (x : Bytes). byte x i) (clear-other g (f .sectors) d n (zero-of-none (count n own) out))

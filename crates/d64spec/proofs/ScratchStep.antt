@@ -1,30 +1,29 @@
 -- A scratch that is done.
 use Prim.Native.Nat.{ℕ, _<_, _-_}
 use mathlib.Core.Path.{_≡_, refl, sym, ap, _∙_}
-use mathlib.Core.Bool.{true}
 use mathlib.Core.List.{List, [], _∷_, Perm, Perm·refl, List·Memᴰ}
 use lib.ListN.{length}
 use Rattle.d64spec.specs.Lists.{All, Bytes, equal, zeros}
 use Rattle.d64spec.specs.Answers.{done, notFound}
 use Rattle.d64spec.specs.Geometry.{Geometry, Valid, total}
 use Rattle.d64spec.specs.Image.{Disk, disk, image}
-use Rattle.d64spec.specs.Directory.{File, Slot, directorySectors, fileOf, files, nameOf, occupied, plainList, slotsFrom}
+use Rattle.d64spec.specs.Directory.{File, directorySectors, fileOf, files, nameOf, occupied, plainList, slotsFrom}
 use Rattle.d64spec.specs.Owner.{claimCount}
 use Rattle.d64spec.specs.Accepted.{Accepted, AcceptedDisk}
 use Rattle.d64spec.specs.Reply.{Change, filesNamed, reply}
 use Rattle.d64spec.specs.Scratch.{callScratch, scratchedDisk}
-use Rattle.d64spec.specs.Call.{Call, read, scratch}
+use Rattle.d64spec.specs.Call.{Call, scratch}
 use Rattle.d64spec.specs.Host.{HostReply, hostReply}
 use Rattle.d64spec.specs.Run.{ReadReports, plainListAfter}
-use Rattle.d64spec.specs.Examples.{accepted, bytes, content, holds}
-use Rattle.d64spec.proofs.CallLaws.{scratch-done}
+use Rattle.d64spec.proofs.CallLaws.{ScratchDone, scratch-done}
 use Rattle.d64spec.proofs.ReadLaws.{eq-of-equal, first-kept}
 use Rattle.d64spec.proofs.RunLaws.{StepHolds}
 use Rattle.d64spec.proofs.FrameLaws.{Sound}
 use Rattle.d64spec.proofs.ImageLaws.{Whole, disk-whole, image-size, image-disk}
-use Rattle.d64spec.proofs.SplitLaws.{Split, split-at-mem, all-mem, mem-filter, mem-map}
+use Rattle.d64spec.proofs.SplitLaws.{split-at-mem, all-mem, mem-filter, mem-map}
 use Rattle.d64spec.proofs.SlotLaws.{Placed, slots-placed}
-use Rattle.d64spec.proofs.ScratchLaws.{isOccupied, scratch-whole, scratch-accepted, scratch-plainList, scratch-given, scratch-kept}
+use Rattle.d64spec.proofs.ScratchLaws.{OccupiedSlot, isOccupied}
+use Rattle.d64spec.proofs.ScratchedLaws.{scratch-whole, scratch-accepted, scratch-plainList, scratch-given, scratch-kept}
 
 -- a reply that leaves the image of a disk
 pub disk-step : (g : Geometry) (img : Bytes) (c : Call) (r : HostReply) (e : Disk) → r .imageAfter ≡ image g e → Whole g e → AcceptedDisk g e
@@ -47,22 +46,29 @@ sound-of g d a = record { directory = a .directory; entry = a .entry; names = a 
 
 -- a file of a disk: its slot among the slots
 pub record Found (g : Geometry) (d : Disk) (f : File) : Type 0 where
-  pub slot : Slot
-  pub is : fileOf g d slot ≡ f
-  pub split : Split slot (slotsFrom g d 0 (directorySectors g d))
-  pub isOccupied : isOccupied slot ≡ true
-  pub placed : Placed g (directorySectors g d) slot
+  pub place : OccupiedSlot g d
+  pub is : fileOf g d (place .slot) ≡ f
 
 pub found : (g : Geometry) (d : Disk) (f : File) → List·Memᴰ f (files g d) → Found g d f
 unfolding files occupied
 found g d f m =
     let a = mem-map (fileOf g d) (occupied g d) m in
     let b = mem-filter isOccupied (slotsFrom g d 0 (directorySectors g d)) (a .1) in
-    record { slot = a .0; is = a .2; split = split-at-mem (b .0); isOccupied = b .1; placed = all-mem (Placed g (directorySectors g d)) (b .0) (slots-placed g d 0 (directorySectors g d)) }
+    record {
+      place = record { slot = a .0; split = split-at-mem (b .0); used = b .1; placed = all-mem (Placed g (directorySectors g d)) (b .0) (slots-placed g d 0 (directorySectors g d)) };
+      is = a .2;
+    }
 
 all-unit : {A : Type 0} (l : List A) → All (λ x. Unit {0}) l
 all-unit [] = tt
 all-unit (x ∷ l) = (tt, all-unit l)
+
+-- a scratch that is done has found a file of that name
+pub scratch-finds : {g : Geometry} {img name : Bytes} {ch : Change} (h : ScratchDone g img name ch) → List·Memᴰ (h .file) (files g (disk img)) × (name ≡ nameOf (h .file .slot .bytes))
+unfolding filesNamed
+scratch-finds {g} {img} {name} h =
+    let k = first-kept (λ f. equal name (nameOf (f .slot .bytes))) (λ f. Unit {0}) notFound (files g (disk img)) (h .file) (all-unit (files g (disk img))) (h .found) in
+    (k .element, eq-of-equal name (nameOf (h .file .slot .bytes)) (k .test))
 
 module _ (g : Geometry) (v : Valid g) (img : Bytes) (a : Accepted g img) where
   by-found : (name : Bytes) (f : File) (r : HostReply) → Found g (disk img) f → name ≡ nameOf (f .slot .bytes) → r .number ≡ 0
@@ -72,22 +78,18 @@ module _ (g : Geometry) (v : Valid g) (img : Bytes) (a : Accepted g img) where
       let d : Disk = disk img in
       let w : Whole g d = disk-whole g img (a .size) in
       let q : Sound g d = sound-of g d (a .content) in
-      let s : Slot = o .slot in
-      let z′ : r .imageAfter ≡ image g (scratchedDisk g d (fileOf g d s)) = z ∙ ap (λ (x : File). image g (scratchedDisk g d x)) (sym (o .is)) in
-      let e′ : name ≡ nameOf (s .bytes) = e ∙ ap (λ (x : File). nameOf (x .slot .bytes)) (sym (o .is)) in
-      disk-step g img (scratch name) r (scratchedDisk g d (fileOf g d s)) z′
-      (scratch-whole g v d w q s (o .split .front) (o .split .back) (o .split .whole) (o .isOccupied) (o .placed))
-      (scratch-accepted g v d w q s (o .split .front) (o .split .back) (o .split .whole) (o .isOccupied) (o .placed))
-      (rw (n, e′) (rw (scratch-plainList g v d w q s (o .split .front) (o .split .back) (o .split .whole) (o .isOccupied) (o .placed)) (Perm·refl _)))
-      (λ m b. scratch-given g v d w q s (o .split .front) (o .split .back) (o .split .whole) (o .isOccupied) (o .placed) m)
-      (λ m b h k y. scratch-kept g v d w q s (o .split .front) (o .split .back) (o .split .whole) (o .isOccupied) (o .placed) m h k ∙ y)
+      let p : OccupiedSlot g d = o .place in
+      let z′ : r .imageAfter ≡ image g (scratchedDisk g d (fileOf g d (p .slot))) = z ∙ ap (λ (x : File). image g (scratchedDisk g d x)) (sym (o .is)) in
+      let e′ : name ≡ nameOf (p .slot .bytes) = e ∙ ap (λ (x : File). nameOf (x .slot .bytes)) (sym (o .is)) in
+      disk-step g img (scratch name) r (scratchedDisk g d (fileOf g d (p .slot))) z′ (scratch-whole g v d w q p) (scratch-accepted g v d w q p)
+      (rw (n, e′) (rw (scratch-plainList g v d w q p) (Perm·refl _)))
+      (λ m b. scratch-given g v d w q p m)
+      (λ m b h k y. scratch-kept g v d w q p m h k ∙ y)
       tt
 
   pub scratch-step : (name : Bytes) (ch : Change) → callScratch g img name ≡ done ch → StepHolds g img (scratch name) (hostReply (reply img [] (done ch)))
-  unfolding reply filesNamed
+  unfolding reply
   scratch-step name ch e =
-      let h = scratch-done g img name ch e in
-      let f : File = h .file in
-      let k = first-kept (λ f. equal name (nameOf (f .slot .bytes))) (λ f. Unit {0}) notFound (files g (disk img)) f (all-unit (files g (disk img))) (h .found) in
-      by-found name f (hostReply (reply img [] (done ch))) (found g (disk img) f (k .element)) (eq-of-equal name (nameOf (f .slot .bytes)) (k .test)) refl
-      (ap (λ (x : Change). x .imageAfter) (sym (h .change)))
+      let h : ScratchDone g img name ch = scratch-done g img name ch e in
+      let k = scratch-finds h in
+      by-found name (h .file) (hostReply (reply img [] (done ch))) (found g (disk img) (h .file) (k .0)) (k .1) refl (ap (λ (x : Change). x .imageAfter) (sym (h .change)))

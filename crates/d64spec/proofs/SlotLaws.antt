@@ -9,14 +9,15 @@ use lib.ListN.{length, take, drop, length-append}
 use lib.Seq.{drop-drop}
 use lib.Dec.{eqb}
 use borrow.Author.Tests.{eq-eqb, ne-eqb, eqb-true, eqb-false}
-use Rattle.d64spec.specs.Lists.{All, Bytes, count, filter, indicator, part, range, splice}
+use Rattle.d64spec.specs.Lists.{All, Bytes, byte, count, filter, indicator, part, range, splice}
 use Rattle.d64spec.specs.Answers.{Address}
 use Rattle.d64spec.specs.Geometry.{Geometry, sectorNumber, total}
 use Rattle.d64spec.specs.Image.{Disk}
 use Rattle.d64spec.specs.Chain.{directoryLink}
 use Rattle.d64spec.specs.Directory.{Slot, slotIn, slotsFrom, slotsIn}
 use Rattle.d64spec.specs.Store.{overwriteSlot}
-use Rattle.d64spec.proofs.SpliceLaws.{length-splice, splice-before, part-before, part-after, part-in}
+use Rattle.d64spec.specs.Changes.{InSlot}
+use Rattle.d64spec.proofs.SpliceLaws.{length-splice, splice-before, splice-after, part-before, part-after, part-in}
 use Rattle.d64spec.proofs.ImageLaws.{Whole, put-same, put-other, put-whole}
 use Rattle.d64spec.proofs.BoundLaws.{all-append}
 use Rattle.d64spec.proofs.SplitLaws.{filter-append, map-append, map-range, map-map, alone-front, alone-back}
@@ -73,9 +74,35 @@ module _ (g : Geometry) (d : Disk) (w : Whole g d) (r : Address) (on : sectorNum
   unfolding overwriteSlot
   slot-other n h = put-other d (sectorNumber g r) b′ n h
 
-  slot-same : e (sectorNumber g r) ≡ b′
+  pub slot-same : e (sectorNumber g r) ≡ b′
   unfolding overwriteSlot
   slot-same = put-same d (sectorNumber g r) b′
+
+  slot-in : part 0x02 0x1F (drop (32 * j) b′) ≡ bs
+  slot-in = slot-bytes-at b′ j ∙ ap (λ (x : ℕ). take x (drop (32 * j + 2) b′)) (sym len) ∙ part-in b (32 * j + 2) bs fits
+
+  -- what stands in the slot
+  pub slot-written : part 0x02 0x1F (drop (32 * j) (e (sectorNumber g r))) ≡ bs
+  slot-written = ap (λ (x : Bytes). part 0x02 0x1F (drop (32 * j) x)) slot-same ∙ slot-in
+
+  -- and every other byte stays
+  pub slot-rest : (n i : ℕ) → (InSlot g r j n i → ⊥) → byte (e n) i ≡ byte (d n) i
+  slot-rest n i out = go (eqb n (sectorNumber g r)) refl
+    where
+      within : n ≡ sectorNumber g r → byte b′ i ≡ byte b i
+      within z = elim (decLe (32 * j + 2) i) [
+        | yes k ↦ elim (decLe (32 * j + 32) i) [
+          | yes m ↦ splice-after b (32 * j + 2) bs fits i (omega arith)
+          | no m ↦ absurd (out (z, k, omega arith))
+        ]
+        | no k ↦ splice-before b (32 * j + 2) bs fits i (omega arith)
+      ]
+
+      go : (c : Bool) → eqb n (sectorNumber g r) ≡ c → byte (e n) i ≡ byte (d n) i
+      go true t =
+          let z : n ≡ sectorNumber g r = eqb-true n (sectorNumber g r) t in
+          ap (λ (x : ℕ). byte (e x) i) z ∙ ap (λ (x : Bytes). byte x i) slot-same ∙ within z ∙ ap (λ (x : ℕ). byte (d x) i) (sym z)
+      go false t = ap (λ (x : Bytes). byte x i) (slot-other n (eqb-false n (sectorNumber g r) t))
 
   same-link : directoryLink g b′ ≡ directoryLink g b
   unfolding directoryLink
@@ -107,7 +134,7 @@ module _ (g : Geometry) (d : Disk) (w : Whole g d) (r : Address) (on : sectorNum
       mk x = record { holder = q; index = i; number = n + i; bytes = x }
 
       go : (c : Bool) → eqb i j ≡ c → mk (part 0x02 0x1F (drop (32 * i) b′)) ≡ cond c (mk bs) (mk (part 0x02 0x1F (drop (32 * i) b)))
-      go true t = ap mk (slot-bytes-at b′ i ∙ ap₂ (λ (x y : ℕ). take x (drop (32 * y + 2) b′)) (sym len) (eqb-true i j t) ∙ part-in b (32 * j + 2) bs fits)
+      go true t = ap mk (ap (λ (y : ℕ). part 0x02 0x1F (drop (32 * y) b′)) (eqb-true i j t) ∙ slot-in)
       go false t = ap mk (slot-bytes-at b′ i ∙ (elim (decLe i j) [
         | yes k ↦ part-before b (32 * j + 2) bs fits (32 * i + 2) 30 (let ne : i ≡ j → ⊥ = eqb-false i j t in omega arith)
         | no k ↦ part-after b (32 * j + 2) bs fits (32 * i + 2) 30 (omega arith)

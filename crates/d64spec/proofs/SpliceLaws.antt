@@ -40,6 +40,12 @@ part-same s t k n e f =
     (λ i h. getD-take n (drop k s) i 0 (omega arith) ∙ getD-drop k s i 0 ∙ f (k + i) (omega arith) (omega arith)
     ∙ sym (getD-drop k t i 0) ∙ sym (getD-take n (drop k t) i 0 (omega arith)))
 
+-- a part whose bytes are those of a list
+pub part-of-bytes : (s : List ℕ) (k : ℕ) (bs : List ℕ) → k + length bs ≤ length s → ((i : ℕ) → i < length bs → getD s (k + i) 0 ≡ getD bs i 0) → take (length bs) (drop k s) ≡ bs
+part-of-bytes s k bs fits f =
+    let l : length (take (length bs) (drop k s)) ≡ length bs = length-take-le (length bs) (drop k s) (omega (arith, length-drop k s)) in
+    ext-getD 0 (take (length bs) (drop k s)) bs l (λ i h. getD-take (length bs) (drop k s) i 0 (omega arith) ∙ getD-drop k s i 0 ∙ f i (omega arith))
+
 module _ (s : List ℕ) (at : ℕ) (bs : List ℕ) (fits : at + length bs ≤ length s) where
   pub part-before : (k n : ℕ) → k + n ≤ at → take n (drop k (splice s at bs)) ≡ take n (drop k s)
   part-before k n h = part-same (splice s at bs) s k n (length-splice s at bs fits) (λ i l u. splice-before s at bs fits i (omega arith))
@@ -48,8 +54,4 @@ module _ (s : List ℕ) (at : ℕ) (bs : List ℕ) (fits : at + length bs ≤ le
   part-after k n h = part-same (splice s at bs) s k n (length-splice s at bs fits) (λ i l u. splice-after s at bs fits i (omega arith))
 
   pub part-in : take (length bs) (drop at (splice s at bs)) ≡ bs
-  part-in =
-      let l : length (take (length bs) (drop at (splice s at bs))) ≡ min (length bs) (length (splice s at bs) - at)
-      = length-take (length bs) (drop at (splice s at bs)) ∙ ap (min (length bs)) (length-drop at (splice s at bs)) in
-      ext-getD 0 (take (length bs) (drop at (splice s at bs))) bs (omega (arith, length-splice s at bs fits))
-      (λ i h. getD-take (length bs) (drop at (splice s at bs)) i 0 (omega (arith, length-splice s at bs fits)) ∙ getD-drop at (splice s at bs) i 0 ∙ splice-in s at bs fits i (omega (arith, length-splice s at bs fits)))
+  part-in = part-of-bytes (splice s at bs) at bs (omega (arith, length-splice s at bs fits)) (splice-in s at bs fits)

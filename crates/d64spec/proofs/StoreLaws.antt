@@ -7,48 +7,66 @@ use mathlib.Core.List.{List, _∷_, _++_, map, Perm, perm-middle}
 use lib.ListN.{length}
 use lib.Dec.{eqb}
 use borrow.Author.Tests.{eq-eqb}
-use Rattle.d64spec.specs.Lists.{All, Bytes, count, equal, filter, indicator, nameCount}
+use Rattle.d64spec.specs.Lists.{All, Bytes, byte, count, equal, filter, indicator, nameCount}
 use Rattle.d64spec.specs.Answers.{Address}
 use Rattle.d64spec.specs.Geometry.{Geometry, Valid, directoryStart, mapAddress, onDisk, sectorNumber}
 use Rattle.d64spec.specs.Image.{Disk}
 use Rattle.d64spec.specs.Chain.{Chain, chainData, directoryLink, fileLink, follow, linkTo, steps, to}
 use Rattle.d64spec.specs.Directory.{File, PlainEntry, Slot, countOf, directorySectors, entryByte, fileOf, files, firstLink, isEmpty, kindOf, nameOf, occupied, plainEntryOf, plainList, slotsFrom, validName, validType}
-use Rattle.d64spec.specs.Owner.{claimCount, fileClaims}
+use Rattle.d64spec.specs.Owner.{Among, claimCount, fileClaims}
 use Rattle.d64spec.specs.Map.{rewriteMap}
-use Rattle.d64spec.specs.Accepted.{AcceptedDisk, ValidEntry}
+use Rattle.d64spec.specs.Accepted.{ValidEntry}
 use Rattle.d64spec.specs.Reply.{validKind, validNameArgument}
-use Rattle.d64spec.specs.Store.{newEntry, writeChain}
-use Rattle.d64spec.proofs.ListLaws.{count-append}
+use Rattle.d64spec.specs.Store.{SlotPlace, newEntry, writeChain}
+use Rattle.d64spec.specs.Changes.{DataWritten, EntryWrites, EntryWritten, addedSectors}
+use Rattle.d64spec.proofs.ListLaws.{count-append, zero-of-none}
 use Rattle.d64spec.proofs.BoundLaws.{all-append, fileLink-on}
-use Rattle.d64spec.proofs.ChainLaws.{chain-frame, data-frame}
 use Rattle.d64spec.proofs.WalkLaws.{chain-met}
 use Rattle.d64spec.proofs.ReadLaws.{eq-of-equal}
-use Rattle.d64spec.proofs.FrameLaws.{Sound, Agree, all-of-count, same-files, same-valid-entries, same-plainList}
+use Rattle.d64spec.proofs.FrameLaws.{Sound, Agree, same-files, same-valid-entries, same-plainList}
 use Rattle.d64spec.proofs.ImageLaws.{Whole}
 use Rattle.d64spec.proofs.SplitLaws.{filter-append, map-append, all-front, all-back}
-use Rattle.d64spec.proofs.MapWriteLaws.{rewrite-whole, rewrite-accepted, rewrite-plainList, rewrite-claims, rewrite-other}
+use Rattle.d64spec.proofs.MapWriteLaws.{rewrite-plainList, rewrite-claims, rewrite-other}
+use Rattle.d64spec.proofs.MapBytes.{Prepared}
 use Rattle.d64spec.proofs.ScratchLaws.{isOccupied, claimCount-of, claims-apart, names-apart}
-use Rattle.d64spec.proofs.WriteChainLaws.{Fits, link-is, writeChain-other, writeChain-chain, writeChain-data}
+use Rattle.d64spec.proofs.WriteChainLaws.{Fits, link-is, writeChain-other, writeChain-written, written-agree, written-chain, written-data}
 use Rattle.d64spec.proofs.EntryLaws.{entry-type, entry-used, entry-kind, entry-name, entry-name-right, entry-count}
 
--- d2 is d1 with an entry in one slot of the directory, which may have grown by the sectors extra
-pub record Entered (g : Geometry) (d d1 d2 : Disk) (entry : Bytes) (extra : List ℕ) : Type 0 where
+-- d2 is d1 with an entry at its place in the directory, which may have grown
+pub record Entered (g : Geometry) (d d1 d2 : Disk) (entry : Bytes) (place : SlotPlace) : Type 0 where
   pub front : List Slot
   pub back : List Slot
   pub slot : Slot
   pub whole : Whole g d2
   pub directory : Chain g (directoryLink g) d2 (to directoryStart) (directorySectors g d2)
-  pub grown : (n : ℕ) → count n (map (sectorNumber g) (directorySectors g d2)) ≡ count n (map (sectorNumber g) (directorySectors g d)) + count n extra
+  pub grown : (n : ℕ) → count n (map (sectorNumber g) (directorySectors g d2)) ≡ count n (map (sectorNumber g) (directorySectors g d)) + count n (map (sectorNumber g) (addedSectors place))
   pub slots : slotsFrom g d2 0 (directorySectors g d2) ≡ front ++ slot ∷ back
   pub bytes : slot .bytes ≡ entry
   pub old : filter isOccupied front ++ filter isOccupied back ≡ occupied g d
   pub other : (n : ℕ) → count n (map (sectorNumber g) (directorySectors g d2)) ≡ 0 → d2 n ≡ d1 n
+  -- the entry stands there on each disk with the same directory
+  pub written : (x : Disk) → ((n : ℕ) → 0 < count n (map (sectorNumber g) (directorySectors g d2)) → x n ≡ d2 n) → EntryWritten g d x place entry
+  pub rest : (n i : ℕ) → (EntryWrites g d place n i → ⊥) → byte (d2 n) i ≡ byte (d1 n) i
 
-module _ (g : Geometry) (v : Valid g) (d : Disk) (a : Sound g d) (r : Address) (l : List Address) (on : All (λ x. onDisk g x ≡ true) (r ∷ l)) (extra : List ℕ)
-    (room : (n : ℕ) → claimCount g d n + count n (map (sectorNumber g) (r ∷ l)) + count n extra ≤ 1)
+-- what a store of x in the sectors l leaves, with its entry at this place; d2 is the disk before the map is written
+pub record StoreLeaves (g : Geometry) (d d2 : Disk) (place : SlotPlace) (l : List Address) (bs : Bytes) (x : PlainEntry) : Type 0 where
+  pub prepared : Prepared g d d2 (addedSectors place ++ l)
+  pub holds : Perm (plainList g (rewriteMap g d2)) (x ∷ plainList g d)
+  pub claims : (n : ℕ) → claimCount g d n ≤ claimCount g (rewriteMap g d2) n
+  pub kept : (n : ℕ) → claimCount g (rewriteMap g d2) n ≡ 0 → rewriteMap g d2 n ≡ d n
+  pub laid : DataWritten g (rewriteMap g d2) l (x .content)
+  pub entry : EntryWritten g d (rewriteMap g d2) place bs
+  pub rest : (n i : ℕ) → (Among g n l → ⊥) → (EntryWrites g d place n i → ⊥) → byte (d2 n) i ≡ byte (d n) i
+
+module _ (g : Geometry) (v : Valid g) (d : Disk) (a : Sound g d) (r : Address) (l : List Address) (on : All (λ x. onDisk g x ≡ true) (r ∷ l)) (place : SlotPlace)
+    (room : (n : ℕ) → claimCount g d n + count n (map (sectorNumber g) (r ∷ l)) + count n (map (sectorNumber g) (addedSectors place)) ≤ 1)
     (bs : Bytes) (fits : Fits (r ∷ l) (length bs)) (name : Bytes) (kind : ℕ) (asked : validNameArgument name ≡ true) (kind-asked : validKind kind ≡ true)
     (new : nameCount name (map (λ f. nameOf (f .slot .bytes)) (files g d)) ≡ 0)
-    (d2 : Disk) (e : Entered g d (writeChain g (r ∷ l) bs d) d2 (newEntry name kind r (length (r ∷ l))) extra) where
+    (d2 : Disk) (e : Entered g d (writeChain g (r ∷ l) bs d) d2 (newEntry name kind r (length (r ∷ l))) place) where
+  -- the directory's new sector, by number
+  abbrev extra : List ℕ
+  extra = map (sectorNumber g) (addedSectors place)
+
   -- the sectors taken
   abbrev refs : List Address
   refs = r ∷ l
@@ -101,10 +119,11 @@ module _ (g : Geometry) (v : Valid g) (d : Disk) (a : Sound g d) (r : Address) (
   unfolding firstLink newEntry
   start2 = ap (λ (x : Bytes). linkTo g (entryByte x 0x03) (entryByte x 0x04)) (e .bytes) ∙ link-is g r (on .0)
 
+  laid2 : DataWritten g d2 refs bs
+  laid2 = written-agree g d1 d2 refs bs refs-stay (writeChain-written g r l bs d refs-once)
+
   chain2 : Chain g (fileLink g) d2 (to r) refs
-  chain2 =
-      chain-frame g (fileLink g) d1 d2 (to r) refs (all-of-count g (λ n. fileLink g (d1 n) ≡ fileLink g (d2 n)) refs (λ n h. ap (fileLink g) (refs-stay n h)))
-      (writeChain-chain g r l bs d on refs-once)
+  chain2 = written-chain g d2 r l bs on laid2
 
   file2 : fileOf g d2 s ≡ f
   unfolding fileOf
@@ -183,8 +202,8 @@ module _ (g : Geometry) (v : Valid g) (d : Disk) (a : Sound g d) (r : Address) (
   unfolding plainEntryOf
   entry2 =
       let k : kindOf (s .bytes) ≡ kind = ap kindOf (e .bytes) ∙ entry-kind name kind r (length refs) asked kind-asked in
-      let b : chainData g d2 refs ≡ bs = sym (data-frame g d1 d2 refs (all-of-count g (λ n. d1 n ≡ d2 n) refs refs-stay)) ∙ writeChain-data g refs bs d refs-once fits in
-      ap₂ (λ (x : Bytes) (y : ℕ). record { name = x; kind = y; content = chainData g d2 refs }) f-name k ∙ ap (λ (x : Bytes). record { name = name; kind = kind; content = x }) b
+      ap₂ (λ (x : Bytes) (y : ℕ). record { name = x; kind = y; content = chainData g d2 refs }) f-name k
+      ∙ ap (λ (x : Bytes). record { name = name; kind = kind; content = x }) (written-data g d2 refs bs laid2 fits)
 
   plainList2 : plainList g d2 ≡ map (plainEntryOf g d) before ++ made ∷ map (plainEntryOf g d) behind
   unfolding plainList
@@ -199,21 +218,36 @@ module _ (g : Geometry) (v : Valid g) (d : Disk) (a : Sound g d) (r : Address) (
 
   -- ---- and the map
 
-  pub store-whole : Whole g (rewriteMap g d2)
-  store-whole = rewrite-whole g v d2 (e .whole) sound2
+  map-self : indicator (eqb (sectorNumber g mapAddress) (sectorNumber g mapAddress)) ≡ 1
+  map-self = rw (eq-eqb (sectorNumber g mapAddress) (sectorNumber g mapAddress) refl)
 
-  pub store-accepted : AcceptedDisk g (rewriteMap g d2)
-  store-accepted = rewrite-accepted g v d2 (e .whole) sound2
+  prepared2 : Prepared g d d2 (addedSectors place ++ refs)
+  prepared2 =
+      let m : ℕ = sectorNumber g mapAddress in
+      record {
+        whole = e .whole;
+        sound = sound2;
+        unmapped = e .other m (omega (arith, e .grown m, room m, claims-are m, map-self)) ∙ writeChain-other g refs bs d m (omega (arith, room m, claims-are m, map-self));
+        owners = λ n h. omega (arith, claims2 n, ap (count n) (map-append (sectorNumber g) (addedSectors place) refs), count-append n extra (map (sectorNumber g) refs));
+      }
 
-  pub store-plainList : Perm (plainList g (rewriteMap g d2)) (made ∷ plainList g d)
-  store-plainList = rw (rewrite-plainList g v d2 (e .whole) sound2, plainList2, plainList-are) (perm-middle (map (plainEntryOf g d) before) (map (plainEntryOf g d) behind))
+  -- a sector with an owner other than the map is left by it
+  map-leaves : (n : ℕ) → 0 < count n (map (sectorNumber g) (directorySectors g d2)) + count n (map (sectorNumber g) refs) → rewriteMap g d2 n ≡ d2 n
+  map-leaves n h = rewrite-other g d2 n (λ z. let y : indicator (eqb n (sectorNumber g mapAddress)) ≡ 1 = rw (eq-eqb n (sectorNumber g mapAddress) z) in omega (arith, e .grown n, room n, claims-are n))
 
-  pub store-claims : (n : ℕ) → claimCount g (rewriteMap g d2) n ≡ claimCount g d n + count n (map (sectorNumber g) refs) + count n extra
+  store-claims : (n : ℕ) → claimCount g (rewriteMap g d2) n ≡ claimCount g d n + count n (map (sectorNumber g) refs) + count n extra
   store-claims n = rewrite-claims g v d2 (e .whole) sound2 n ∙ claims2 n
 
-  -- no sector loses its owner, and one that is free stays as it was
-  pub store-kept : (n : ℕ) → claimCount g (rewriteMap g d2) n ≡ 0 → rewriteMap g d2 n ≡ d n
-  store-kept n h =
-      let o : claimCount g d n + count n (map (sectorNumber g) refs) + count n extra ≡ 0 = sym (store-claims n) ∙ h in
-      rewrite-other g d2 n (λ z. let y : indicator (eqb n (sectorNumber g mapAddress)) ≡ 1 = rw (eq-eqb n (sectorNumber g mapAddress) z) in omega (arith, claims-are n))
-      ∙ e .other n (omega (arith, e .grown n, claims-are n)) ∙ writeChain-other g refs bs d n (omega arith)
+  pub store-leaves : StoreLeaves g d d2 place refs (newEntry name kind r (length refs)) made
+  store-leaves = record {
+    prepared = prepared2;
+    holds = rw (rewrite-plainList g v d2 (e .whole) sound2, plainList2, plainList-are) (perm-middle (map (plainEntryOf g d) before) (map (plainEntryOf g d) behind));
+    claims = λ n. omega (arith, store-claims n);
+    kept = λ n h.
+        let o : claimCount g d n + count n (map (sectorNumber g) refs) + count n extra ≡ 0 = sym (store-claims n) ∙ h in
+        rewrite-other g d2 n (λ z. let y : indicator (eqb n (sectorNumber g mapAddress)) ≡ 1 = rw (eq-eqb n (sectorNumber g mapAddress) z) in omega (arith, claims-are n))
+        ∙ e .other n (omega (arith, e .grown n, claims-are n)) ∙ writeChain-other g refs bs d n (omega arith);
+    laid = written-agree g d2 (rewriteMap g d2) refs bs (λ n h. sym (map-leaves n (omega arith))) laid2;
+    entry = e .written (rewriteMap g d2) (λ n h. map-leaves n (omega arith));
+    rest = λ n i out out′. e .rest n i out′ ∙ ap (λ (x : Bytes). byte x i) (writeChain-other g refs bs d n (zero-of-none (count n (map (sectorNumber g) refs)) out));
+  }

@@ -7,7 +7,7 @@ use mathlib.Core.Bool.{Bool, true, false, cond, not}
 use mathlib.Core.List.{List, [], _∷_, map, List·Memᴰ, List·Memᴰ·head, List·Memᴰ·tail}
 use lib.ListN.{length, take}
 use lib.Seq.{length-take-le}
-use lib.Dec.{eqb, leb}
+use lib.Dec.{eqb}
 use borrow.Author.Tests.{eq-eqb, ne-eqb, eqb-true, leb-true}
 use Rattle.d64spec.specs.Lists.{All, Bytes, count, equal, filter, indicator, nameCount, range}
 use Rattle.d64spec.specs.Answers.{Address, Result, _>>=_, address, directoryFull, done, first}
@@ -22,12 +22,13 @@ use Rattle.d64spec.specs.Store.{SlotPlace, callStore, emptySlots, inEmpt
 use Rattle.d64spec.specs.Call.{store}
 use Rattle.d64spec.specs.Host.{HostReply, hostReply}
 use Rattle.d64spec.specs.Run.{plainListAfter}
-use Rattle.d64spec.specs.Examples.{bytes, content, place}
+use Rattle.d64spec.specs.Changes.{addedSectors}
 use Rattle.d64spec.proofs.ResultLaws.{done-inj, refused≢done}
-use Rattle.d64spec.proofs.CallLaws.{store-done}
+use Rattle.d64spec.proofs.CallLaws.{StoreDone, store-done}
 use Rattle.d64spec.proofs.RunLaws.{StepHolds}
 use Rattle.d64spec.proofs.FrameLaws.{Sound}
 use Rattle.d64spec.proofs.ImageLaws.{Whole, disk-whole}
+use Rattle.d64spec.proofs.MapWriteLaws.{rewrite-whole, rewrite-accepted}
 use Rattle.d64spec.proofs.SplitLaws.{Split, split-at-mem, all-mem, mem-filter, mem-map}
 use Rattle.d64spec.proofs.SlotLaws.{Placed, slots-placed}
 use Rattle.d64spec.proofs.ScratchLaws.{isOccupied, claimCount-of}
@@ -36,7 +37,7 @@ use Rattle.d64spec.proofs.AllocationLaws.{On, track-on, order-few, orde
 use Rattle.d64spec.proofs.WriteChainLaws.{Fits, sectors-fit, writeChain-other, writeChain-whole}
 use Rattle.d64spec.proofs.EntryLaws.{entry-length}
 use Rattle.d64spec.proofs.WriteSlotLaws.{in-slot, at-new}
-use Rattle.d64spec.proofs.StoreLaws.{Entered, store-whole, store-accepted, store-plainList, store-claims, store-kept}
+use Rattle.d64spec.proofs.StoreLaws.{Entered, StoreLeaves, store-leaves}
 
 -- ---- kept and taken
 
@@ -123,25 +124,20 @@ slot-place g d s m =
     let b = mem-filter (λ s. isEmpty (s .bytes)) (slotsFrom g d 0 (directorySectors g d)) m in
     (split-at-mem (b .0), ap not (b .1), all-mem (Placed g (directorySectors g d)) (b .0) (slots-placed g d 0 (directorySectors g d)))
 
--- a room that is there: an empty slot, or a free sector of track 18
+-- a place that is there: an empty slot, or a free sector of track 18
 abbrev pub PlaceCase : Geometry → Disk → SlotPlace → Type 0
 PlaceCase g d (inEmptySlot s) = List·Memᴰ s (emptySlots g d)
 PlaceCase g d (inNewSector r) = List·Memᴰ r (freeForDirectory g d)
 
-pub place-case : (g : Geometry) (d : Disk) (room : SlotPlace) → slotPlaceFor g d ≡ done room → PlaceCase g d room
+pub place-case : (g : Geometry) (d : Disk) (place : SlotPlace) → slotPlaceFor g d ≡ done place → PlaceCase g d place
 unfolding slotPlaceFor first
-place-case g d room e = go (emptySlots g d) (freeForDirectory g d) refl refl e
+place-case g d place e = go (emptySlots g d) (freeForDirectory g d) refl refl e
   where
     go : (x : List Slot) (y : List Address) → emptySlots g d ≡ x → freeForDirectory g d ≡ y
-        → (elim x as (λ z. Result SlotPlace) [ [] ↦ first directoryFull y >>= (λ r. done (inNewSector r)) | s ∷ l ↦ done (inEmptySlot s) ]) ≡ done room → PlaceCase g d room
-    go [] [] p q h = refused≢done directoryFull room h
+        → (elim x as (λ z. Result SlotPlace) [ [] ↦ first directoryFull y >>= (λ r. done (inNewSector r)) | s ∷ l ↦ done (inEmptySlot s) ]) ≡ done place → PlaceCase g d place
+    go [] [] p q h = refused≢done directoryFull place h
     go [] (r ∷ y) p q h = subst (PlaceCase g d) (done-inj h) (rw q (List·Memᴰ·head refl))
     go (s ∷ x) y p q h = subst (PlaceCase g d) (done-inj h) (rw p (List·Memᴰ·head refl))
-
--- the directory's new sector
-abbrev pub extraOf : Geometry → SlotPlace → List ℕ
-extraOf g (inEmptySlot s) = []
-extraOf g (inNewSector q) = sectorNumber g q ∷ []
 
 -- ---- the reply
 
@@ -163,32 +159,20 @@ module _ (g : Geometry) (v : Valid g) (img : Bytes) (a : Accepted g img) (name :
   sound : Sound g d
   sound = sound-of g d (a .content)
 
-  by-entered : (extra : List ℕ) → ((n : ℕ) → claimCount g d n + count n (map (sectorNumber g) (r ∷ l)) + count n extra ≤ 1) → (d2 : Disk) → Entered g d d1 d2 entry extra
-      → (p : HostReply) → p .number ≡ 0 → p .imageAfter ≡ image g (rewriteMap g d2) → StepHolds g img (store name kind bs) p
-  unfolding plainListAfter
-  by-entered extra room d2 e p n z =
-      disk-step g img (store name kind bs) p (rewriteMap g d2) z
-      (store-whole g v d sound r l (taken .on) extra room bs fits name kind asked kind-asked new d2 e)
-      (store-accepted g v d sound r l (taken .on) extra room bs fits name kind asked kind-asked new d2 e)
-      (rw n (store-plainList g v d sound r l (taken .on) extra room bs fits name kind asked kind-asked new d2 e))
-      (λ m b o f. absurd (omega (arith, store-claims g v d sound r l (taken .on) extra room bs fits name kind asked kind-asked new d2 e m)))
-      (λ m b o f y. store-kept g v d sound r l (taken .on) extra room bs fits name kind asked kind-asked new d2 e m f ∙ y)
-      tt
-
-  pub w1 : Whole g d1
+  w1 : Whole g d1
   w1 = writeChain-whole g (r ∷ l) bs d (taken .on) fits (disk-whole g img (a .size))
 
   -- a sector of the directory is not taken
-  pub directory-stay : (n : ℕ) → 0 < count n (map (sectorNumber g) (directorySectors g d)) → d n ≡ d1 n
+  directory-stay : (n : ℕ) → 0 < count n (map (sectorNumber g) (directorySectors g d)) → d n ≡ d1 n
   directory-stay n h = sym (writeChain-other g (r ∷ l) bs d n (elim (decLe 1 (count n (map (sectorNumber g) (r ∷ l)))) [
     | yes k ↦ absurd (omega (arith, taken .free n k, claimCount-of g d n))
     | no k ↦ omega arith
   ]))
 
-  pub len : length entry ≡ 30
+  len : length entry ≡ 30
   len = entry-length name kind r (length (r ∷ l)) asked kind-asked
 
-  pub plain-room : (n : ℕ) → claimCount g d n + count n (map (sectorNumber g) (r ∷ l)) ≤ 1
+  plain-room : (n : ℕ) → claimCount g d n + count n (map (sectorNumber g) (r ∷ l)) ≤ 1
   plain-room n = elim (decLe 1 (count n (map (sectorNumber g) (r ∷ l)))) [
     | yes k ↦ omega (arith, taken .free n k, taken .few n)
     | no k ↦ omega (arith, sound .once n)
@@ -209,12 +193,12 @@ module _ (g : Geometry) (v : Valid g) (img : Bytes) (a : Accepted g img) (name :
   not-map zero h = absurd (let z : indicator (eqb (sectorNumber g mapAddress) (sectorNumber g mapAddress)) ≡ 1 = rw (eq-eqb (sectorNumber g mapAddress) (sectorNumber g mapAddress) refl) in omega (arith, claimCount-of g d (sectorNumber g mapAddress)))
   not-map (suc t) h = omega arith
 
-  -- the entry is made, and the directory may grow
-  pub record Made (room : SlotPlace) : Type 0 where
-    pub free : (n : ℕ) → claimCount g d n + count n (map (sectorNumber g) (r ∷ l)) + count n (extraOf g room) ≤ 1
-    pub entered : Entered g d d1 (writeSlot g d1 room entry) entry (extraOf g room)
+  -- the entry is made at its place
+  record Made (place : SlotPlace) : Type 0 where
+    free : (n : ℕ) → claimCount g d n + count n (map (sectorNumber g) (r ∷ l)) + count n (map (sectorNumber g) (addedSectors place)) ≤ 1
+    entered : Entered g d d1 (writeSlot g d1 place entry) entry place
 
-  pub made : (room : SlotPlace) → PlaceCase g d room → Made room
+  made : (place : SlotPlace) → PlaceCase g d place → Made place
   unfolding writeSlot freeForDirectory sectorsOfTrack
   made (inEmptySlot s) m =
       let q = slot-place g d s m in
@@ -230,8 +214,16 @@ module _ (g : Geometry) (v : Valid g) (img : Bytes) (a : Accepted g img) (name :
         entered = at-new g v d sound d1 w1 directory-stay entry len (t .0) (rw (t .2) on) (not-map (t .0) (rw (t .2) free)) (rw (t .2) free);
       })
 
-  by-room : (room : SlotPlace) → PlaceCase g d room → (p : HostReply) → p .number ≡ 0 → p .imageAfter ≡ image g (rewriteMap g (writeSlot g d1 room entry)) → StepHolds g img (store name kind bs) p
-  by-room room c p n z = let k : Made room = made room c in by-entered (extraOf g room) (k .free) (writeSlot g d1 room entry) (k .entered) p n z
+  pub stored : (place : SlotPlace) → PlaceCase g d place → StoreLeaves g d (writeSlot g d1 place entry) place (r ∷ l) entry (record { name = name; kind = kind; content = bs })
+  stored place c = let k : Made place = made place c in store-leaves g v d sound r l (taken .on) place (k .free) bs fits name kind asked kind-asked new (writeSlot g d1 place entry) (k .entered)
+
+  by-place : (place : SlotPlace) → PlaceCase g d place → (p : HostReply) → p .number ≡ 0 → p .imageAfter ≡ image g (rewriteMap g (writeSlot g d1 place entry)) → StepHolds g img (store name kind bs) p
+  unfolding plainListAfter
+  by-place place c p n z =
+      let d2 : Disk = writeSlot g d1 place entry in
+      let k = stored place c in
+      disk-step g img (store name kind bs) p (rewriteMap g d2) z (rewrite-whole g v d2 (k .prepared .whole) (k .prepared .sound)) (rewrite-accepted g v d2 (k .prepared .whole) (k .prepared .sound))
+      (rw n (k .holds)) (λ m b o f. absurd (omega (arith, k .claims m))) (λ m b o f y. k .kept m f ∙ y) tt
 
 -- ---- the call
 
@@ -244,21 +236,25 @@ unfolding sectorsNeeded
 some-sector zero = omega arith
 some-sector (suc n) = rw (ne-eqb (suc n) 0 (λ e. omega arith)) (omega arith)
 
+pub store-new : {g : Geometry} {img name : Bytes} {kind : ℕ} {bs : Bytes} {ch : Change} → StoreDone g img name kind bs ch → nameCount name (map (λ f. nameOf (f .slot .bytes)) (files g (disk img))) ≡ 0
+store-new {g} {img} {name} h = sym (filesNamed-count name (files g (disk img))) ∙ h .absent
+
+pub store-enough : {g : Geometry} {img name : Bytes} {kind : ℕ} {bs : Bytes} {ch : Change} → StoreDone g img name kind bs ch → length (placement g (disk img) (sectorsNeeded (length bs))) ≡ sectorsNeeded (length bs)
+store-enough {g} {img} {bs = bs} h = placement-length g (disk img) (sectorsNeeded (length bs)) (h .room)
+
 by-placement : (g : Geometry) (v : Valid g) (img : Bytes) (a : Accepted g img) (name : Bytes) (kind : ℕ) (bs : Bytes)
     → validNameArgument name ≡ true → validKind kind ≡ true → nameCount name (map (λ f. nameOf (f .slot .bytes)) (files g (disk img))) ≡ 0
-    → (l : List Address) → Taken g (disk img) l → length l ≡ sectorsNeeded (length bs) → (room : SlotPlace) → PlaceCase g (disk img) room
-    → (p : HostReply) → p .number ≡ 0 → p .imageAfter ≡ image g (storedDisk g (disk img) room l name kind bs) → StepHolds g img (store name kind bs) p
+    → (l : List Address) → Taken g (disk img) l → length l ≡ sectorsNeeded (length bs) → (place : SlotPlace) → PlaceCase g (disk img) place
+    → (p : HostReply) → p .number ≡ 0 → p .imageAfter ≡ image g (storedDisk g (disk img) place l name kind bs) → StepHolds g img (store name kind bs) p
 unfolding storedDisk
-by-placement g v img a name kind bs asked kind-asked new [] t e room c p n z = absurd (omega (arith, some-sector (length bs)))
-by-placement g v img a name kind bs asked kind-asked new (r ∷ l) t e room c p n z =
-    by-room g v img a name kind bs asked kind-asked new r l t (sectors-fit (r ∷ l) (length bs) (sym e)) room c p n z
+by-placement g v img a name kind bs asked kind-asked new [] t e place c p n z = absurd (omega (arith, some-sector (length bs)))
+by-placement g v img a name kind bs asked kind-asked new (r ∷ l) t e place c p n z =
+    by-place g v img a name kind bs asked kind-asked new r l t (sectors-fit (r ∷ l) (length bs) (sym e)) place c p n z
 
 pub store-step : (g : Geometry) → Valid g → (img : Bytes) → Accepted g img → (name : Bytes) (kind : ℕ) (bs : Bytes) (ch : Change)
     → callStore g img name kind bs ≡ done ch → StepHolds g img (store name kind bs) (hostReply (reply img [] (done ch)))
 unfolding reply
 store-step g v img a name kind bs ch e =
-    let h = store-done g img name kind bs ch e in
-    by-placement g v img a name kind bs (h .asked) (h .kind-asked) (sym (filesNamed-count name (files g (disk img))) ∙ eqb-true (length (filesNamed name (files g (disk img)))) 0 (h .absent))
-    (placement g (disk img) (sectorsNeeded (length bs))) (placement-taken g (disk img) (sectorsNeeded (length bs)))
-    (placement-length g (disk img) (sectorsNeeded (length bs)) (leb-true (sectorsNeeded (length bs)) (length (freeForFiles g (disk img))) (h .room)))
+    let h : StoreDone g img name kind bs ch = store-done g img name kind bs ch e in
+    by-placement g v img a name kind bs (h .asked) (h .kind-asked) (store-new h) (placement g (disk img) (sectorsNeeded (length bs))) (placement-taken g (disk img) (sectorsNeeded (length bs))) (store-enough h)
     (h .place) (place-case g (disk img) (h .place) (h .found)) (hostReply (reply img [] (done ch))) refl (ap (λ (x : Change). x .imageAfter) (sym (h .change)))

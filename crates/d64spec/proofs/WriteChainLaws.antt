@@ -14,9 +14,9 @@ use Rattle.d64spec.specs.Geometry.{Geometry, onDisk, sectorNumber, secto
 use Rattle.d64spec.specs.Image.{Disk, put}
 use Rattle.d64spec.specs.Chain.{Chain, chainData, decodeFileLink, ends, fileLink, linkTo, to}
 use Rattle.d64spec.specs.Store.{sectorsNeeded, writeChain}
+use Rattle.d64spec.specs.Changes.{DataWritten}
 use Rattle.d64spec.proofs.BoundLaws.{sectorNumber-lt}
-use Rattle.d64spec.proofs.ChainLaws.{chain-frame, data-frame}
-use Rattle.d64spec.proofs.FrameLaws.{all-of-count}
+use Rattle.d64spec.proofs.FrameLaws.{Agree, all-of-count}
 use Rattle.d64spec.proofs.ImageLaws.{Whole, put-same, put-other, put-whole}
 
 -- n bytes fill these sectors, all but the last to the end
@@ -92,31 +92,42 @@ module _ (g : Geometry) where
   apart : (r : Address) (l : List Address) → ((m : ℕ) → count m (map (sectorNumber g) (r ∷ l)) ≤ 1) → (n : ℕ) → 0 < count n (map (sectorNumber g) l) → n ≡ sectorNumber g r → ⊥
   apart r l u n h e = let z : indicator (eqb n (sectorNumber g r)) ≡ 1 = rw (eq-eqb n (sectorNumber g r) e) in omega (arith, u n)
 
-  pub writeChain-chain : (r : Address) (l : List Address) (bs : Bytes) (d : Disk) → All (λ x. onDisk g x ≡ true) (r ∷ l) → ((m : ℕ) → count m (map (sectorNumber g) (r ∷ l)) ≤ 1)
-      → Chain g (fileLink g) (writeChain g (r ∷ l) bs d) (to r) (r ∷ l)
-  writeChain-chain r [] bs d a u = (refl, ap (fileLink g) (put-same d (sectorNumber g r) (lastPart bs)) ∙ link-last bs)
-  writeChain-chain r (q ∷ l) bs d a u =
+  -- ---- what is laid along the sectors
+
+  written-frame : (d e : Disk) (l : List Address) (bs : Bytes) → All (λ r. d (sectorNumber g r) ≡ e (sectorNumber g r)) l → DataWritten g d l bs → DataWritten g e l bs
+  written-frame d e [] bs a w = w
+  written-frame d e (r ∷ []) bs a w = sym (a .0) ∙ w
+  written-frame d e (r ∷ q ∷ l) bs a w = (sym (a .0) ∙ w .0, written-frame d e (q ∷ l) (drop 254 bs) (a .1) (w .1))
+
+  pub written-agree : (d e : Disk) (l : List Address) (bs : Bytes) → Agree g d e (map (sectorNumber g) l) → DataWritten g d l bs → DataWritten g e l bs
+  written-agree d e l bs a w = written-frame d e l bs (all-of-count g (λ n. d n ≡ e n) l a) w
+
+  pub writeChain-written : (r : Address) (l : List Address) (bs : Bytes) (d : Disk) → ((m : ℕ) → count m (map (sectorNumber g) (r ∷ l)) ≤ 1) → DataWritten g (writeChain g (r ∷ l) bs d) (r ∷ l) bs
+  writeChain-written r [] bs d u = put-same d (sectorNumber g r) (lastPart bs)
+  writeChain-written r (q ∷ l) bs d u =
       let e : Disk = writeChain g (q ∷ l) (drop 254 bs) d in
-      let x : Bytes = q .track ∷ q .sector ∷ take 254 bs in
-      let s : fileLink g (put e (sectorNumber g r) x (sectorNumber g r)) ≡ to q = ap (fileLink g) (put-same e (sectorNumber g r) x) ∙ link-to q (take 254 bs) (a .1 .0) in
-      let c = writeChain-chain q l (drop 254 bs) d (a .1) (λ m. omega (arith, u m)) in (
-        refl,
-        rw s (chain-frame g (fileLink g) e (put e (sectorNumber g r) x) (to q) (q ∷ l)
-            (all-of-count g (λ n. fileLink g (e n) ≡ fileLink g (put e (sectorNumber g r) x n)) (q ∷ l) (λ n h. ap (fileLink g) (sym (put-other e (sectorNumber g r) x n (apart r (q ∷ l) u n h))))) c),
+      let x : Bytes = q .track ∷ q .sector ∷ take 254 bs in (
+        put-same e (sectorNumber g r) x,
+        written-agree e (put e (sectorNumber g r) x) (q ∷ l) (drop 254 bs) (λ n h. sym (put-other e (sectorNumber g r) x n (apart r (q ∷ l) u n h)))
+            (writeChain-written q l (drop 254 bs) d (λ m. omega (arith, u m))),
       )
 
-  pub writeChain-data : (l : List Address) (bs : Bytes) (d : Disk) → ((m : ℕ) → count m (map (sectorNumber g) l) ≤ 1) → Fits l (length bs) → chainData g (writeChain g l bs d) l ≡ bs
-  writeChain-data [] bs d u h = absurd h
-  writeChain-data (r ∷ []) bs d u h =
+  -- a chain,
+  pub written-chain : (d : Disk) (r : Address) (l : List Address) (bs : Bytes) → All (λ x. onDisk g x ≡ true) (r ∷ l) → DataWritten g d (r ∷ l) bs → Chain g (fileLink g) d (to r) (r ∷ l)
+  written-chain d r [] bs a w = (refl, ap (fileLink g) w ∙ link-last bs)
+  written-chain d r (q ∷ l) bs a w =
+      let s : fileLink g (d (sectorNumber g r)) ≡ to q = ap (fileLink g) (w .0) ∙ link-to q (take 254 bs) (a .1 .0) in
+      (refl, rw s (written-chain d q l (drop 254 bs) (a .1) (w .1)))
+
+  -- which holds these bytes
+  pub written-data : (d : Disk) (l : List Address) (bs : Bytes) → DataWritten g d l bs → Fits l (length bs) → chainData g d l ≡ bs
+  written-data d [] bs w h = absurd h
+  written-data d (r ∷ []) bs w h =
       let z : suc (length bs) + 1 - 2 ≡ length bs = omega arith in
-      ap (λ (x : Bytes). part 2 (byte x 1) x) (put-same d (sectorNumber g r) (lastPart bs))
+      ap (λ (x : Bytes). part 2 (byte x 1) x) w
       ∙ ap (λ (n : ℕ). take n (bs ++ zeros (254 - length bs))) z
       ∙ take-at bs (zeros (254 - length bs)) (length bs) refl
-  writeChain-data (r ∷ q ∷ l) bs d u h =
-      let e : Disk = writeChain g (q ∷ l) (drop 254 bs) d in
-      let x : Bytes = q .track ∷ q .sector ∷ take 254 bs in
-      ap₂ (λ (y z : Bytes). part 2 255 y ++ z) (put-same e (sectorNumber g r) x)
-      (sym (data-frame g e (put e (sectorNumber g r) x) (q ∷ l) (all-of-count g (λ n. e n ≡ put e (sectorNumber g r) x n) (q ∷ l) (λ n k. sym (put-other e (sectorNumber g r) x n (apart r (q ∷ l) u n k)))))
-      ∙ writeChain-data (q ∷ l) (drop 254 bs) d (λ m. omega (arith, u m)) (rw (rest-length bs (h .0)) (h .1)))
+  written-data d (r ∷ q ∷ l) bs w h =
+      ap₂ (λ (y z : Bytes). part 2 255 y ++ z) (w .0) (written-data d (q ∷ l) (drop 254 bs) (w .1) (rw (rest-length bs (h .0)) (h .1)))
       ∙ ap (λ (y : Bytes). y ++ drop 254 bs) (take-all 254 (take 254 bs) (omega (arith, length-take-le 254 bs (h .0))))
       ∙ take-append-drop 254 bs

@@ -1,87 +1,40 @@
 -- Where the new entry goes: an empty slot, or a new directory sector.
 use Prim.Native.Nat.{ℕ, suc, _+_, _*_, _≤_, _<_}
 use native.Mathlib.Omega.{arith}
+use native.Mathlib.Decide.{decLe}
 use mathlib.Core.Path.{_≡_, refl, sym, ap, ap₂, _∙_}
 use mathlib.Core.Bool.{Bool, true, false, cond}
-use mathlib.Core.List.{List, [], _∷_, _++_, map, append-nil, append-assoc}
-use lib.ListN.{length, length-replicate}
+use mathlib.Core.Logic.{inl, inr}
+use mathlib.Core.List.{List, [], _∷_, _++_, map, append-nil}
+use lib.ListN.{length, drop, length-replicate}
 use lib.Dec.{eqb}
 use borrow.Author.Tests.{eq-eqb, eqb-true, eqb-false, lt-ltb}
-use Rattle.d64spec.specs.Lists.{All, Bytes, count, filter, indicator, range, splice}
+use Rattle.d64spec.specs.Lists.{All, Bytes, byte, count, filter, indicator, part, range, splice, zeros}
 use Rattle.d64spec.specs.Answers.{Address, address}
 use Rattle.d64spec.specs.Geometry.{Geometry, Valid, directoryStart, onDisk, sectorNumber, total}
 use Rattle.d64spec.specs.Image.{Disk, put}
-use Rattle.d64spec.specs.Chain.{Chain, Link, decodeDirectoryLink, directoryLink, ends, to}
+use Rattle.d64spec.specs.Chain.{Chain, decodeDirectoryLink, directoryLink, ends, to}
 use Rattle.d64spec.specs.Directory.{Slot, directorySectors, occupied, slotIn, slotsFrom, slotsIn}
 use Rattle.d64spec.specs.Owner.{claimCount}
 use Rattle.d64spec.specs.Format.{emptyDirectorySector}
-use Rattle.d64spec.specs.Store.{growDirectory, lastOf, overwriteSlot}
+use Rattle.d64spec.specs.Store.{growDirectory, inEmptySlot, inNewSector, lastOf, overwriteSlot}
+use Rattle.d64spec.specs.Changes.{EntryWrites}
 use Rattle.d64spec.proofs.ListLaws.{count-append}
 use Rattle.d64spec.proofs.BoundLaws.{directoryLink-on, sectorNumber-lt}
 use Rattle.d64spec.proofs.ChainLaws.{chain-frame}
 use Rattle.d64spec.proofs.WalkLaws.{chain-met}
 use Rattle.d64spec.proofs.FrameLaws.{Sound, all-of-count, all-map, same-directory, same-slots}
-use Rattle.d64spec.proofs.SpliceLaws.{length-splice, part-after}
+use Rattle.d64spec.proofs.SpliceLaws.{length-splice, splice-after}
 use Rattle.d64spec.proofs.ImageLaws.{Whole, put-same, put-other, put-whole}
-use Rattle.d64spec.proofs.SplitLaws.{filter-append, map-append, map-range}
-use Rattle.d64spec.proofs.SlotLaws.{slot-bytes-at, withBytes, slot-whole, slot-other, slot-link, slots-written, Placed}
+use Rattle.d64spec.proofs.SplitLaws.{filter-append, map-append}
+use Rattle.d64spec.proofs.SlotLaws.{withBytes, slot-whole, slot-other, slot-same, slot-written, slot-rest, slot-link, slots-written, Placed}
 use Rattle.d64spec.proofs.ScratchLaws.{isOccupied, claimCount-of, of-count, directory-on}
 use Rattle.d64spec.proofs.WriteChainLaws.{link-is}
+use Rattle.d64spec.proofs.GrowLaws.{last-in, chain-grow, link-slots, slots-alike, slots-append, fresh-slots, fresh-unused}
 use Rattle.d64spec.proofs.StoreLaws.{Entered}
 
 plus-zero : (n : ℕ) → n + 0 ≡ n
 plus-zero n = omega arith
-
--- ---- a chain that grows at its end
-
-module _ (g : Geometry) where
-  pub last-in : (x : Address) (l : List Address) → 1 ≤ length l → 0 < count (sectorNumber g (lastOf x l)) (map (sectorNumber g) l)
-  unfolding lastOf
-  last-in x [] h = absurd (omega arith)
-  last-in x (q ∷ []) h = let z : indicator (eqb (sectorNumber g q) (sectorNumber g q)) ≡ 1 = rw (eq-eqb (sectorNumber g q) (sectorNumber g q) refl) in omega arith
-  last-in x (q ∷ p ∷ l) h = omega (arith, last-in q (p ∷ l) (omega arith))
-
-  module _ (step : Bytes → Link) (d e : Disk) (r : Address) where
-    chain-grow : (x : Address) (k : Link) (l : List Address) → 1 ≤ length l → Chain g step d k l → ((m : ℕ) → count m (map (sectorNumber g) l) ≤ 1)
-        → ((n : ℕ) → 0 < count n (map (sectorNumber g) l) → (n ≡ sectorNumber g (lastOf x l) → ⊥) → step (d n) ≡ step (e n))
-        → step (e (sectorNumber g (lastOf x l))) ≡ to r → step (e (sectorNumber g r)) ≡ ends → Chain g step e k (l ++ r ∷ [])
-    unfolding lastOf
-    chain-grow x k [] p c u f h z = absurd (omega arith)
-    chain-grow x k (q ∷ []) p c u f h z = (c .0, (h, z))
-    chain-grow x k (q ∷ q′ ∷ l) p c u f h z =
-        let self : indicator (eqb (sectorNumber g q) (sectorNumber g q)) ≡ 1 = rw (eq-eqb (sectorNumber g q) (sectorNumber g q) refl) in
-        let other : sectorNumber g q ≡ sectorNumber g (lastOf q (q′ ∷ l)) → ⊥
-        = λ y. (let i : 0 < count (sectorNumber g q) (map (sectorNumber g) (q′ ∷ l)) = rw y (last-in q (q′ ∷ l) (omega arith)) in omega (arith, u (sectorNumber g q))) in
-        let s : step (d (sectorNumber g q)) ≡ step (e (sectorNumber g q)) = f (sectorNumber g q) (omega arith) other in
-        (c .0, rw s at (chain-grow q (step (d (sectorNumber g q))) (q′ ∷ l) (omega arith) (c .1) (λ m. omega (arith, u m)) (λ n i j. f n (omega arith) j) h z))
-
--- the slots of a sector whose link alone changes
-link-slots : (b : Bytes) (t s : ℕ) (x : Address) (n : ℕ) → 2 ≤ length b → slotsIn (splice b 0 (t ∷ s ∷ [])) x n ≡ slotsIn b x n
-unfolding slotsIn slotIn
-link-slots b t s x n h =
-    map-range (slotIn (splice b 0 (t ∷ s ∷ [])) x n) (slotIn b x n) 0 8
-    (λ i l u. ap (λ (y : Bytes). record { holder = x; index = i; number = n + i; bytes = y }) (slot-bytes-at (splice b 0 (t ∷ s ∷ [])) i ∙ part-after b 0 (t ∷ s ∷ []) h (32 * i + 2) 30 (omega arith) ∙ sym (slot-bytes-at b i)))
-
-slots-alike : (g : Geometry) (d e : Disk) (n : ℕ) (l : List Address) → ((x : Address) (m : ℕ) → 0 < count (sectorNumber g x) (map (sectorNumber g) l) → slotsIn (e (sectorNumber g x)) x m ≡ slotsIn (d (sectorNumber g x)) x m)
-    → slotsFrom g e n l ≡ slotsFrom g d n l
-slots-alike g d e n [] f = refl
-slots-alike g d e n (x ∷ l) f =
-    let z : indicator (eqb (sectorNumber g x) (sectorNumber g x)) ≡ 1 = rw (eq-eqb (sectorNumber g x) (sectorNumber g x) refl) in
-    ap₂ (λ (y w : List Slot). y ++ w) (f x n (omega arith)) (slots-alike g d e (n + 8) l (λ q m h. f q m (omega arith)))
-
-slots-append : (g : Geometry) (e : Disk) (n : ℕ) (l : List Address) (r : Address) → (m : ℕ) × (slotsFrom g e n (l ++ r ∷ []) ≡ slotsFrom g e n l ++ slotsIn (e (sectorNumber g r)) r m)
-slots-append g e n [] r = (n, append-nil (slotsIn (e (sectorNumber g r)) r n))
-slots-append g e n (x ∷ l) r =
-    let i = slots-append g e (n + 8) l r in
-    (i .0, ap (λ (y : List Slot). slotsIn (e (sectorNumber g x)) x n ++ y) (i .1) ∙ sym (append-assoc (slotsIn (e (sectorNumber g x)) x n) (slotsFrom g e (n + 8) l) (slotsIn (e (sectorNumber g r)) r (i .0))))
-
-fresh-slots : (r : Address) (m : ℕ) → slotsIn emptyDirectorySector r m ≡ slotIn emptyDirectorySector r m 0 ∷ map (slotIn emptyDirectorySector r m) (range 1 7)
-unfolding slotsIn
-fresh-slots r m = refl
-
-fresh-unused : (r : Address) (m : ℕ) → filter isOccupied (map (slotIn emptyDirectorySector r m) (range 1 7)) ≡ []
-unfolding slotIn
-fresh-unused r m = refl
 
 -- d1 has d's directory
 module _ (g : Geometry) (v : Valid g) (d : Disk) (a : Sound g d) (d1 : Disk) (w1 : Whole g d1)
@@ -115,7 +68,7 @@ module _ (g : Geometry) (v : Valid g) (d : Disk) (a : Sound g d) (d1 : Disk) (w1
     unfolding occupied
     old-slots = ap (filter isOccupied) whole ∙ filter-append isOccupied front (s ∷ back) ∙ ap (λ (c : Bool). filter isOccupied front ++ cond c (s ∷ filter isOccupied back) (filter isOccupied back)) unused
 
-    pub in-slot : Entered g d d1 d2 entry []
+    pub in-slot : Entered g d d1 d2 entry (inEmptySlot s)
     in-slot = record {
       front = front;
       back = back;
@@ -129,6 +82,8 @@ module _ (g : Geometry) (v : Valid g) (d : Disk) (a : Sound g d) (d1 : Disk) (w1
       old = sym old-slots;
       other = λ n h. slot-other g d1 w1 (s .holder) at-on (s .index) (placed .place) entry len n
           (λ z. let y : 0 < count n (map (sectorNumber g) (directorySectors g d)) = rw z (placed .sector) in let k : count n (map (sectorNumber g) (directorySectors g d)) ≡ 0 = rw dirs2 at h in omega arith);
+      written = λ x f. ap (λ (y : Bytes). part 0x02 0x1F (drop (32 * s .index) y)) (f (sectorNumber g (s .holder)) (rw dirs2 (placed .sector))) ∙ slot-written g d1 w1 (s .holder) at-on (s .index) (placed .place) entry len;
+      rest = slot-rest g d1 w1 (s .holder) at-on (s .index) (placed .place) entry len;
     }
 
   -- ---- in a new directory sector
@@ -269,11 +224,31 @@ module _ (g : Geometry) (v : Valid g) (d : Disk) (a : Sound g d) (d1 : Disk) (w1
         slots-written g e e-whole r (sectorNumber-lt g r on) 0 (omega arith) entry len (directorySectors g d ++ r ∷ []) (slotIn emptyDirectorySector r number 0) (slotsFrom g d 0 (directorySectors g d)) back
         (ap (slotsFrom g e 0) (sym directory-e) ∙ slots-e) refl refl (grown-few (sectorNumber g r))
 
+    self : indicator (eqb (sectorNumber g r) (sectorNumber g r)) ≡ 1
+    self = rw (eq-eqb (sectorNumber g r) (sectorNumber g r) refl)
+
+    new-sector : d3 (sectorNumber g r) ≡ 0x00 ∷ 0xFF ∷ (entry ++ zeros 224)
+    new-sector =
+        slot-same g e e-whole r (sectorNumber-lt g r on) 0 (omega arith) entry len ∙ ap (λ (x : Bytes). splice x 2 entry) e-r
+        ∙ ap (λ (k : ℕ). 0x00 ∷ 0xFF ∷ (entry ++ drop (2 + k) emptyDirectorySector)) len
+
+    -- of the old sectors only the last one's link changes
+    grown-rest : (n i : ℕ) → (EntryWrites g d (inNewSector r) n i → ⊥) → byte (e n) i ≡ byte (d1 n) i
+    grown-rest n i out = go (eqb n (sectorNumber g q)) refl
+      where
+        go : (b : Bool) → eqb n (sectorNumber g q) ≡ b → byte (e n) i ≡ byte (d1 n) i
+        go true z =
+            let y : n ≡ sectorNumber g q = eqb-true n (sectorNumber g q) z in
+            let past : 2 ≤ i = elim (decLe 2 i) [ yes h ↦ h | no h ↦ absurd (out (inr (y, omega arith))) ] in
+            ap (λ (m : ℕ). byte (e m) i) y ∙ ap (λ (x : Bytes). byte x i) (e-q ∙ linked-is)
+            ∙ splice-after (d1 (sectorNumber g q)) 0 (18 ∷ t ∷ []) (omega (arith, w1 .full (sectorNumber g q) q-on)) i past ∙ ap (λ (m : ℕ). byte (d1 m) i) (sym y)
+        go false z = ap (λ (x : Bytes). byte x i) (e-other n (eqb-false n (sectorNumber g q) z) (λ y. out (inl y)))
+
     old3 : filter isOccupied (slotsFrom g d 0 (directorySectors g d)) ++ filter isOccupied back ≡ occupied g d
     unfolding occupied
     old3 = ap (λ (x : List Slot). occupied g d ++ x) (fresh-unused r number) ∙ append-nil (occupied g d)
 
-    pub at-new : Entered g d d1 d3 entry (sectorNumber g r ∷ [])
+    pub at-new : Entered g d d1 d3 entry (inNewSector r)
     at-new = record {
       front = slotsFrom g d 0 (directorySectors g d);
       back = back;
@@ -289,4 +264,9 @@ module _ (g : Geometry) (v : Valid g) (d : Disk) (a : Sound g d) (d1 : Disk) (w1
           let nr : n ≡ sectorNumber g r → ⊥ = λ z. (let y : indicator (eqb n (sectorNumber g r)) ≡ 1 = rw (eq-eqb n (sectorNumber g r) z) in omega (arith, grown-once n)) in
           slot-other g e e-whole r (sectorNumber-lt g r on) 0 (omega arith) entry len n nr
           ∙ e-other n (λ z. let y : 0 < count n (map (sectorNumber g) (directorySectors g d)) = rw z q-in in omega (arith, grown-once n)) nr;
+      written = λ x f. (
+        f (sectorNumber g r) (rw dirs3 (omega (arith, grown-once (sectorNumber g r), self))) ∙ new-sector,
+        ap (part 0x00 0x01) (f (sectorNumber g q) (rw dirs3 (omega (arith, grown-once (sectorNumber g q), q-in))) ∙ slot-other g e e-whole r (sectorNumber-lt g r on) 0 (omega arith) entry len (sectorNumber g q) (λ z. r-q (sym z)) ∙ e-q ∙ linked-is),
+      );
+      rest = λ n i out. ap (λ (x : Bytes). byte x i) (slot-other g e e-whole r (sectorNumber-lt g r on) 0 (omega arith) entry len n (λ z. out (inl z))) ∙ grown-rest n i out;
     }

@@ -16,7 +16,7 @@ use Rattle.d64spec.specs.Accepted.{Accepted}
 use Rattle.d64spec.specs.Store.{sectorsNeeded, emptySlots}
 use Rattle.d64spec.specs.Listing.{track18, listingText}
 use Rattle.d64spec.specs.Order.{ClaimsOnce}
-use Rattle.d64spec.specs.Facts.{IsName, IsKind, MayWrite}
+use Rattle.d64spec.specs.Rules.{IsName, IsKind, MayWrite}
 
 -- a format is done: only 1 and 9 refuse it (01, Format)
 pub record Formattable (g : Geometry) (img name : Bytes) : Type 0 where

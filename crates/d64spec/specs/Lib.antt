@@ -4,6 +4,7 @@ pub mod Geometry
 pub mod Image
 pub mod Chain
 pub mod Directory
+pub mod Rules
 pub mod Owner
 pub mod Map
 pub mod Check

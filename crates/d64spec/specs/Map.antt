@@ -1,6 +1,6 @@
 -- The block availability map (01, The map, 18/0): for each track a count of free sectors and three bitmap bytes.
 -- In order: what a map sector m says; what an entry is expected to say, given which sectors are free; the map rewritten from the owners.
--- Laws: proofs/MapLaws (exact), MapWriteLaws (a rewritten map is right), MapEntryLaws (and no other entry changes).
+-- Laws: proofs/MapLaws (exact), MapWriteLaws (a rewritten map is right), MapEntryLaws and MapBytes (no other byte of its sector changes).
 use Prim.Native.Nat.{ℕ, _+_, _*_, _/_, _%_, _^_}
 use mathlib.Core.Bool.{Bool, _&&_, not}
 use mathlib.Core.List.{List, [], _∷_, map}

@@ -1,4 +1,4 @@
--- The tests of the calls agree with document 01's facts (specs/Facts), each stated apart from the tests' own text.
+-- The tests of the calls agree with document 01's facts (specs/Rules), each stated apart from the tests' own text.
 use Prim.Native.Nat.{ℕ, zero, suc, _+_, _*_, _-_, _/_, _%_, _≤_, _<_}
 use native.Mathlib.Omega.{arith}
 use mathlib.Core.Path.{_≡_, refl, sym, ap, ap₂, _∙_}
@@ -18,8 +18,8 @@ use Rattle.d64spec.specs.Answers.{plain}
 use Rattle.d64spec.specs.Geometry.{Geometry, mapAddress, sectorNumber}
 use Rattle.d64spec.specs.Image.{Disk}
 use Rattle.d64spec.specs.Directory.{nameField, nameOf, padded, validName, validType}
+use Rattle.d64spec.specs.Rules.{HoldsName, IsKind, IsName, MayWrite, typeBytes}
 use Rattle.d64spec.specs.Reply.{validKind, validNameArgument, writable}
-use Rattle.d64spec.specs.Facts.{HoldsName, IsKind, IsName, MayWrite, typeBytes}
 
 -- THE TYPE BYTES THAT ARE CARRIED, of all 256
 pub types-are : filter validType (range 0 256) ≡ typeBytes

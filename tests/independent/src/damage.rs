@@ -1,0 +1,493 @@
+//! Plants faults in sound images (01, Order of the check; Answer numbers).
+//!
+//! A fault is a few byte writes, with the answer that the check owes for it
+//! and its rank in the order of the check. Of two faults that touch no byte
+//! in common, the one of lower rank is the answer.
+
+use crate::answer::Answer;
+use crate::naive::track_length;
+use crate::rng::Rng;
+use crate::sound::{not_pad, offset, slot_offset, Plan, Planned};
+
+/// Step, then directory sector, slot or track, then the part of the slot,
+/// then the link.
+pub type Rank = (u8, usize, u8, usize);
+
+#[derive(Clone, Debug)]
+pub struct Fault {
+    pub writes: Vec<(usize, u8)>,
+    pub answer: Answer,
+    pub rank: Rank,
+    /// The check meets it at the bytes written, and not later on.
+    pub immediate: bool,
+}
+
+/// A way to plant a fault; `None` if the image has no place for it.
+pub type Planter = fn(&mut Rng, &Plan) -> Option<Fault>;
+
+/// All ways, by name. The first digit is the answer number, but for
+/// "later-file", which may give 3 or 7.
+pub const FAULTS: &[(&str, Planter)] = &[
+    ("2-directory-to-18-0", |rng, plan| {
+        directory_link(rng, plan, 2, |_| (18, 0))
+    }),
+    ("2-directory-off-18", |rng, plan| {
+        directory_link(rng, plan, 2, off_track_18)
+    }),
+    ("2-directory-to-18-19", |rng, plan| {
+        directory_link(rng, plan, 2, |rng| (18, rng.pick(&[19, 20, 21, 127, 255])))
+    }),
+    ("2-first-track-0", |rng, plan| {
+        first_link(rng, plan, 2, |rng| (0, rng.byte()))
+    }),
+    ("2-first-off-disk", |rng, plan| {
+        first_link(rng, plan, 2, off_disk)
+    }),
+    ("2-last-00-00", last_zero),
+    ("2-cut-00-00", |rng, plan| {
+        later_link(rng, plan, 2, |_| (0, 0))
+    }),
+    ("2-link-off-disk", |rng, plan| {
+        later_link(rng, plan, 2, off_disk)
+    }),
+    ("3-directory-back", directory_back),
+    ("3-first-to-18-0", |rng, plan| {
+        first_link(rng, plan, 3, |_| (18, 0))
+    }),
+    ("3-first-to-directory", |rng, plan| {
+        let sector = rng.pick(&plan.directory);
+        first_to(rng, plan, (18, sector))
+    }),
+    ("3-first-to-earlier", first_to_earlier),
+    ("3-link-to-18-0", |rng, plan| {
+        later_link(rng, plan, 3, |_| (18, 0))
+    }),
+    ("3-link-to-directory", |rng, plan| {
+        let sector = rng.pick(&plan.directory);
+        let (file, link) = any_link(rng, plan)?;
+        Some(link_fault(file, link, (18, sector), 3))
+    }),
+    ("3-link-to-itself", link_to_itself),
+    ("3-link-to-earlier", link_to_earlier),
+    ("4-kind", kind),
+    ("5-name-starts-with-pad", name_starts_with_pad),
+    ("5-name-after-pad", name_after_pad),
+    ("6-name-twice", name_twice),
+    ("7-count", count),
+    ("7-chain-cut", chain_cut),
+    ("7-chain-longer", chain_longer),
+    ("8-count", map_count),
+    ("8-bit", map_bit),
+    ("8-bit-and-count", map_bit_and_count),
+    ("8-bit-past-end", map_past_end),
+    ("8-lost-file", lost_file),
+    ("8-directory-cut", directory_cut),
+    ("later-file", link_to_later),
+];
+
+/// Applies a fault to an image.
+pub fn apply(image: &mut [u8], fault: &Fault) {
+    for &(at, byte) in &fault.writes {
+        image[at] = byte;
+    }
+}
+
+/// Two faults that don't interfere, first the one that the check meets.
+pub fn pair(rng: &mut Rng, plan: &Plan) -> Option<(Fault, Fault)> {
+    let one = rng.pick(FAULTS).1(rng, plan)?;
+    let two = rng.pick(FAULTS).1(rng, plan)?;
+    let touch = one
+        .writes
+        .iter()
+        .any(|(at, _)| two.writes.iter().any(|(other, _)| at == other));
+    let same_track = one.rank.0 == 4 && one.rank == two.rank;
+    if !one.immediate || !two.immediate || touch || same_track {
+        return None;
+    }
+    Some(if one.rank < two.rank {
+        (one, two)
+    } else {
+        (two, one)
+    })
+}
+
+// --- Targets --------------------------------------------------------------
+
+/// A link that no file may hold, with a track other than 0.
+fn off_disk(rng: &mut Rng) -> (u8, u8) {
+    match rng.below(3) {
+        0 => (rng.pick(&[36, 37, 40, 42, 127, 128, 255]), rng.byte()),
+        1 => (rng.range(36, 255) as u8, rng.pick(&[0, 0, 1, 16])),
+        _ => {
+            let track = rng.range(1, 35) as u8;
+            let past = usize::from(track_length(track));
+            let far = rng.range(past, 255);
+            (track, rng.pick(&[past, past, far]) as u8)
+        }
+    }
+}
+
+/// Any link that names another track than 18, and doesn't end.
+fn off_track_18(rng: &mut Rng) -> (u8, u8) {
+    let track = rng.pick(&[1, 17, 19, 35, 36, 0x92, 255]);
+    (track, rng.range(0, 20) as u8)
+}
+
+// --- The directory's links ------------------------------------------------
+
+fn directory_fault(plan: &Plan, index: usize, link: (u8, u8), number: u8) -> Fault {
+    let sector = plan.directory[index];
+    let at = offset(18, sector);
+    Fault {
+        writes: vec![(at, link.0), (at + 1, link.1)],
+        answer: Answer::fault(number, 18, sector, 255),
+        rank: (2, index, 0, 0),
+        immediate: true,
+    }
+}
+
+fn directory_link(
+    rng: &mut Rng,
+    plan: &Plan,
+    number: u8,
+    target: fn(&mut Rng) -> (u8, u8),
+) -> Option<Fault> {
+    let index = rng.below(plan.directory.len());
+    let link = target(rng);
+    Some(directory_fault(plan, index, link, number))
+}
+
+/// A link to a directory sector already walked, its own included.
+fn directory_back(rng: &mut Rng, plan: &Plan) -> Option<Fault> {
+    let index = rng.below(plan.directory.len());
+    let target = plan.directory[rng.below(index + 1)];
+    Some(directory_fault(plan, index, (18, target), 3))
+}
+
+/// The directory ends early: what follows is lost, and the map shows it.
+fn directory_cut(rng: &mut Rng, plan: &Plan) -> Option<Fault> {
+    if plan.directory.len() < 2 {
+        return None;
+    }
+    let index = rng.below(plan.directory.len() - 1);
+    let mut fault = directory_fault(plan, index, (0, rng.byte()), 8);
+    let lost = plan.files.iter().filter(|file| file.slot / 8 > index);
+    let track = lowest_track(lost).min(18);
+    fault.answer = Answer::fault(8, track, 255, 255);
+    fault.immediate = false;
+    Some(fault)
+}
+
+fn lowest_track<'a>(files: impl Iterator<Item = &'a Planned>) -> u8 {
+    files
+        .flat_map(|file| file.chain.iter().map(|&(track, _)| track))
+        .min()
+        .unwrap_or(255)
+}
+
+// --- A file's links -------------------------------------------------------
+
+fn any_file<'a>(rng: &mut Rng, plan: &'a Plan) -> Option<&'a Planned> {
+    plan.files.get(rng.below(plan.files.len()))
+}
+
+/// A file and one of its sectors, as an index into the chain.
+fn any_link<'a>(rng: &mut Rng, plan: &'a Plan) -> Option<(&'a Planned, usize)> {
+    let file = any_file(rng, plan)?;
+    let last = file.chain.len() - 1;
+    let any = rng.below(last + 1);
+    Some((file, rng.pick(&[0, any, last])))
+}
+
+/// A fault of a file's slot; `part` is its rank within the slot.
+fn slot_fault(plan: &Plan, file: &Planned, number: u8, part: u8, bytes: &[(usize, u8)]) -> Fault {
+    let at = slot_offset(&plan.directory, file.slot);
+    let sector = plan.directory[file.slot / 8];
+    Fault {
+        writes: bytes
+            .iter()
+            .map(|&(byte, value)| (at + byte, value))
+            .collect(),
+        answer: Answer::fault(number, 18, sector, file.slot as u8),
+        rank: (3, file.slot, part, 0),
+        immediate: true,
+    }
+}
+
+const PART_CHAIN: u8 = 3;
+const PART_COUNT: u8 = 4;
+
+fn first_fault(plan: &Plan, file: &Planned, link: (u8, u8), number: u8) -> Fault {
+    slot_fault(plan, file, number, PART_CHAIN, &[(3, link.0), (4, link.1)])
+}
+
+fn first_link(
+    rng: &mut Rng,
+    plan: &Plan,
+    number: u8,
+    target: fn(&mut Rng) -> (u8, u8),
+) -> Option<Fault> {
+    let file = any_file(rng, plan)?;
+    let link = target(rng);
+    Some(first_fault(plan, file, link, number))
+}
+
+fn first_to(rng: &mut Rng, plan: &Plan, link: (u8, u8)) -> Option<Fault> {
+    let file = any_file(rng, plan)?;
+    Some(first_fault(plan, file, link, 3))
+}
+
+/// A fault of the link that the chain's sector number `link` holds.
+fn link_fault(file: &Planned, link: usize, target: (u8, u8), number: u8) -> Fault {
+    let (track, sector) = file.chain[link];
+    let at = offset(track, sector);
+    Fault {
+        writes: vec![(at, target.0), (at + 1, target.1)],
+        answer: Answer::fault(number, track, sector, file.slot as u8),
+        rank: (3, file.slot, PART_CHAIN, link + 1),
+        immediate: true,
+    }
+}
+
+fn later_link(
+    rng: &mut Rng,
+    plan: &Plan,
+    number: u8,
+    target: fn(&mut Rng) -> (u8, u8),
+) -> Option<Fault> {
+    let (file, link) = any_link(rng, plan)?;
+    let target = target(rng);
+    Some(link_fault(file, link, target, number))
+}
+
+fn last_zero(rng: &mut Rng, plan: &Plan) -> Option<Fault> {
+    let file = any_file(rng, plan)?;
+    Some(link_fault(file, file.chain.len() - 1, (0, 0), 2))
+}
+
+fn link_to_itself(rng: &mut Rng, plan: &Plan) -> Option<Fault> {
+    let (file, link) = any_link(rng, plan)?;
+    let back = rng.below(link + 1);
+    let target = file.chain[rng.pick(&[0, back, link])];
+    Some(link_fault(file, link, target, 3))
+}
+
+/// Two different files in slot order, by index.
+fn two_files(rng: &mut Rng, plan: &Plan) -> Option<(usize, usize)> {
+    if plan.files.len() < 2 {
+        return None;
+    }
+    let later = rng.range(1, plan.files.len() - 1);
+    Some((rng.below(later), later))
+}
+
+fn first_to_earlier(rng: &mut Rng, plan: &Plan) -> Option<Fault> {
+    let (earlier, later) = two_files(rng, plan)?;
+    let target = rng.pick(&plan.files[earlier].chain);
+    Some(first_fault(plan, &plan.files[later], target, 3))
+}
+
+fn link_to_earlier(rng: &mut Rng, plan: &Plan) -> Option<Fault> {
+    let (earlier, later) = two_files(rng, plan)?;
+    let target = rng.pick(&plan.files[earlier].chain);
+    let file = &plan.files[later];
+    Some(link_fault(file, rng.below(file.chain.len()), target, 3))
+}
+
+/// A link into a later file. The earlier one takes the rest of its chain;
+/// that shows in the earlier one's count, or else at the later one's link.
+fn link_to_later(rng: &mut Rng, plan: &Plan) -> Option<Fault> {
+    let (earlier, later) = two_files(rng, plan)?;
+    let (file, other) = (&plan.files[earlier], &plan.files[later]);
+    let link = rng.below(file.chain.len());
+    let target = rng.below(other.chain.len());
+    let mut fault = link_fault(file, link, other.chain[target], 3);
+    let walked = link + 1 + other.chain.len() - target;
+    fault.answer = if walked != file.chain.len() {
+        slot_fault(plan, file, 7, PART_COUNT, &[]).answer
+    } else if target == 0 {
+        slot_fault(plan, other, 3, PART_CHAIN, &[]).answer
+    } else {
+        link_fault(other, target - 1, (0, 0), 3).answer
+    };
+    fault.immediate = false;
+    Some(fault)
+}
+
+// --- The rest of a slot ---------------------------------------------------
+
+fn kind(rng: &mut Rng, plan: &Plan) -> Option<Fault> {
+    const KNOWN: &[u8] = &[
+        0x80, 0x01, 0x02, 0x03, 0x84, 0x85, 0x88, 0x8F, 0x91, 0x92, 0xA1, 0xA2, 0xB1, 0xC0, 0xC4,
+        0xD1, 0xE2, 0xF3, 0xFF, 0x41, 0x42, 0x04, 0x89, 0x8A, 0x8B,
+    ];
+    let file = any_file(rng, plan)?;
+    let random = rng.byte();
+    let allowed = [0x00, 0x81, 0x82, 0x83, 0xC1, 0xC2, 0xC3];
+    let byte = match rng.one_in(3) && !allowed.contains(&random) {
+        true => random,
+        false => rng.pick(KNOWN),
+    };
+    Some(slot_fault(plan, file, 4, 0, &[(2, byte)]))
+}
+
+fn name_starts_with_pad(rng: &mut Rng, plan: &Plan) -> Option<Fault> {
+    let file = any_file(rng, plan)?;
+    let mut bytes: Vec<(usize, u8)> = vec![(5, 0xA0)];
+    if rng.one_in(2) {
+        // The empty name: padding alone.
+        bytes = (5..21).map(|at| (at, 0xA0)).collect();
+    }
+    Some(slot_fault(plan, file, 5, 1, &bytes))
+}
+
+fn name_after_pad(rng: &mut Rng, plan: &Plan) -> Option<Fault> {
+    let file = any_file(rng, plan)?;
+    let pad = rng.range(0, 14);
+    let any = rng.range(pad + 1, 15);
+    let after = rng.pick(&[pad + 1, any, 15]);
+    let byte = rng.pick(&[0x00, 0x20, 0x41, 0xFF]);
+    let byte = if rng.one_in(2) { byte } else { not_pad(rng) };
+    Some(slot_fault(
+        plan,
+        file,
+        5,
+        1,
+        &[(5 + pad, 0xA0), (5 + after, byte)],
+    ))
+}
+
+fn name_twice(rng: &mut Rng, plan: &Plan) -> Option<Fault> {
+    let (earlier, later) = two_files(rng, plan)?;
+    let mut name = plan.files[earlier].name.clone();
+    name.resize(16, 0xA0);
+    let bytes: Vec<(usize, u8)> = (5..21).zip(name).collect();
+    Some(slot_fault(plan, &plan.files[later], 6, 2, &bytes))
+}
+
+fn count(rng: &mut Rng, plan: &Plan) -> Option<Fault> {
+    let file = any_file(rng, plan)?;
+    let right = file.chain.len() as u16;
+    let any = rng.draw() as u16;
+    let wrong = rng.pick(&[
+        right + 1,
+        right - 1,
+        right.swap_bytes(),
+        right + 256,
+        right ^ 0x8000,
+        0,
+        any,
+    ]);
+    if wrong == right {
+        return None;
+    }
+    let [low, high] = wrong.to_le_bytes();
+    Some(slot_fault(
+        plan,
+        file,
+        7,
+        PART_COUNT,
+        &[(0x1E, low), (0x1F, high)],
+    ))
+}
+
+/// The chain ends early, soundly; only the count shows it.
+fn chain_cut(rng: &mut Rng, plan: &Plan) -> Option<Fault> {
+    let (file, link) = any_link(rng, plan)?;
+    if link + 1 == file.chain.len() {
+        return None;
+    }
+    let mut fault = link_fault(file, link, (0, rng.range(1, 255) as u8), 7);
+    fault.answer = slot_fault(plan, file, 7, PART_COUNT, &[]).answer;
+    fault.immediate = false;
+    Some(fault)
+}
+
+/// The chain goes on into a sector that nobody owns.
+fn chain_longer(rng: &mut Rng, plan: &Plan) -> Option<Fault> {
+    let file = any_file(rng, plan)?;
+    let track = rng.range(1, 35) as u8;
+    let sector = rng.below(usize::from(track_length(track))) as u8;
+    if !map_says_free(plan, track, sector) {
+        return None;
+    }
+    let mut fault = link_fault(file, file.chain.len() - 1, (track, sector), 7);
+    let at = offset(track, sector);
+    fault
+        .writes
+        .extend([(at, 0), (at + 1, rng.range(1, 255) as u8)]);
+    fault.answer = slot_fault(plan, file, 7, PART_COUNT, &[]).answer;
+    fault.immediate = false;
+    Some(fault)
+}
+
+/// The slot is emptied and nothing else: its sectors are used by nobody.
+fn lost_file(rng: &mut Rng, plan: &Plan) -> Option<Fault> {
+    let file = any_file(rng, plan)?;
+    let mut fault = slot_fault(plan, file, 8, 0, &[(2, 0)]);
+    fault.answer = Answer::fault(8, lowest_track(std::iter::once(file)), 255, 255);
+    fault.immediate = false;
+    Some(fault)
+}
+
+// --- The map --------------------------------------------------------------
+
+fn map_offset(track: u8) -> usize {
+    offset(18, 0) + 4 * usize::from(track)
+}
+
+fn map_says_free(plan: &Plan, track: u8, sector: u8) -> bool {
+    let byte = plan.image[map_offset(track) + 1 + usize::from(sector / 8)];
+    byte & (1 << (sector % 8)) != 0
+}
+
+fn map_fault(track: u8, writes: Vec<(usize, u8)>) -> Fault {
+    Fault {
+        writes,
+        answer: Answer::fault(8, track, 255, 255),
+        rank: (4, usize::from(track), 0, 0),
+        immediate: true,
+    }
+}
+
+fn map_count(rng: &mut Rng, plan: &Plan) -> Option<Fault> {
+    let track = rng.range(1, 35) as u8;
+    let right = plan.image[map_offset(track)];
+    let off = rng.range(1, 255) as u8;
+    let wrong = right.wrapping_add(rng.pick(&[1, 255, off]));
+    Some(map_fault(track, vec![(map_offset(track), wrong)]))
+}
+
+/// The write that flips one bit of the map, the bit's sector being below
+/// `limit` and not below `from`; also whether it was 1.
+fn flip(rng: &mut Rng, plan: &Plan, track: u8, from: u8, limit: u8) -> ((usize, u8), bool) {
+    let sector = rng.range(usize::from(from), usize::from(limit) - 1) as u8;
+    let at = map_offset(track) + 1 + usize::from(sector / 8);
+    let mask = 1 << (sector % 8);
+    ((at, plan.image[at] ^ mask), plan.image[at] & mask != 0)
+}
+
+fn map_bit(rng: &mut Rng, plan: &Plan) -> Option<Fault> {
+    let track = rng.range(1, 35) as u8;
+    let (write, _) = flip(rng, plan, track, 0, track_length(track));
+    Some(map_fault(track, vec![write]))
+}
+
+fn map_bit_and_count(rng: &mut Rng, plan: &Plan) -> Option<Fault> {
+    let track = rng.range(1, 35) as u8;
+    let (write, was_free) = flip(rng, plan, track, 0, track_length(track));
+    let right = plan.image[map_offset(track)];
+    let count = if was_free { right - 1 } else { right + 1 };
+    Some(map_fault(track, vec![write, (map_offset(track), count)]))
+}
+
+/// A bit past the last sector, with and without the count following it.
+fn map_past_end(rng: &mut Rng, plan: &Plan) -> Option<Fault> {
+    let track = rng.range(1, 35) as u8;
+    let (write, _) = flip(rng, plan, track, track_length(track), 24);
+    let mut writes = vec![write];
+    if rng.one_in(2) {
+        writes.push((map_offset(track), plan.image[map_offset(track)] + 1));
+    }
+    Some(map_fault(track, writes))
+}

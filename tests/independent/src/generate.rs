@@ -1,0 +1,272 @@
+//! All kinds of images by name and seed: sound ones, damaged ones, and bytes
+//! that are no image at all.
+
+use crate::answer::{Answer, BAD_LINK, MAP_WRONG, NONE, WRONG_SIZE};
+use crate::damage::{apply, pair, Fault, FAULTS};
+use crate::geometry::{IMAGE_BYTES, TRACK_18_BYTES, TRACK_18_OFFSET};
+use crate::rng::Rng;
+use crate::sound::{build, offset, Fill, Plan, Shape};
+
+/// An image, and the check's answer where the generator knows it exactly.
+pub struct Generated {
+    pub image: Vec<u8>,
+    pub expected: Option<Answer>,
+}
+
+/// The kinds of sound images.
+pub const SOUND: &[&str] = &[
+    "fresh",
+    "few",
+    "scattered",
+    "many",
+    "holes",
+    "full-directory",
+    "full-slots",
+    "full-disk",
+    "nearly-full",
+    "crammed",
+    "huge",
+    "track-18",
+    "odd-names",
+    "locked",
+    "edge-ends",
+    "any",
+];
+
+/// The other kinds, besides "fault-" followed by a name of `FAULTS`.
+pub const BROKEN: &[&str] = &[
+    "fault",
+    "pair",
+    "flips",
+    "flips-18",
+    "flips-links",
+    "random-18",
+    "random",
+    "zeros",
+    "ones",
+    "wrong-size",
+];
+
+/// Sizes that are not an image's.
+pub const WRONG_SIZES: &[usize] = &[
+    0, 1, 2, 255, 256, 4_863, 4_864, 4_865, 91_392, 174_592, 174_847, 174_849, 175_104, 175_531,
+    196_608, 197_376,
+];
+
+/// Every kind's name.
+pub fn kinds() -> Vec<String> {
+    let faults = FAULTS.iter().map(|(name, _)| format!("fault-{name}"));
+    SOUND
+        .iter()
+        .chain(BROKEN)
+        .map(|name| name.to_string())
+        .chain(faults)
+        .collect()
+}
+
+/// One image of a kind; `None` if there is no such kind.
+pub fn generate(kind: &str, seed: u64) -> Option<Generated> {
+    let rng = &mut Rng::new(seed ^ 0xD64);
+    if let Some(plan) = sound(kind, rng) {
+        return Some(Generated {
+            image: plan.image,
+            expected: Some(Answer::done(0, 0)),
+        });
+    }
+    if let Some(name) = kind.strip_prefix("fault-") {
+        let at = FAULTS.iter().position(|(known, _)| *known == name)?;
+        return Some(planted(rng, at));
+    }
+    broken(kind, rng)
+}
+
+/// A sound image of a kind, with the plan it was built by.
+pub fn sound(kind: &str, rng: &mut Rng) -> Option<Plan> {
+    let shape = shape(kind, rng)?;
+    Some(build(rng, &shape))
+}
+
+fn shape(kind: &str, rng: &mut Rng) -> Option<Shape> {
+    let mut shape = Shape::any(rng);
+    (shape.files, shape.directory) = match kind {
+        "any" => (shape.files, shape.directory),
+        "fresh" => (0, shape.directory),
+        "few" => (rng.range(1, 6), shape.directory),
+        "scattered" => (rng.range(20, 60), rng.range(8, 18)),
+        "many" => (rng.range(100, 144), 18),
+        "holes" => (rng.range(4, 30), rng.range(5, 18)),
+        "full-directory" => (144, 18),
+        "full-slots" | "crammed" => {
+            let directory = rng.range(1, 17);
+            (8 * directory, directory)
+        }
+        "full-disk" => (rng.range(1, 80), rng.range(10, 18)),
+        "nearly-full" => (rng.range(1, 40), rng.range(5, 18)),
+        "huge" => (1, rng.pick(&[1, 2, 18])),
+        "track-18" => {
+            let directory = rng.range(1, 6);
+            (rng.pick(&[1, 3, 8 * directory]), directory)
+        }
+        "odd-names" | "locked" | "edge-ends" => (rng.range(1, 40), 5),
+        _ => return None,
+    };
+    set_details(kind, rng, &mut shape);
+    Some(shape)
+}
+
+/// What else a kind asks for; the rest stays left to chance.
+fn set_details(kind: &str, rng: &mut Rng, shape: &mut Shape) {
+    match kind {
+        "scattered" => {
+            (shape.scattered_directory, shape.scattered_chains) = (true, true);
+            shape.fill = Fill::Some;
+        }
+        "holes" => (shape.scattered_directory, shape.junk) = (true, true),
+        "full-disk" => shape.fill = Fill::AllBut(0),
+        "nearly-full" => {
+            (shape.on_track_18, shape.any_version) = (false, false);
+            shape.fill = Fill::AllBut(rng.range(0, 6));
+        }
+        "crammed" => {
+            shape.on_track_18 = true;
+            shape.fill = Fill::AllBut(0);
+        }
+        "huge" => shape.fill = Fill::AllBut(rng.below(3)),
+        "track-18" => {
+            (shape.on_track_18, shape.track_18_first) = (true, true);
+            shape.any_version = false;
+        }
+        "odd-names" => shape.odd_names = true,
+        "locked" => shape.locked = true,
+        "edge-ends" => shape.edge_ends = true,
+        _ => {}
+    }
+}
+
+/// A sound image to plant faults in: with files, so that most faults fit.
+pub fn ground(rng: &mut Rng) -> Plan {
+    let kind = rng.pick(&[
+        "few",
+        "scattered",
+        "many",
+        "holes",
+        "full-disk",
+        "track-18",
+        "locked",
+    ]);
+    sound(kind, rng).expect("a kind of SOUND")
+}
+
+/// A single fault by its number in `FAULTS`. Looks on until it finds an image
+/// with a place for it.
+pub fn planted(rng: &mut Rng, at: usize) -> Generated {
+    loop {
+        let plan = ground(rng);
+        if let Some(fault) = FAULTS[at].1(rng, &plan) {
+            return with_faults(plan, &[&fault]);
+        }
+    }
+}
+
+/// Applies faults; the first is the one the check meets.
+fn with_faults(plan: Plan, faults: &[&Fault]) -> Generated {
+    let mut image = plan.image;
+    for fault in faults {
+        apply(&mut image, fault);
+    }
+    Generated {
+        image,
+        expected: faults.first().map(|fault| fault.answer),
+    }
+}
+
+fn broken(kind: &str, rng: &mut Rng) -> Option<Generated> {
+    let unknown = |image| Generated {
+        image,
+        expected: None,
+    };
+    Some(match kind {
+        "fault" => {
+            let at = rng.below(FAULTS.len());
+            planted(rng, at)
+        }
+        "pair" => two_faults(rng),
+        "flips" => unknown(flipped(rng, 0, IMAGE_BYTES)),
+        "flips-18" => unknown(flipped(rng, TRACK_18_OFFSET, TRACK_18_BYTES)),
+        "flips-links" => unknown(flipped_links(rng)),
+        "random-18" => unknown(random_track_18(rng)),
+        "random" => unknown(rng.bytes(IMAGE_BYTES)),
+        // No directory link, no slot; track 1 should be free and isn't.
+        "zeros" => Generated {
+            image: vec![0; IMAGE_BYTES],
+            expected: Some(Answer::fault(MAP_WRONG, 1, NONE, NONE)),
+        },
+        // The first directory link names track 255.
+        "ones" => Generated {
+            image: vec![0xFF; IMAGE_BYTES],
+            expected: Some(Answer::fault(BAD_LINK, 18, 1, NONE)),
+        },
+        "wrong-size" => {
+            let mut image = ground(rng).image;
+            image.resize(rng.pick(WRONG_SIZES), rng.byte());
+            Generated {
+                image,
+                expected: Some(Answer::refusal(WRONG_SIZE)),
+            }
+        }
+        _ => return None,
+    })
+}
+
+/// A sound image but for track 18, which is random.
+fn random_track_18(rng: &mut Rng) -> Vec<u8> {
+    let mut image = ground(rng).image;
+    rng.fill(&mut image[TRACK_18_OFFSET..TRACK_18_OFFSET + TRACK_18_BYTES]);
+    image
+}
+
+fn two_faults(rng: &mut Rng) -> Generated {
+    loop {
+        let plan = ground(rng);
+        for _ in 0..20 {
+            if let Some((first, second)) = pair(rng, &plan) {
+                return with_faults(plan, &[&first, &second]);
+            }
+        }
+    }
+}
+
+/// One to eight bytes of a part of the image changed, some in one bit only.
+fn flipped(rng: &mut Rng, start: usize, length: usize) -> Vec<u8> {
+    let mut image = ground(rng).image;
+    for _ in 0..rng.range(1, 8) {
+        let at = start + rng.below(length);
+        match rng.one_in(2) {
+            true => image[at] ^= 1 << rng.below(8),
+            false => image[at] = rng.byte(),
+        }
+    }
+    image
+}
+
+/// Link bytes set to values that lead somewhere: to the disk's edges, to
+/// other files, to an end.
+fn flipped_links(rng: &mut Rng) -> Vec<u8> {
+    let plan = ground(rng);
+    let mut image = plan.image;
+    for _ in 0..rng.range(1, 4) {
+        if plan.files.is_empty() {
+            return image;
+        }
+        let (file, other) = (rng.below(plan.files.len()), rng.below(plan.files.len()));
+        let (track, sector) = rng.pick(&plan.files[file].chain);
+        let at = offset(track, sector);
+        let other = rng.pick(&plan.files[other].chain);
+        let target = (
+            rng.pick(&[0, 1, 17, 18, 35, 36]),
+            rng.pick(&[0, 1, 16, 17, 20]),
+        );
+        (image[at], image[at + 1]) = rng.pick(&[other, target]);
+    }
+    image
+}

@@ -1,0 +1,217 @@
+//! A second acceptance test, plain on purpose (01, What demand 3 compares).
+//!
+//! It counts the claims on every sector and knows no order of faults. It
+//! shares no code with the check, not even the geometry: it is slow, it
+//! copies, and it says only whether an image is accepted and what it holds.
+
+use std::collections::HashSet;
+
+/// Track and sector.
+pub type Place = (u8, u8);
+
+/// Who a sector belongs to on an accepted image.
+#[derive(Clone, Copy, PartialEq, Eq, Debug)]
+pub enum Owner {
+    Nobody,
+    Map,
+    Directory,
+    /// The file in this slot.
+    File(usize),
+}
+
+/// A file of an accepted image.
+#[derive(Clone, PartialEq, Eq, Debug)]
+pub struct File {
+    pub slot: usize,
+    pub type_byte: u8,
+    pub name: Vec<u8>,
+    pub bytes: Vec<u8>,
+    /// Its sectors in chain order.
+    pub chain: Vec<Place>,
+}
+
+/// Everything an accepted image holds.
+#[derive(Clone, Debug)]
+pub struct Contents {
+    /// In the order of the sectors on the image.
+    pub owners: Vec<Owner>,
+    /// The directory's sectors on track 18, in link order.
+    pub directory: Vec<u8>,
+    /// In slot order.
+    pub files: Vec<File>,
+}
+
+impl Contents {
+    pub fn free_off_track_18(&self) -> usize {
+        places()
+            .zip(&self.owners)
+            .filter(|((track, _), owner)| *track != 18 && **owner == Owner::Nobody)
+            .count()
+    }
+}
+
+/// Sectors per track (01, Tracks and sectors).
+pub fn track_length(track: u8) -> u8 {
+    match track {
+        1..=17 => 21,
+        18..=24 => 19,
+        25..=30 => 18,
+        31..=35 => 17,
+        _ => 0,
+    }
+}
+
+/// All sectors of the disk, in the order in which the image holds them.
+pub fn places() -> impl Iterator<Item = Place> {
+    (1..=35).flat_map(|track| (0..track_length(track)).map(move |sector| (track, sector)))
+}
+
+/// How many sectors come before this one.
+pub fn position(track: u8, sector: u8) -> Option<usize> {
+    if sector >= track_length(track) {
+        return None;
+    }
+    let before: usize = (1..track).map(|t| usize::from(track_length(t))).sum();
+    Some(before + usize::from(sector))
+}
+
+/// The 256 bytes of a sector; the place is on the disk.
+fn sector_bytes(image: &[u8], place: Place) -> Option<&[u8]> {
+    let start = 256 * position(place.0, place.1)?;
+    image.get(start..start + 256)
+}
+
+/// True exactly if the image is accepted.
+pub fn accepted(image: &[u8]) -> bool {
+    contents(image).is_some()
+}
+
+/// What the image holds, or `None` if it isn't accepted.
+pub fn contents(image: &[u8]) -> Option<Contents> {
+    if image.len() != 174_848 {
+        return None;
+    }
+    let directory = directory_sectors(image)?;
+    let files = files(image, &directory)?;
+    let owners = owners(&directory, &files)?;
+    let names: HashSet<&[u8]> = files.iter().map(|file| file.name.as_slice()).collect();
+    let map = sector_bytes(image, (18, 0))?;
+    let sound = names.len() == files.len() && map_agrees(map, &owners);
+    sound.then_some(Contents {
+        owners,
+        directory,
+        files,
+    })
+}
+
+/// Follows the directory for at most as many steps as a disk has sectors; a
+/// sector walked twice shows up as a second claim.
+fn directory_sectors(image: &[u8]) -> Option<Vec<u8>> {
+    let mut walked = vec![1u8];
+    while walked.len() <= 683 {
+        let last = *walked.last()?;
+        let bytes = sector_bytes(image, (18, last))?;
+        match (bytes[0], bytes[1]) {
+            (0, _) => return Some(walked),
+            (18, sector @ 1..=18) => walked.push(sector),
+            _ => return None,
+        }
+    }
+    None
+}
+
+fn files(image: &[u8], directory: &[u8]) -> Option<Vec<File>> {
+    let mut found = Vec::new();
+    for (index, &sector) in directory.iter().enumerate() {
+        let bytes = sector_bytes(image, (18, sector))?;
+        for (part, entry) in bytes.chunks(32).enumerate() {
+            if entry[2] != 0 {
+                found.push(file(image, entry, 8 * index + part)?);
+            }
+        }
+    }
+    Some(found)
+}
+
+/// One file by its slot, if slot and chain are sound in themselves.
+fn file(image: &[u8], entry: &[u8], slot: usize) -> Option<File> {
+    const CARRIED: [u8; 6] = [0x81, 0x82, 0x83, 0xC1, 0xC2, 0xC3];
+    if !CARRIED.contains(&entry[2]) {
+        return None;
+    }
+    let name: Vec<u8> = entry[5..21]
+        .iter()
+        .copied()
+        .filter(|&b| b != 0xA0)
+        .collect();
+    // All name bytes stand in front of all padding exactly if this holds.
+    if name.is_empty() || entry[5..5 + name.len()] != name[..] {
+        return None;
+    }
+    let (chain, bytes) = follow(image, (entry[3], entry[4]))?;
+    if chain.len() != usize::from(entry[0x1E]) + 256 * usize::from(entry[0x1F]) {
+        return None;
+    }
+    Some(File {
+        slot,
+        type_byte: entry[2],
+        name,
+        bytes,
+        chain,
+    })
+}
+
+/// A chain and its data, with a cap on the walk at the disk's sectors.
+fn follow(image: &[u8], first: Place) -> Option<(Vec<Place>, Vec<u8>)> {
+    let (mut chain, mut data) = (vec![first], Vec::new());
+    while chain.len() <= 683 {
+        let bytes = sector_bytes(image, *chain.last()?)?;
+        match (bytes[0], bytes[1]) {
+            (0, 0) => return None,
+            (0, n) => {
+                data.extend_from_slice(&bytes[2..=usize::from(n)]);
+                return Some((chain, data));
+            }
+            next => {
+                data.extend_from_slice(&bytes[2..]);
+                chain.push(next);
+            }
+        }
+    }
+    None
+}
+
+/// The owner of every sector, or `None` if some sector is claimed twice.
+fn owners(directory: &[u8], files: &[File]) -> Option<Vec<Owner>> {
+    let mut claims: Vec<Vec<Owner>> = vec![Vec::new(); 683];
+    claims[position(18, 0)?].push(Owner::Map);
+    for &sector in directory {
+        claims[position(18, sector)?].push(Owner::Directory);
+    }
+    for file in files {
+        for &(track, sector) in &file.chain {
+            claims[position(track, sector)?].push(Owner::File(file.slot));
+        }
+    }
+    claims
+        .iter()
+        .map(|claims| match claims[..] {
+            [] => Some(Owner::Nobody),
+            [owner] => Some(owner),
+            _ => None,
+        })
+        .collect()
+}
+
+/// Whether every map entry is what the owners ask for.
+fn map_agrees(map: &[u8], owners: &[Owner]) -> bool {
+    let mut expected = [0u8; 140];
+    for ((track, sector), owner) in places().zip(owners) {
+        if *owner == Owner::Nobody {
+            let entry = 4 * (usize::from(track) - 1);
+            expected[entry] += 1;
+            expected[entry + 1 + usize::from(sector) / 8] += 1 << (sector % 8);
+        }
+    }
+    map[4..144] == expected[..]
+}

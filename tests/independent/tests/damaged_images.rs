@@ -1,0 +1,118 @@
+//! Damaged images: the check gives the number and the place planted, the
+//! naive test agrees on every image, and nothing panics on any bytes.
+
+mod model;
+
+use independent::answer::Answer;
+use independent::calls::{tell, Told};
+use independent::check::check;
+use independent::damage::FAULTS;
+use independent::generate::{generate, planted, BROKEN, WRONG_SIZES};
+use independent::listing::{listing, sleeve_output, LONGEST};
+use independent::naive;
+use independent::request::lent;
+use independent::rng::for_seeds;
+
+#[test]
+fn every_single_fault_is_found_where_it_is() {
+    for_seeds("every_single_fault_is_found_where_it_is", 40, |_, rng| {
+        for (at, (name, _)) in FAULTS.iter().enumerate() {
+            let made = planted(rng, at);
+            let answer = check(&made.image);
+            assert_eq!(Some(answer), made.expected, "{name}");
+            assert!(!naive::accepted(&made.image), "{name}");
+            if let Some(digit) = name.chars().next().and_then(|c| c.to_digit(10)) {
+                assert_eq!(u32::from(answer.number), digit, "{name}");
+            }
+        }
+    });
+}
+
+#[test]
+fn of_two_faults_the_first_is_found() {
+    for_seeds("of_two_faults_the_first_is_found", 800, |seed, _| {
+        let made = generate("pair", seed).unwrap();
+        assert!(made.expected.is_some());
+        assert_eq!(Some(check(&made.image)), made.expected);
+        assert!(!naive::accepted(&made.image));
+    });
+}
+
+#[test]
+fn both_tests_agree_on_all_bytes() {
+    let (mut accepted, mut refused) = (0, 0);
+    for_seeds("both_tests_agree_on_all_bytes", 150, |seed, _| {
+        for kind in BROKEN {
+            let made = generate(kind, seed).unwrap();
+            let answer = check(&made.image);
+            assert_eq!(answer.number == 0, naive::accepted(&made.image), "{kind}");
+            if let Some(expected) = made.expected {
+                assert_eq!(answer, expected, "{kind}");
+            }
+            assert!(answer.number <= 8, "{kind}");
+            assert_eq!((answer.length, answer.sectors), (0, 0), "{kind}");
+            if answer.number == 0 {
+                accepted += 1;
+            } else {
+                refused += 1;
+            }
+        }
+    });
+    // Random flips must now and then hit an ignored byte, or they prove
+    // little; this holds for the default rounds, not for a single seed.
+    if independent::rng::seeds(150).len() >= 150 {
+        assert!(
+            accepted > 50 && refused > 500,
+            "{accepted} accepted, {refused} refused"
+        );
+    }
+}
+
+#[test]
+fn wrong_sizes() {
+    for &size in WRONG_SIZES {
+        for fill in [0, 0xFF, 0x12] {
+            let image = vec![fill; size];
+            assert_eq!(check(&image), Answer::refusal(1), "{size}");
+            assert_eq!(
+                tell(&image, 0),
+                (Answer::refusal(1), Told::default()),
+                "{size}"
+            );
+            assert_eq!(sleeve_output(&image), b"01\n", "{size}");
+            assert!(!naive::accepted(&image), "{size}");
+        }
+    }
+}
+
+#[test]
+fn the_listing_of_any_bytes() {
+    for_seeds("the_listing_of_any_bytes", 60, |seed, rng| {
+        for kind in independent::generate::kinds() {
+            let made = generate(&kind, seed).unwrap();
+            let track18 = independent::request::track_18_of(&made.image);
+            let expected = model::listing(track18);
+            let room = rng.pick(&[LONGEST, LONGEST, 0, 41, 42, 300]);
+            let mut text = lent(room);
+            let listed = listing(track18, &mut text);
+            match &expected {
+                Ok(wanted) if wanted.len() <= room => {
+                    assert_eq!((listed.number, listed.length), (0, wanted.len()), "{kind}");
+                    assert_eq!(text[..wanted.len()], *wanted.as_bytes(), "{kind}");
+                    assert_eq!(text[wanted.len()..], lent(room)[wanted.len()..], "{kind}");
+                }
+                _ => {
+                    let number = expected.clone().err().unwrap_or(16);
+                    assert_eq!((listed.number, listed.length), (number, 0), "{kind}");
+                    assert_eq!(text, lent(room), "{kind}");
+                }
+            }
+            let printed = match expected {
+                _ if made.image.len() != 174_848 => "01\n".to_string(),
+                Ok(text) => text,
+                Err(number) => format!("{number:02}\n"),
+            };
+            assert_eq!(sleeve_output(&made.image), printed.as_bytes(), "{kind}");
+        }
+    });
+}

@@ -1,0 +1,306 @@
+//! Demand 3 over generated lists (01, What demand 3 compares), and the cheats
+//! that it must catch (01, Strength of the promises).
+
+mod model;
+
+use independent::generate::{generate, sound, SOUND};
+use independent::host;
+use independent::lists::{requests, STYLES};
+use independent::naive::{contents, Owner};
+use independent::plain::{
+    demand3, PlainList, ACCEPTED, CLAUSES, GIVEN_BACK, PLAIN_LIST, READ_BYTES, READ_SECTORS,
+    REFUSED,
+};
+use independent::request::{perform, Call, Independent, Library, Request};
+use independent::rng::{for_seeds, Rng};
+use std::collections::BTreeMap;
+
+#[test]
+fn demand3_holds_over_lists() {
+    let mut done: BTreeMap<String, usize> = BTreeMap::new();
+    for_seeds("demand3_holds_over_lists", 8, |seed, rng| {
+        for (i, kind) in SOUND.iter().enumerate() {
+            let mut start = sound(kind, rng).unwrap().image;
+            // Now and then the DOS version forbids writing.
+            start[91_394] = if rng.one_in(8) { rng.byte() } else { 0x41 };
+            let style = STYLES[(seed as usize + i) % STYLES.len()];
+            let list = requests(rng, &start, style, 120);
+            if let Err(what) = demand3(&Independent, &start, &list) {
+                panic!("{kind}, {style:?}: {what}");
+            }
+            tally(&start, &list, &mut done);
+        }
+    });
+    // Every call must have been answered in many ways, else the lists are too
+    // thin; this holds for the default rounds, not for a single seed.
+    if independent::rng::seeds(8).len() >= 8 {
+        let wanted = "Format 0, Format 9, Store 0, Store 10, Store 11, Store 12, Store 14, \
+                      Store 15, Scratch 0, Scratch 13, Read 0, Read 13, Read 16, Check 0";
+        for what in wanted.split(", ") {
+            assert!(done.get(what).is_some_and(|n| *n > 10), "{what}: {done:?}");
+        }
+    }
+}
+
+/// Which calls the list made, by their answer.
+fn tally(start: &[u8], list: &[Request], done: &mut BTreeMap<String, usize>) {
+    let mut image = start.to_vec();
+    for request in list {
+        let reply = perform(&Independent, &mut image, request).unwrap();
+        let shown = request.shown();
+        let word = shown.split(' ').next().unwrap_or("");
+        *done.entry(format!("{word} {}", reply.number)).or_default() += 1;
+    }
+}
+
+#[test]
+fn long_lists_on_a_nearly_full_disk() {
+    for_seeds("long_lists_on_a_nearly_full_disk", 2, |_, rng| {
+        let start = generate("nearly-full", 3).unwrap().image;
+        for &style in STYLES {
+            let list = requests(rng, &start, style, 400);
+            demand3(&Independent, &start, &list).unwrap();
+        }
+    });
+}
+
+/// "Demand 3 is one claim about a whole list of calls, the empty one too."
+#[test]
+fn the_empty_list_and_a_bad_start() {
+    let start = generate("scattered", 1).unwrap().image;
+    assert_eq!(demand3(&Independent, &start, &[]), Ok(start.clone()));
+    assert!(demand3(&Independent, &start[1..], &[]).is_err());
+    assert!(demand3(&Independent, &generate("zeros", 0).unwrap().image, &[]).is_err());
+}
+
+/// "Any other size of that block gives 16 before all else, and nothing is
+/// written": a refusal like any other.
+#[test]
+fn blocks_and_formats_in_a_list() {
+    let start = generate("any", 5).unwrap().image;
+    let format = |block| Request {
+        call: Call::Format {
+            name: b"NEW".to_vec(),
+            id1: 1,
+            id2: 2,
+        },
+        block,
+    };
+    let last = demand3(&Independent, &start, &[format(8), format(10), format(0)]).unwrap();
+    assert_eq!(last, start);
+    let last = demand3(&Independent, &start, &[format(9)]).unwrap();
+    assert!(PlainList::default().is_held_by(&contents(&last).unwrap()));
+}
+
+/// The longest chain that a disk can hold is reported whole.
+#[test]
+fn a_read_of_681_sectors() {
+    let long = |image: &Vec<u8>| contents(image).unwrap().files[0].chain.len() == 681;
+    let mut images = (0..1000).map(|seed| generate("huge", seed).unwrap().image);
+    let mut start = images.find(long).unwrap();
+    let file = contents(&start).unwrap().files[0].clone();
+    let read = Request {
+        call: Call::Read {
+            name: file.name,
+            room: file.bytes.len(),
+        },
+        block: 9,
+    };
+    let list = [read.clone(), read.clone()];
+    assert_eq!(demand3(&Independent, &start, &list), Ok(start.clone()));
+    let reply = perform(&Independent, &mut start, &read).unwrap();
+    assert_eq!((reply.number, reply.sectors()), (0, 681));
+}
+
+// --- Cheats ---------------------------------------------------------------
+
+/// Each does one thing wrong and the rest right.
+#[derive(Clone, Copy, PartialEq, Debug)]
+enum Cheat {
+    StoresNothing,
+    FillsFirstSectorOnly,
+    StoresWrongKind,
+    DirtiesFreeSector,
+    RefusedStoreMarksMap,
+    ReadsTheSameBytes,
+    ReadsOneByteMore,
+    RefusedReadWrites,
+    ReportsWrongLength,
+    InventsSectorCount,
+    CountsSectorsByLength,
+    LeavesCodes,
+    ScratchFreesNothing,
+    ScratchTakesFirstFile,
+    FormatKeepsOldBytes,
+}
+
+/// The cheats, each with the clauses that it breaks, and no others.
+const CHEATS: &[(Cheat, &[&str])] = &[
+    (Cheat::StoresNothing, &[PLAIN_LIST]),
+    (Cheat::FillsFirstSectorOnly, &[PLAIN_LIST]),
+    (Cheat::StoresWrongKind, &[PLAIN_LIST]),
+    (Cheat::DirtiesFreeSector, &[GIVEN_BACK]),
+    (Cheat::RefusedStoreMarksMap, &[ACCEPTED, REFUSED]),
+    (Cheat::ReadsTheSameBytes, &[READ_BYTES]),
+    (Cheat::ReadsOneByteMore, &[READ_BYTES]),
+    (Cheat::RefusedReadWrites, &[REFUSED]),
+    (Cheat::ReportsWrongLength, &[READ_BYTES]),
+    (Cheat::InventsSectorCount, &[READ_SECTORS]),
+    (Cheat::CountsSectorsByLength, &[READ_SECTORS]),
+    (Cheat::LeavesCodes, &[GIVEN_BACK]),
+    (Cheat::ScratchFreesNothing, &[ACCEPTED]),
+    (Cheat::ScratchTakesFirstFile, &[PLAIN_LIST]),
+    (Cheat::FormatKeepsOldBytes, &[GIVEN_BACK]),
+];
+
+struct Cheating(Cheat);
+
+/// Puts back all that was on the other tracks; track 18 stays new.
+fn keep_off_track_18(image: &mut [u8], old: &[u8]) {
+    image[..91_392].copy_from_slice(&old[..91_392]);
+    image[96_256..].copy_from_slice(&old[96_256..]);
+}
+
+impl Library for Cheating {
+    fn check(&self, image: &[u8], block: &mut [u8]) -> u32 {
+        host::check(image, block)
+    }
+
+    fn format(&self, image: &mut [u8], name: &[u8], id1: u8, id2: u8, block: &mut [u8]) -> u32 {
+        let old = image.to_vec();
+        let number = host::format(image, name, id1, id2, block);
+        if self.0 == Cheat::FormatKeepsOldBytes && number == 0 {
+            keep_off_track_18(image, &old);
+        }
+        number
+    }
+
+    fn read(&self, image: &[u8], name: &[u8], out: &mut [u8], block: &mut [u8]) -> u32 {
+        let number = host::read(image, name, out, block);
+        if number != 0 {
+            if self.0 == Cheat::RefusedReadWrites && !out.is_empty() {
+                out[0] ^= 1;
+            }
+            return number;
+        }
+        let length = u32::from_le_bytes([block[3], block[4], block[5], block[6]]) as usize;
+        let by_length = length.div_ceil(254).max(1) as u16;
+        match self.0 {
+            Cheat::ReadsTheSameBytes => out[..length].fill(0),
+            Cheat::ReadsOneByteMore if out.len() > length => out[length] ^= 1,
+            Cheat::ReportsWrongLength => block[3] ^= 1,
+            Cheat::InventsSectorCount => block[7..].copy_from_slice(&[1, 0]),
+            // Wrong only where the last sector holds no byte.
+            Cheat::CountsSectorsByLength => block[7..].copy_from_slice(&by_length.to_le_bytes()),
+            _ => {}
+        }
+        number
+    }
+
+    fn store(
+        &self,
+        image: &mut [u8],
+        name: &[u8],
+        kind: u32,
+        data: &[u8],
+        block: &mut [u8],
+    ) -> u32 {
+        let old = image.to_vec();
+        let mut data = data.to_vec();
+        let kind = match self.0 {
+            Cheat::StoresWrongKind if kind == 3 => 2,
+            _ => kind,
+        };
+        if self.0 == Cheat::FillsFirstSectorOnly && data.len() > 254 {
+            data[254..].fill(0);
+        }
+        let number = host::store(image, name, kind, &data, block);
+        match self.0 {
+            Cheat::StoresNothing if number == 0 => image.copy_from_slice(&old),
+            Cheat::RefusedStoreMarksMap if number == 15 => image[91_396] ^= 1,
+            Cheat::DirtiesFreeSector if number == 0 => {
+                let owners = contents(image).unwrap().owners;
+                if let Some(free) = owners.iter().position(|owner| *owner == Owner::Nobody) {
+                    image[256 * free + 255] ^= 1;
+                }
+            }
+            _ => {}
+        }
+        number
+    }
+
+    fn scratch(&self, image: &mut [u8], name: &[u8], block: &mut [u8]) -> u32 {
+        let old = image.to_vec();
+        let first = contents(image).and_then(|held| held.files.first().cloned());
+        let number = match (self.0, &first) {
+            (Cheat::ScratchTakesFirstFile, Some(file)) => host::scratch(image, &file.name, block),
+            _ => host::scratch(image, name, block),
+        };
+        match self.0 {
+            Cheat::LeavesCodes if number == 0 => keep_off_track_18(image, &old),
+            Cheat::ScratchFreesNothing if number == 0 => {
+                image[91_392..91_648].copy_from_slice(&old[91_392..91_648]);
+            }
+            _ => {}
+        }
+        number
+    }
+}
+
+/// Start images and lists on which the library itself does nothing wrong.
+fn honest_runs() -> Vec<(Vec<u8>, Vec<Request>)> {
+    let run = |seed: usize| {
+        let kind = ["locked", "edge-ends"][seed % 2];
+        let mut start = generate(kind, 2).unwrap().image;
+        start[91_394] = 0x41;
+        let rng = &mut Rng::new(seed as u64);
+        let list = requests(rng, &start, STYLES[seed % STYLES.len()], 150);
+        demand3(&Independent, &start, &list).unwrap();
+        (start, list)
+    };
+    (0..10).map(run).collect()
+}
+
+#[test]
+fn demand3_catches_cheats() {
+    let runs = honest_runs();
+    for (cheat, clauses) in CHEATS {
+        let caught = runs
+            .iter()
+            .find_map(|(start, list)| demand3(&Cheating(*cheat), start, list).err());
+        let what = caught.unwrap_or_else(|| panic!("{cheat:?} was not caught"));
+        let broken = CLAUSES.iter().filter(|clause| what.contains(**clause));
+        let broken: Vec<&str> = broken.copied().collect();
+        assert_eq!(broken, *clauses, "{cheat:?}: {what}");
+    }
+}
+
+/// "Demand 3 alone would let a store that always refuses pass": so the calls
+/// are also compared with the plain model, which owes other answers.
+#[test]
+fn demand3_lets_a_refusing_library_pass() {
+    struct Refuser;
+    impl Library for Refuser {
+        fn check(&self, _: &[u8], _: &mut [u8]) -> u32 {
+            1
+        }
+        fn format(&self, _: &mut [u8], _: &[u8], _: u8, _: u8, _: &mut [u8]) -> u32 {
+            1
+        }
+        fn read(&self, _: &[u8], _: &[u8], _: &mut [u8], _: &mut [u8]) -> u32 {
+            1
+        }
+        fn store(&self, _: &mut [u8], _: &[u8], _: u32, _: &[u8], _: &mut [u8]) -> u32 {
+            1
+        }
+        fn scratch(&self, _: &mut [u8], _: &[u8], _: &mut [u8]) -> u32 {
+            1
+        }
+    }
+    let start = generate("few", 2).unwrap().image;
+    let list = requests(&mut Rng::new(1), &start, STYLES[4], 50);
+    assert_eq!(demand3(&Refuser, &start, &list), Ok(start.clone()));
+    assert!(list
+        .iter()
+        .all(|request| model::number(&start, request) != 1));
+}
