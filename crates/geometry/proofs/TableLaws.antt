@@ -2,8 +2,8 @@
 -- In order: the running sum; the layout's counts; its first numbers; a sector's number. The rule is one test, `every-at` of Every.
 use Prim.Native.Nat.{ℕ, zero, suc, _+_, _-_, _≤_, _<_}
 use native.Mathlib.Omega.{arith}
-use mathlib.Core.Path.{_≡_, refl, sym, ap, _∙_}
-use mathlib.Core.Bool.{Bool, true}
+use mathlib.Core.Path.{_≡_, refl, ap, _∙_}
+use mathlib.Core.Bool.{Bool}
 use mathlib.Core.List.{List, [], _∷_, _++_}
 use lib.ListN.{take, getD, List·getD-append, List·getD-eq-default}
 use lib.Seq.{take-all}
@@ -11,7 +11,7 @@ use lib.Dec.{eqb}
 use borrow.Author.Tests.{eqb-true}
 use Rattle.d64spec.specs.Lists.{sum}
 use Rattle.d64spec.specs.Answers.{Address}
-use Rattle.d64spec.specs.Geometry.{Geometry, layout35, sectorsOn, firstOn, onDisk, sectorNumber, total}
+use Rattle.d64spec.specs.Geometry.{Geometry, layout35, sectorsOn, firstOn, sectorNumber}
 use Rattle.d64spec.proofs.BoundLaws.{sectorNumber-lt}
 use Rattle.d64spec.proofs.RunTheorem.{valid35, sectors35}
 use Rattle.geometry.specs.Layout.{Counted, Numbered}
