@@ -1,8 +1,8 @@
 -- The check answers 0 exactly for an accepted image.
-use Prim.Native.Nat.{ℕ, suc, _+_, _*_, _≤_}
+use Prim.Native.Nat.{ℕ, _+_, _*_, _≤_}
 use native.Mathlib.Omega.{arith}
 use mathlib.Core.Path.{_≡_, refl, sym, ap₂, _∙_, subst}
-use mathlib.Core.Bool.{Bool, true, false, not}
+use mathlib.Core.Bool.{Bool, true, false}
 use mathlib.Core.Logic.{_↔_}
 use mathlib.Core.List.{List, [], _∷_, _++_, map}
 use lib.ListN.{length}
@@ -12,7 +12,7 @@ use Rattle.d64spec.specs.Lists.{All, Bytes, count, equal, indicator, nam
 use Rattle.d64spec.specs.Answers.{Address, Result, badName, badType, done, duplicateName, wrongCount, wrongSize}
 use Rattle.d64spec.specs.Geometry.{Geometry, Valid, directoryStart, mapAddress, sectorNumber, total, tracks}
 use Rattle.d64spec.specs.Image.{Disk, disk}
-use Rattle.d64spec.specs.Chain.{directoryLink, fileLink, follow, steps, to, walk}
+use Rattle.d64spec.specs.Chain.{directoryLink, fileLink, steps, to, walk}
 use Rattle.d64spec.specs.Directory.{File, Slot, countOf, directorySectors, entryByte, fileOf, files, firstLink, nameOf, occupied, occupiedIn, validName, validType}
 use Rattle.d64spec.specs.Owner.{claimCount, claimList, claimsOf, fileClaims, isFree}
 use Rattle.d64spec.specs.Check.{DirectoryContents, checkDirectory, checkDisk, checkEntry, checkImage, checkMap, checkSlot, checkSlots, rightSize}
@@ -74,13 +74,13 @@ module _ (g : Geometry) (d : Disk) where
       }
 
   -- what slots that pass the check say
-  record SlotsSound (own : List ℕ) (names : List Bytes) (ss : List Slot) (fs : List File) : Type 0 where
-    files : fs ≡ map (fileOf g d) ss
-    right : All (ValidEntry g d) fs
-    once : (m : ℕ) → count m (fileClaims g fs) + count m own ≤ 1
-    differ : (n : Bytes) → nameCount n names ≤ 1 → nameCount n (map slotName fs) + nameCount n names ≤ 1
+  pub record SlotsSound (own : List ℕ) (names : List Bytes) (ss : List Slot) (fs : List File) : Type 0 where
+    pub files : fs ≡ map (fileOf g d) ss
+    pub right : All (ValidEntry g d) fs
+    pub once : (m : ℕ) → count m (fileClaims g fs) + count m own ≤ 1
+    pub differ : (n : Bytes) → nameCount n names ≤ 1 → nameCount n (map slotName fs) + nameCount n names ≤ 1
 
-  firstLink-on : (s : Slot) → OnDisk g (firstLink g d s)
+  pub firstLink-on : (s : Slot) → OnDisk g (firstLink g d s)
   unfolding firstLink
   firstLink-on s = linkTo-on g (entryByte (s .bytes) 0x03) (entryByte (s .bytes) 0x04)
 
@@ -92,7 +92,14 @@ module _ (g : Geometry) (d : Disk) where
       go true t = rw (eq-of-equal n x t) (omega arith)
       go false t = omega arith
 
-  slots-sound : (own : List ℕ) (names : List Bytes) (ss : List Slot) (fs : List File) → ((m : ℕ) → count m own ≤ 1)
+  -- the sectors that a slot's check gives are those of its file
+  pub slot-met : (own : List ℕ) (names : List Bytes) (s : Slot) (l : List Address) → ((m : ℕ) → count m own ≤ 1) → checkSlot g d own names s ≡ done l → fileOf g d s .sectors ≡ l
+  unfolding fileOf
+  slot-met own names s l u e =
+      let w = slot-sound own names s l e in
+      chain-met g (fileLink g) d (fileLink-on g) (firstLink g d s) l (firstLink-on s) (w .right .chain) (λ m. omega (arith, w .once m (u m)))
+
+  pub slots-sound : (own : List ℕ) (names : List Bytes) (ss : List Slot) (fs : List File) → ((m : ℕ) → count m own ≤ 1)
       → checkSlots g d own names ss ≡ done fs → SlotsSound own names ss fs
   unfolding fileOf
   slots-sound own names [] fs u e = rw (← (done-inj e)) (record { files = refl; right = tt; once = λ m. omega (arith, u m); differ = λ n h. omega arith })
@@ -103,8 +110,7 @@ module _ (g : Geometry) (d : Disk) where
       let u′ : (m : ℕ) → count m (map (sectorNumber g) l ++ own) ≤ 1 = λ m. omega (arith, count-append m (map (sectorNumber g) l) own, w .once m (u m)) in
       let h2 = bind-done (checkSlots g d (map (sectorNumber g) l ++ own) (nameOf (s .bytes) ∷ names) ss) _ fs (h1 .2) in
       let r = slots-sound (map (sectorNumber g) l ++ own) (nameOf (s .bytes) ∷ names) ss (h2 .0) u′ (h2 .1) in
-      let met : follow g (fileLink g) d (steps g) (firstLink g d s) ≡ l
-      = chain-met g (fileLink g) d (fileLink-on g) (firstLink g d s) l (firstLink-on s) (w .right .chain) (λ m. omega (arith, w .once m (u m))) in
+      let met : fileOf g d s .sectors ≡ l = slot-met own names s l u (h1 .1) in
       rw (← (done-inj (h2 .2))) (record {
         files = ap₂ (λ (a : List Address) (b : List File). record { slot = s; sectors = a } ∷ b) (sym met) (r .files);
         right = (w .right, r .right);
@@ -138,7 +144,7 @@ module _ (g : Geometry) (d : Disk) where
 
 -- ---- the whole
 
-one-le : (b : Bool) → indicator b ≤ 1
+pub one-le : (b : Bool) → indicator b ≤ 1
 one-le true = omega arith
 one-le false = omega arith
 
@@ -166,7 +172,7 @@ module _ (g : Geometry) (v : Valid g) (d : Disk) where
   unfolding directorySectors
   directory-met ds w = chain-met g (directoryLink g) d (directoryLink-on g) (to directoryStart) ds (v .directory) (w .chain) (λ m. omega (arith, base-once ds w m))
 
-  claims-are : (m : ℕ) → claimCount g d m ≡ count m (base (directorySectors g d)) + count m (fileClaims g (files g d))
+  pub claims-are : (m : ℕ) → claimCount g d m ≡ count m (base (directorySectors g d)) + count m (fileClaims g (files g d))
   unfolding claimCount claimList claimsOf
   claims-are m = omega (arith, count-append m (map (sectorNumber g) (directorySectors g d)) (fileClaims g (files g d)))
 

@@ -4,13 +4,14 @@ use native.Mathlib.Omega.{arith}
 use mathlib.Core.Path.{_≡_, refl, sym, ap, ap₂, _∙_}
 use mathlib.Core.Bool.{Bool, true, false, not, _&&_, _||_}
 use mathlib.Core.List.{[], _∷_, _++_, append-nil}
-use lib.ListN.{length, getD, replicate, length-append}
-use lib.Seq.{take-at, getD-append-add}
+use lib.ListN.{take, length, getD, replicate, length-append}
+use lib.Seq.{take-at, drop-at, getD-append-add}
 use lib.Dec.{eqb, ltb}
 use borrow.Author.Tests.{eq-eqb, ne-eqb, eqb-true, ltb-true}
 use Rattle.d64spec.specs.Lists.{Bytes, count, equal, filter, indicator, zeros}
 use Rattle.d64spec.specs.Answers.{Address}
 use Rattle.d64spec.specs.Directory.{countOf, entryByte, isEmpty, kindOf, nameField, nameOf, padded, validName, validType}
+use Rattle.d64spec.specs.Rules.{NewEntryBytes}
 use Rattle.d64spec.specs.Reply.{validKind, validNameArgument}
 use Rattle.d64spec.specs.Store.{newEntry}
 use Rattle.d64spec.proofs.CheckLaws.{equal-refl}
@@ -46,8 +47,11 @@ padding-dropped : (n : ℕ) → filter (λ c. not (eqb c 0xA0)) (replicate n 0xA
 padding-dropped zero = refl
 padding-dropped (suc n) = padding-dropped n
 
-filter-append′ : (l m : Bytes) → filter (λ c. not (eqb c 0xA0)) (l ++ m) ≡ filter (λ c. not (eqb c 0xA0)) l ++ filter (λ c. not (eqb c 0xA0)) m
-filter-append′ l m = filter-append (λ c. not (eqb c 0xA0)) l m
+-- a name read back from its field
+pub name-of-padded : (n : Bytes) (k : ℕ) → count 0xA0 n ≡ 0 → filter (λ c. not (eqb c 0xA0)) (n ++ replicate k 0xA0) ≡ n
+name-of-padded n k h =
+    filter-append (λ c. not (eqb c 0xA0)) n (replicate k 0xA0)
+    ∙ ap₂ (λ (x y : Bytes). x ++ y) (name-kept n h) (padding-dropped k) ∙ append-nil n
 
 module _ (name : Bytes) (kind : ℕ) (r : Address) (k : ℕ) (asked : validNameArgument name ≡ true) (kind-asked : validKind kind ≡ true) where
   -- the entry
@@ -87,17 +91,13 @@ module _ (name : Bytes) (kind : ℕ) (r : Address) (k : ℕ) (asked : validNameA
   unfolding newEntry
   entry-kind = let h = kind-small kind kind-asked in omega arith
 
-  field-is : nameField entry ≡ padded name
+  pub field-is : nameField entry ≡ padded name
   unfolding newEntry
   field-is = take-at (padded name) tail 16 (padded-length name short)
 
   pub entry-name : nameOf entry ≡ name
   unfolding nameOf padded
-  entry-name =
-      ap (filter (λ c. not (eqb c 0xA0))) field-is
-      ∙ filter-append′ name (replicate (16 - length name) 0xA0)
-      ∙ ap₂ (λ (x y : Bytes). x ++ y) (name-kept name plain-name) (padding-dropped (16 - length name))
-      ∙ append-nil name
+  entry-name = ap (filter (λ c. not (eqb c 0xA0))) field-is ∙ name-of-padded name (16 - length name) plain-name
 
   pub entry-name-right : validName entry ≡ true
   unfolding validName
@@ -113,3 +113,16 @@ module _ (name : Bytes) (kind : ℕ) (r : Address) (k : ℕ) (asked : validNameA
   entry-count =
       let z : k % 256 + 256 * (k / 256) ≡ k = omega arith in
       ap₂ (λ (x y : ℕ). x + 256 * y) (past-name 9) (past-name 10) ∙ z
+
+  -- THE BYTES OF A NEW ENTRY are those that document 01 lists
+  pub entry-bytes : NewEntryBytes entry name kind r k
+  unfolding newEntry padded
+  entry-bytes = record {
+    size = entry-length;
+    type = refl;
+    track = refl;
+    sector = refl;
+    name = field-is;
+    nine = ap (take 9) (drop-at (padded name) tail 16 (padded-length name short));
+    count = entry-count;
+  }

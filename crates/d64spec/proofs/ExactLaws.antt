@@ -30,6 +30,12 @@ unfolding reply
 zero-done img out (refused f) = ((λ e. absurd (let h : answerOf f .number ≡ suc (fault-number f .0) = fault-number f .1 in omega arith)), (λ w. refused≢done f (w .0) (w .1)))
 zero-done img out (done c) = ((λ e. (c, refl)), (λ w. refl))
 
+-- a reply that says 0 has the change of the call
+pub zero-change : (img out : Bytes) (x : Result Change) → reply img out x .answer .number ≡ 0 → x ≡ done (reply img out x .change)
+unfolding reply
+zero-change img out (refused f) e = absurd (let h : answerOf f .number ≡ suc (fault-number f .0) = fault-number f .1 in omega arith)
+zero-change img out (done c) e = refl
+
 check-done : (g : Geometry) (img : Bytes) → Done (callCheck g img) ↔ Done (checkImage g img)
 unfolding callCheck
 check-done g img = (

@@ -15,20 +15,19 @@ use lib.Seq.{ext-getD, getD-take, getD-drop}
 use lib.Dec.{eqb, ltb}
 use borrow.Author.Tests.{eq-eqb, eqb-true, ltb-true}
 use Rattle.d64spec.specs.Lists.{Bytes, ascending, count, filter, indicator, join, range, splice, zeros}
-use Rattle.d64spec.specs.Answers.{Address, badNameArgument, done, wrongSize}
+use Rattle.d64spec.specs.Answers.{Address, done}
 use Rattle.d64spec.specs.Geometry.{Geometry, Valid, directoryStart, mapAddress, sectorNumber, total, tracks}
 use Rattle.d64spec.specs.Image.{Disk, disk, image, put}
 use Rattle.d64spec.specs.Chain.{Link, decodeDirectoryLink, directoryLink, ends, follow, steps, to}
 use Rattle.d64spec.specs.Directory.{directorySectors, fileOf, files, occupied, padded, plainEntryOf, plainList, slotIn, slotsFrom, slotsIn}
 use Rattle.d64spec.specs.Owner.{claimCount, fileClaims, isFree}
 use Rattle.d64spec.specs.Map.{rewriteMap, withEntries}
-use Rattle.d64spec.specs.Check.{rightSize}
 use Rattle.d64spec.specs.Reply.{Change, reply, validNameArgument}
 use Rattle.d64spec.specs.Format.{callFormat, emptyDirectorySector, formatHeader, formattedDisk, formattedMap, freeAfterFormat}
 use Rattle.d64spec.specs.Call.{format}
 use Rattle.d64spec.specs.Host.{hostReply}
 use Rattle.d64spec.specs.Run.{plainListAfter}
-use Rattle.d64spec.proofs.ResultLaws.{need-done, done-inj}
+use Rattle.d64spec.proofs.CallLaws.{format-done}
 use Rattle.d64spec.proofs.BoundLaws.{sectorNumber-lt, map-on}
 use Rattle.d64spec.proofs.RunLaws.{StepHolds}
 use Rattle.d64spec.proofs.FrameLaws.{Sound}
@@ -172,12 +171,12 @@ none-not : (n : ℕ) → not (ltb 0 n) ≡ eqb n 0
 none-not zero = refl
 none-not (suc n) = ap not (lt-ltb 0 (suc n) (omega arith)) ∙ sym (ne-eqb (suc n) 0 (λ e. omega arith))
 
-blank-map : (g : Geometry) (name : Bytes) (i j : ℕ) → blankDisk g name i j (sectorNumber g mapAddress) ≡ header name i j
+pub blank-map : (g : Geometry) (name : Bytes) (i j : ℕ) → blankDisk g name i j (sectorNumber g mapAddress) ≡ header name i j
 unfolding blankDisk
 blank-map g name i j = put-same (put (disk (zeros (256 * total g))) (sectorNumber g directoryStart) emptyDirectorySector) (sectorNumber g mapAddress) (header name i j)
 
 module _ (g : Geometry) (v : Valid g) (name : Bytes) (i j : ℕ) (short : length name ≤ 16) where
-  free-same : _≡_ {A = Address → Bool} (freeAfterFormat g) (isFree g (blankDisk g name i j))
+  pub free-same : _≡_ {A = Address → Bool} (freeAfterFormat g) (isFree g (blankDisk g name i j))
   unfolding freeAfterFormat
   free-same = fun-ext (λ r.
       let n : count (sectorNumber g r) (sectorNumber g mapAddress ∷ sectorNumber g directoryStart ∷ []) ≡ claimCount g (blankDisk g name i j) (sectorNumber g r) = omega (arith, blank-claims g v name i j short (sectorNumber g r)) in
@@ -230,12 +229,11 @@ name-short n e =
 
 pub format-step : (g : Geometry) → Valid g → (img name : Bytes) (i j : ℕ) (ch : Change) → callFormat g img name i j ≡ done ch
     → StepHolds g img (format name i j) (hostReply (reply img [] (done ch)))
-unfolding callFormat reply plainListAfter
+unfolding reply plainListAfter
 format-step g v img name i j ch e =
-    let h1 = need-done (rightSize g img) wrongSize _ ch e in
-    let h2 = need-done (validNameArgument name) badNameArgument _ ch (h1 .1) in
-    let s : length name ≤ 16 = name-short name (h2 .0) in
-    disk-step g img (format name i j) (hostReply (reply img [] (done ch))) (rewriteMap g (blankDisk g name i j)) (ap (λ (x : Change). x .imageAfter) (sym (done-inj (h2 .1))) ∙ formatted-same g v name i j s)
+    let h = format-done g img name i j ch e in
+    let s : length name ≤ 16 = name-short name (h .asked) in
+    disk-step g img (format name i j) (hostReply (reply img [] (done ch))) (rewriteMap g (blankDisk g name i j)) (ap (λ (x : Change). x .imageAfter) (sym (h .change)) ∙ formatted-same g v name i j s)
     (rewrite-whole g v (blankDisk g name i j) (blank-whole g v name i j s) (blank-sound g v name i j s))
     (rewrite-accepted g v (blankDisk g name i j) (blank-whole g v name i j s) (blank-sound g v name i j s))
     (rw (blank-plainList g v name i j s) (Perm·refl []))

@@ -2,22 +2,19 @@
 use Prim.Native.Nat.{ℕ, _≤_}
 use native.Mathlib.Omega.{arith}
 use mathlib.Core.Path.{_≡_, sym, ap, _∙_}
-use mathlib.Core.Bool.{true}
 use mathlib.Core.Logic.{inl}
-use mathlib.Core.List.{[], Perm·eq-nil}
+use mathlib.Core.List.{Perm·eq-nil}
 use lib.ListN.{length}
 use Rattle.d64spec.specs.Lists.{Bytes, byte}
-use Rattle.d64spec.specs.Answers.{badNameArgument, done, wrongSize}
+use Rattle.d64spec.specs.Answers.{done}
 use Rattle.d64spec.specs.Geometry.{Geometry, Valid, directoryStart, mapAddress, sectorNumber}
 use Rattle.d64spec.specs.Image.{Disk, disk, put}
-use Rattle.d64spec.specs.Directory.{plainList}
 use Rattle.d64spec.specs.Map.{rewriteMap}
-use Rattle.d64spec.specs.Check.{rightSize}
-use Rattle.d64spec.specs.Accepted.{Accepted}
-use Rattle.d64spec.specs.Reply.{Change, reply, validNameArgument, writable}
+use Rattle.d64spec.specs.Reply.{Change, reply, writable}
 use Rattle.d64spec.specs.Format.{callFormat, emptyDirectorySector}
 use Rattle.d64spec.specs.Run.{plainListAfter}
-use Rattle.d64spec.proofs.ResultLaws.{need-done, done-inj}
+use Rattle.d64spec.specs.Facts.{Ready}
+use Rattle.d64spec.proofs.CallLaws.{format-done}
 use Rattle.d64spec.proofs.BoundLaws.{sectorNumber-lt, map-on}
 use Rattle.d64spec.proofs.ImageLaws.{put-same, image-disk}
 use Rattle.d64spec.proofs.MapWriteLaws.{rewrite-whole}
@@ -31,21 +28,19 @@ version g v name i j short =
     map-other g v (blankDisk g name i j) (blank-whole g v name i j short .full (sectorNumber g mapAddress) (sectorNumber-lt g mapAddress (map-on g (v .directory)))) 2 (λ t l h. inl (omega (arith, v .mapPast t l h)))
     ∙ ap (λ (x : Bytes). byte x 2) (put-same (put (disk _) (sectorNumber g directoryStart) emptyDirectorySector) (sectorNumber g mapAddress) (header name i j))
 
--- accepted, free to be written, and with no file
-pub record Ready (g : Geometry) (img : Bytes) : Type 0 where
-  pub accepted : Accepted g img
-  pub writable : writable g (disk img) ≡ true
-  pub bare : plainList g (disk img) ≡ []
+-- the sectors after a format that is done
+pub formatted-disk : (g : Geometry) → Valid g → (img name : Bytes) (i j : ℕ) (ch : Change) → callFormat g img name i j ≡ done ch
+    → (length name ≤ 16) × (disk (ch .imageAfter) ≡ rewriteMap g (blankDisk g name i j))
+formatted-disk g v img name i j ch e =
+    let h = format-done g img name i j ch e in
+    let s : length name ≤ 16 = name-short name (h .asked) in
+    let b : Disk = blankDisk g name i j in
+    (s, ap (λ (x : Change). disk (x .imageAfter)) (sym (h .change)) ∙ ap disk (formatted-same g v name i j s) ∙ image-disk g (rewriteMap g b) (rewrite-whole g v b (blank-whole g v name i j s) (blank-sound g v name i j s)))
 
 -- A FORMATTED IMAGE IS READY
 pub format-ready : (g : Geometry) → Valid g → (img name : Bytes) (i j : ℕ) (ch : Change) → callFormat g img name i j ≡ done ch → Ready g (ch .imageAfter)
-unfolding callFormat reply plainListAfter writable
+unfolding reply plainListAfter writable
 format-ready g v img name i j ch e =
-    let h1 = need-done (rightSize g img) wrongSize _ ch e in
-    let h2 = need-done (validNameArgument name) badNameArgument _ ch (h1 .1) in
-    let s : length name ≤ 16 = name-short name (h2 .0) in
     let r = format-step g v img name i j ch e in
-    let b : Disk = blankDisk g name i j in
-    let z : disk (ch .imageAfter) ≡ rewriteMap g b
-    = ap (λ (x : Change). disk (x .imageAfter)) (sym (done-inj (h2 .1))) ∙ ap disk (formatted-same g v name i j s) ∙ image-disk g (rewriteMap g b) (rewrite-whole g v b (blank-whole g v name i j s) (blank-sound g v name i j s)) in
-    record { accepted = r .accepted; writable = rw (z, version g v name i j s); bare = Perm·eq-nil (r .holds) }
+    let z = formatted-disk g v img name i j ch e in
+    record { accepted = r .accepted; writable = rw (z .1, version g v name i j (z .0)); bare = Perm·eq-nil (r .holds) }

@@ -6,24 +6,20 @@ use mathlib.Core.Bool.{Bool, true, false, cond}
 use mathlib.Core.Logic.{_↔_}
 use lib.ListN.{length}
 use lib.Dec.{eqb, leb}
-use borrow.Author.Tests.{eq-eqb, ne-eqb, eqb-true, leb-true}
+use borrow.Author.Tests.{eq-eqb, ne-eqb, eqb-true}
 use Rattle.d64spec.specs.Lists.{Bytes, byte}
-use Rattle.d64spec.specs.Answers.{Result, badKindArgument, badNameArgument, diskFull, done, first, nameExists, notFound, refused, writeForbidden, wrongBuffer, wrongSize}
+use Rattle.d64spec.specs.Answers.{Result, done, refused}
 use Rattle.d64spec.specs.Geometry.{Geometry, Valid, total}
 use Rattle.d64spec.specs.Image.{disk}
 use Rattle.d64spec.specs.Chain.{chainData}
-use Rattle.d64spec.specs.Directory.{files}
-use Rattle.d64spec.specs.Owner.{freeForFiles}
 use Rattle.d64spec.specs.Check.{DirectoryContents, checkDisk, checkImage, rightSize}
 use Rattle.d64spec.specs.Accepted.{Accepted}
-use Rattle.d64spec.specs.Reply.{Change, filesNamed, reply, validKind, validNameArgument, writable}
-use Rattle.d64spec.specs.Format.{callFormat}
-use Rattle.d64spec.specs.Read.{callRead}
-use Rattle.d64spec.specs.Store.{callStore, sectorsNeeded, slotPlaceFor}
-use Rattle.d64spec.specs.Scratch.{callScratch}
+use Rattle.d64spec.specs.Reply.{Change, reply}
 use Rattle.d64spec.specs.Call.{Call, attempt, callCheck, check, format, outputBuffer, perform, read, scratch, store}
 use Rattle.d64spec.specs.Host.{HostReply, answerBlock, blockRefused, hostCall, hostReply, littleEndian}
-use Rattle.d64spec.proofs.ResultLaws.{need-done, then-done, bind-done, done-inj}
+use Rattle.d64spec.specs.Examples.{accepted, content}
+use Rattle.d64spec.proofs.ResultLaws.{then-done, done-inj}
+use Rattle.d64spec.proofs.CallLaws.{format-done, read-done, store-done, scratch-done}
 use Rattle.d64spec.proofs.SpliceLaws.{length-splice}
 use Rattle.d64spec.proofs.CheckLaws.{disk-sound}
 use Rattle.d64spec.proofs.FormatLaws.{format-step}
@@ -71,7 +67,7 @@ host-check g v img block h = rw (right-block g img block check h) (check-exact g
 -- ---- the image and the output
 
 module _ (g : Geometry) (v : Valid g) (img : Bytes) where
-  accepted-of : rightSize g img ≡ true → (c : DirectoryContents) → checkDisk g (disk img) ≡ done c → Accepted g img
+  pub accepted-of : rightSize g img ≡ true → (c : DirectoryContents) → checkDisk g (disk img) ≡ done c → Accepted g img
   unfolding rightSize
   accepted-of s c e = record { size = eqb-true (length img) (256 * total g) s; content = disk-sound g v (disk img) c e .0 }
 
@@ -80,39 +76,16 @@ module _ (g : Geometry) (v : Valid g) (img : Bytes) where
   size-of s = eqb-true (length img) (256 * total g) s
 
   image-kept : (c : Call) (ch : Change) → attempt g img c ≡ done ch → length (ch .imageAfter) ≡ length img
-  unfolding attempt reply callCheck callFormat callRead callStore callScratch
-  image-kept check ch e =
-      ap (λ (x : Change). length (x .imageAfter)) (sym (done-inj (then-done (checkImage g img) _ ch e .2)))
-  image-kept (format name i j) ch e = format-step g v img name i j ch e .accepted .size ∙ sym (size-of (formatted name i j ch e))
-    where
-      formatted : (name : Bytes) (i j : ℕ) (ch : Change) → callFormat g img name i j ≡ done ch → rightSize g img ≡ true
-      formatted name i j ch e = need-done (rightSize g img) wrongSize _ ch e .0
-  image-kept (read name out) ch e =
-      let h1 = need-done (rightSize g img) wrongSize _ ch e in
-      let h2 = need-done (validNameArgument name) badNameArgument _ ch (h1 .1) in
-      let h3 = then-done (checkDisk g (disk img)) _ ch (h2 .1) in
-      let h4 = bind-done (first notFound (filesNamed name (files g (disk img)))) _ ch (h3 .2) in
-      let h5 = need-done (leb (length (chainData g (disk img) (h4 .0 .sectors))) (length out)) wrongBuffer _ ch (h4 .2) in
-      ap (λ (x : Change). length (x .imageAfter)) (sym (done-inj (h5 .1)))
+  unfolding attempt reply callCheck
+  image-kept check ch e = ap (λ (x : Change). length (x .imageAfter)) (sym (done-inj (then-done (checkImage g img) _ ch e .2)))
+  image-kept (format name i j) ch e = format-step g v img name i j ch e .accepted .size ∙ sym (size-of (format-done g img name i j ch e .size))
+  image-kept (read name out) ch e = ap (λ (x : Change). length (x .imageAfter)) (sym (read-done g img name out ch e .change))
   image-kept (store name kind bs) ch e =
-      store-step g v img (stored name kind bs ch e) name kind bs ch e .accepted .size ∙ sym (stored name kind bs ch e .size)
-    where
-      stored : (name : Bytes) (kind : ℕ) (bs : Bytes) (ch : Change) → callStore g img name kind bs ≡ done ch → Accepted g img
-      stored name kind bs ch e =
-          let h1 = need-done (rightSize g img) wrongSize _ ch e in
-          let h2 = need-done (validNameArgument name) badNameArgument _ ch (h1 .1) in
-          let h3 = need-done (validKind kind) badKindArgument _ ch (h2 .1) in
-          let h4 = then-done (checkDisk g (disk img)) _ ch (h3 .1) in
-          accepted-of (h1 .0) (h4 .0) (h4 .1)
+      let h = store-done g img name kind bs ch e in
+      store-step g v img (accepted-of (h .size) (h .contents) (h .checked)) name kind bs ch e .accepted .size ∙ sym (size-of (h .size))
   image-kept (scratch name) ch e =
-      scratch-step g v img (scratched name ch e) name ch e .accepted .size ∙ sym (scratched name ch e .size)
-    where
-      scratched : (name : Bytes) (ch : Change) → callScratch g img name ≡ done ch → Accepted g img
-      scratched name ch e =
-          let h1 = need-done (rightSize g img) wrongSize _ ch e in
-          let h2 = need-done (validNameArgument name) badNameArgument _ ch (h1 .1) in
-          let h3 = then-done (checkDisk g (disk img)) _ ch (h2 .1) in
-          accepted-of (h1 .0) (h3 .0) (h3 .1)
+      let h = scratch-done g img name ch e in
+      scratch-step g v img (accepted-of (h .size) (h .contents) (h .checked)) name ch e .accepted .size ∙ sym (size-of (h .size))
 
 -- the image keeps its length, accepted or not
 pub image-length : (g : Geometry) → Valid g → (img block : Bytes) (c : Call) → length (hostCall g img block c .imageAfter) ≡ length img
@@ -124,38 +97,15 @@ image-length g v img block c = by-block (λ r. length (r .imageAfter) ≡ length
     go (done ch) e = image-kept g v img c ch e
 
 out-kept : (g : Geometry) (img : Bytes) (c : Call) (ch : Change) → attempt g img c ≡ done ch → length (ch .outputAfter) ≡ length (outputBuffer c)
-unfolding attempt outputBuffer callCheck callFormat callRead callStore callScratch
-out-kept g img check ch e =
-    ap (λ (x : Change). length (x .outputAfter)) (sym (done-inj (then-done (checkImage g img) _ ch e .2)))
-out-kept g img (format name i j) ch e =
-    let h1 = need-done (rightSize g img) wrongSize _ ch e in
-    let h2 = need-done (validNameArgument name) badNameArgument _ ch (h1 .1) in
-    ap (λ (x : Change). length (x .outputAfter)) (sym (done-inj (h2 .1)))
+unfolding attempt outputBuffer callCheck
+out-kept g img check ch e = ap (λ (x : Change). length (x .outputAfter)) (sym (done-inj (then-done (checkImage g img) _ ch e .2)))
+out-kept g img (format name i j) ch e = ap (λ (x : Change). length (x .outputAfter)) (sym (format-done g img name i j ch e .change))
 out-kept g img (read name out) ch e =
-    let h1 = need-done (rightSize g img) wrongSize _ ch e in
-    let h2 = need-done (validNameArgument name) badNameArgument _ ch (h1 .1) in
-    let h3 = then-done (checkDisk g (disk img)) _ ch (h2 .1) in
-    let h4 = bind-done (first notFound (filesNamed name (files g (disk img)))) _ ch (h3 .2) in
-    let b : Bytes = chainData g (disk img) (h4 .0 .sectors) in
-    let h5 = need-done (leb (length b) (length out)) wrongBuffer _ ch (h4 .2) in
-    ap (λ (x : Change). length (x .outputAfter)) (sym (done-inj (h5 .1))) ∙ length-splice out 0 b (omega (arith, leb-true (length b) (length out) (h5 .0)))
-out-kept g img (store name kind bs) ch e =
-    let h1 = need-done (rightSize g img) wrongSize _ ch e in
-    let h2 = need-done (validNameArgument name) badNameArgument _ ch (h1 .1) in
-    let h3 = need-done (validKind kind) badKindArgument _ ch (h2 .1) in
-    let h4 = then-done (checkDisk g (disk img)) _ ch (h3 .1) in
-    let h5 = need-done (writable g (disk img)) writeForbidden _ ch (h4 .2) in
-    let h6 = need-done (eqb (length (filesNamed name (files g (disk img)))) 0) nameExists _ ch (h5 .1) in
-    let h7 = bind-done (slotPlaceFor g (disk img)) _ ch (h6 .1) in
-    let h8 = need-done (leb (sectorsNeeded (length bs)) (length (freeForFiles g (disk img)))) diskFull _ ch (h7 .2) in
-    ap (λ (x : Change). length (x .outputAfter)) (sym (done-inj (h8 .1)))
-out-kept g img (scratch name) ch e =
-    let h1 = need-done (rightSize g img) wrongSize _ ch e in
-    let h2 = need-done (validNameArgument name) badNameArgument _ ch (h1 .1) in
-    let h3 = then-done (checkDisk g (disk img)) _ ch (h2 .1) in
-    let h4 = need-done (writable g (disk img)) writeForbidden _ ch (h3 .2) in
-    let h5 = bind-done (first notFound (filesNamed name (files g (disk img)))) _ ch (h4 .1) in
-    ap (λ (x : Change). length (x .outputAfter)) (sym (done-inj (h5 .2)))
+    let h = read-done g img name out ch e in
+    let b : Bytes = chainData g (disk img) (h .file .sectors) in
+    ap (λ (x : Change). length (x .outputAfter)) (sym (h .change)) ∙ length-splice out 0 b (omega (arith, h .fits))
+out-kept g img (store name kind bs) ch e = ap (λ (x : Change). length (x .outputAfter)) (sym (store-done g img name kind bs ch e .change))
+out-kept g img (scratch name) ch e = ap (λ (x : Change). length (x .outputAfter)) (sym (scratch-done g img name ch e .change))
 
 -- and so does the output
 pub out-length : (g : Geometry) (img block : Bytes) (c : Call) → length (hostCall g img block c .outputAfter) ≡ length (outputBuffer c)

@@ -1,7 +1,9 @@
+pub mod ExampleTables
 pub mod ListLaws
 pub mod ChainLaws
 pub mod PigeonholeLaws
 pub mod ResultLaws
+pub mod CallLaws
 pub mod BoundLaws
 pub mod RunLaws
 pub mod RefusalLaws
@@ -33,5 +35,16 @@ pub mod OtherBytes
 pub mod RoundTrip
 pub mod LengthLaws
 pub mod FormatReady
+pub mod OutcomeLaws
 pub mod ListingLaws
 pub mod HostLaws
+pub mod RuleLaws
+pub mod ConditionLaws
+pub mod ChainFaultLaws
+pub mod FirstFault
+pub mod OwnerTheorem
+pub mod SlotBounds
+pub mod PlaceLaws
+pub mod WidthTheorem
+pub mod FormatTheorem
+pub mod ReadTheorem

@@ -7,23 +7,25 @@ use mathlib.Core.List.{List, [], _∷_, _++_, map}
 use lib.ListN.{length, take, drop, length-append, length-take, length-map}
 use lib.Dec.{eqb, ltb, leb}
 use borrow.Author.Tests.{eq-eqb, ne-eqb, eqb-true, eqb-false, le-leb, ltb-true}
-use Rattle.d64spec.specs.Lists.{All, Bytes, byte, count, filter, indicator, join, member, nameCount}
-use Rattle.d64spec.specs.Answers.{Address, Fault, Result, _>>=_, _>>_, address, alreadyOwned, badName, badType, done, duplicateName, need, refused, wrongBuffer, wrongSize}
+use Rattle.d64spec.specs.Lists.{All, Bytes, byte, count, filter, indicator, join}
+use Rattle.d64spec.specs.Answers.{Address, Fault, answerOf, address, done, refused, wrongBuffer, wrongSize}
 use Rattle.d64spec.specs.Geometry.{Geometry, Valid, directoryStart, firstOn, layout35, mapAddress, onDisk, sectorNumber, sectorsOn}
 use Rattle.d64spec.specs.Image.{Disk}
 use Rattle.d64spec.specs.Chain.{Chain, Link, bad, decodeDirectoryLink, directoryLink, ends, linkTo, steps, to, walk}
-use Rattle.d64spec.specs.Directory.{Slot, entryByte, isEmpty, nameOf, occupiedIn, slotsFrom, slotsIn, validName, validType}
-use Rattle.d64spec.specs.Check.{checkDirectory, checkEntry}
+use Rattle.d64spec.specs.Directory.{Slot, isEmpty, occupiedIn, slotsFrom, slotsIn}
+use Rattle.d64spec.specs.Check.{checkDirectory}
 use Rattle.d64spec.specs.Listing.{Listed, callListing, digit, freeTotal, headFrame, line, listSlots, listingText, slotFrame, track18}
 use Rattle.d64spec.proofs.ResultLaws.{need-done, then-done, bind-done, done-inj}
 use Rattle.d64spec.proofs.PigeonholeLaws.{pigeon}
-use Rattle.d64spec.proofs.WalkLaws.{walk-sound}
+use Rattle.d64spec.proofs.WalkLaws.{Walked, walk-sound}
+use Rattle.d64spec.proofs.BoundLaws.{directoryLink-on, map-on}
+use Rattle.d64spec.proofs.OutcomeLaws.{Refusals, OfEntry, bind-outcome, then-outcome, need-outcome, walk-refusals, listSlots-refusals}
 use Rattle.d64spec.proofs.RunTheorem.{valid35}
 
 -- ---- the directory stays on track 18
 
 -- a step to a sector of track 18, if to any
-abbrev On18 : Geometry → Link → Type 0
+abbrev pub On18 : Geometry → Link → Type 0
 On18 g ends = Unit {0}
 On18 g bad = Unit {0}
 On18 g (to r) = (r .track ≡ 18) × (r .sector < sectorsOn g 18)
@@ -41,7 +43,7 @@ link-18 g b = go (byte b 0) (byte b 1)
     go zero s = tt
     go (suc t) s = cases s (eqb (suc t) 18 && ltb 0 s) (ltb s (sectorsOn g 18)) refl
 
-chain-18 : (g : Geometry) (d : Disk) (k : Link) (l : List Address) → On18 g k → Chain g (directoryLink g) d k l → All (λ r. On18 g (to r)) l
+pub chain-18 : (g : Geometry) (d : Disk) (k : Link) (l : List Address) → On18 g k → Chain g (directoryLink g) d k l → All (λ r. On18 g (to r)) l
 chain-18 g d k [] o c = tt
 chain-18 g d k (r ∷ l) o c = (rw (c .0) at o, chain-18 g d (directoryLink g (d (sectorNumber g r))) l (link-18 g (d (sectorNumber g r))) (c .1))
 
@@ -66,10 +68,9 @@ below-18 g [] a = tt
 below-18 g (r ∷ l) a = (a .0 .1, below-18 g l (a .1))
 
 -- a directory that a walk finds leaves out 18/0
-directory-few : (g : Geometry) → Valid g → (d : Disk) (n : ℕ) (l : List Address) → walk g (directoryLink g) d n (sectorNumber g mapAddress ∷ []) mapAddress 255 (to directoryStart) ≡ done l → 1 + length l ≤ sectorsOn g 18
+pub directory-few : (g : Geometry) → Valid g → (d : Disk) (l : List Address) → Walked g (directoryLink g) d (sectorNumber g mapAddress ∷ []) (to directoryStart) l → 1 + length l ≤ sectorsOn g 18
 unfolding onDisk sectorNumber
-directory-few g v d n l e =
-    let w = walk-sound g (directoryLink g) d n (sectorNumber g mapAddress ∷ []) mapAddress 255 (to directoryStart) l e in
+directory-few g v d l w =
     let on : 1 < sectorsOn g 18 = ltb-true 1 (sectorsOn g 18) (v .directory) in
     let a : All (λ r. On18 g (to r)) l = chain-18 g d (to directoryStart) l (refl, on) (w .chain) in
     let few : (i : ℕ) → count i (0 ∷ map (λ r. r .sector) l) ≤ 1 = λ i. once i (w .once (firstOn g 18 + i)) a in
@@ -132,7 +133,7 @@ filter-length p (x ∷ l) = go (p x) (filter-length p l)
     go true h = omega arith
     go false h = omega arith
 
-slots-length : (g : Geometry) (d : Disk) (n : ℕ) (l : List Address) → length (slotsFrom g d n l) ≡ 8 * length l
+pub slots-length : (g : Geometry) (d : Disk) (n : ℕ) (l : List Address) → length (slotsFrom g d n l) ≡ 8 * length l
 unfolding slotsIn
 slots-length g d n [] = refl
 slots-length g d n (r ∷ l) = omega (arith, length-append (slotsIn (d (sectorNumber g r)) r n) (slotsFrom g d (n + 8) l), slots-length g d (n + 8) l)
@@ -152,7 +153,7 @@ module _ (g : Geometry) (v : Valid g) (b : Bytes) where
 
   text-bound : (ds : List Address) → walk g (directoryLink g) d (steps g) (sectorNumber g mapAddress ∷ []) mapAddress 255 (to directoryStart) ≡ done ds → length (listingText g d (slots ds)) ≤ longest g
   text-bound ds e =
-      omega (arith, text-length g d (slots ds), filter-length (λ s. not (isEmpty (s .bytes))) (slotsFrom g d 0 ds), slots-length g d 0 ds, directory-few g v d (steps g) ds e)
+      omega (arith, text-length g d (slots ds), filter-length (λ s. not (isEmpty (s .bytes))) (slotsFrom g d 0 ds), slots-length g d 0 ds, directory-few g v d ds (walk-sound g (directoryLink g) d (steps g) (sectorNumber g mapAddress ∷ []) mapAddress 255 (to directoryStart) ds e))
 
   -- A LISTING IS NO LONGER
   pub listing-bound : (out : Bytes) (l : Listed) → callListing g b out ≡ done l → l .reportedLength ≤ longest g
@@ -167,56 +168,32 @@ module _ (g : Geometry) (v : Valid g) (b : Bytes) where
 
 -- ---- when the buffer is too short
 
--- not refused with 16
-abbrev Not16 : {A : Type 0} → Result A → Type 0
-Not16 (refused f) = f ≡ wrongBuffer → ⊥
-Not16 (done x) = Unit {0}
+-- no refusal with 16
+abbrev Not16 : Fault → Type 0
+Not16 f = f ≡ wrongBuffer → ⊥
 
-bind-16 : {A B : Type 0} (x : Result A) (k : A → Result B) → Not16 x → ((a : A) → x ≡ done a → Not16 (k a)) → Not16 (x >>= k)
-bind-16 (refused f) k h f′ = h
-bind-16 (done a) k h f = f a refl
+never-16 : {f : Fault} (n : ℕ) → answerOf f .number ≡ n → n < 16 → Not16 f
+never-16 n e h z = let k : answerOf wrongBuffer .number ≡ n = rw z at e in omega arith
 
-then-16 : {A B : Type 0} (x : Result A) (r : Result B) → Not16 x → Not16 r → Not16 (x >> r)
-then-16 (refused f) r h k = h
-then-16 (done a) r h k = k
-
-need-16 : (b : Bool) (f : Fault) → (f ≡ wrongBuffer → ⊥) → Not16 (need b f)
-need-16 true f h = tt
-need-16 false f h = h
-
-walk-16 : (g : Geometry) (step : Bytes → Link) (d : Disk) (n : ℕ) (own : List ℕ) (at : Address) (slot : ℕ) (k : Link) → Not16 (walk g step d n own at slot k)
-walk-16 g step d zero own at slot k = λ e. (let z : _≡_ {A = ℕ} 0 1 = cc in omega arith)
-walk-16 g step d (suc n) own at slot ends = tt
-walk-16 g step d (suc n) own at slot bad = λ e. (let z : _≡_ {A = ℕ} 0 1 = cc in omega arith)
-walk-16 g step d (suc n) own at slot (to r) = go (member (sectorNumber g r) own) (walk-16 g step d n (sectorNumber g r ∷ own) r slot (step (d (sectorNumber g r))))
-  where
-    go : (b : Bool) → Not16 (walk g step d n (sectorNumber g r ∷ own) r slot (step (d (sectorNumber g r))))
-        → Not16 {A = List Address} (elim b as (λ x. Result (List Address)) [ true ↦ refused (alreadyOwned at slot) | false ↦ walk g step d n (sectorNumber g r ∷ own) r slot (step (d (sectorNumber g r))) >>= (λ x. done (r ∷ x)) ])
-    go true h = λ e. (let z : _≡_ {A = ℕ} 0 1 = cc in omega arith)
-    go false h = bind-16 (walk g step d n (sectorNumber g r ∷ own) r slot (step (d (sectorNumber g r)))) (λ x. done (r ∷ x)) h (λ x e. tt)
-
-entry-16 : (names : List Bytes) (s : Slot) → Not16 (checkEntry names s)
-unfolding checkEntry
-entry-16 names s =
-    then-16 (need (validType (entryByte (s .bytes) 0x02)) (badType (s .holder) (s .number))) _ (need-16 (validType (entryByte (s .bytes) 0x02)) (badType (s .holder) (s .number)) (λ e. (let z : _≡_ {A = ℕ} 0 1 = cc in omega arith)))
-    (then-16 (need (validName (s .bytes)) (badName (s .holder) (s .number))) _ (need-16 (validName (s .bytes)) (badName (s .holder) (s .number)) (λ e. (let z : _≡_ {A = ℕ} 0 1 = cc in omega arith)))
-    (need-16 (eqb (nameCount (nameOf (s .bytes)) names) 0) (duplicateName (s .holder) (s .number)) (λ e. (let z : _≡_ {A = ℕ} 0 1 = cc in omega arith))))
-
-slots-16 : (names : List Bytes) (l : List Slot) → Not16 (listSlots names l)
-slots-16 names [] = tt
-slots-16 names (s ∷ l) = then-16 (checkEntry names s) _ (entry-16 names s) (slots-16 (nameOf (s .bytes) ∷ names) l)
+entry-16 : (s : Slot) → OfEntry Not16 s
+entry-16 s = record { type = never-16 4 refl (omega arith); name = never-16 5 refl (omega arith); duplicate = never-16 6 refl (omega arith) }
 
 -- SO MUCH ALWAYS SUFFICES
 pub listing-fits : (g : Geometry) → Valid g → (b out : Bytes) → longest g ≤ length out → callListing g b out ≡ refused wrongBuffer → ⊥
 unfolding callListing checkDirectory
-listing-fits g v b out h e = subst Not16 e never refl
+listing-fits g v b out h e = subst (Refusals Not16) e never refl
   where
-    never : Not16 (callListing g b out)
+    entries-16 : (l : List Slot) → All (OfEntry Not16) l
+    entries-16 [] = tt
+    entries-16 (s ∷ l) = (entry-16 s, entries-16 l)
+
+    never : Refusals Not16 (callListing g b out)
     never =
-        then-16 (need (eqb (length b) (256 * sectorsOn g 18)) wrongSize) _ (need-16 (eqb (length b) (256 * sectorsOn g 18)) wrongSize (λ e. (let z : _≡_ {A = ℕ} 0 1 = cc in omega arith)))
-        (bind-16 (walk g (directoryLink g) (track18 g b) (steps g) (sectorNumber g mapAddress ∷ []) mapAddress 255 (to directoryStart)) _ (walk-16 g (directoryLink g) (track18 g b) (steps g) (sectorNumber g mapAddress ∷ []) mapAddress 255 (to directoryStart))
-        (λ ds e. then-16 (listSlots [] (slots g v b ds)) _ (slots-16 [] (slots g v b ds))
-        (rw (le-leb (length (listingText g (track18 g b) (slots g v b ds))) (length out) (omega (arith, text-bound g v b ds e))) tt)))
+        need-outcome Not16 (λ x. Unit {0}) (eqb (length b) (256 * sectorsOn g 18)) wrongSize _ (never-16 1 refl (omega arith))
+        (λ s. bind-outcome Not16 (λ x. Unit {0}) (walk g (directoryLink g) (track18 g b) (steps g) (sectorNumber g mapAddress ∷ []) mapAddress 255 (to directoryStart)) _
+        (walk-refusals Not16 g (directoryLink g) (directoryLink-on g) (track18 g b) 255 (λ r o. (never-16 2 refl (omega arith), never-16 3 refl (omega arith))) (steps g) (sectorNumber g mapAddress ∷ []) mapAddress (to directoryStart) (map-on g (v .directory)) (v .directory))
+        (λ ds e. then-outcome Not16 (λ x. Unit {0}) (listSlots [] (slots g v b ds)) _ (listSlots-refusals Not16 [] (slots g v b ds) (entries-16 (slots g v b ds)))
+        (λ x e′. rw (le-leb (length (listingText g (track18 g b) (slots g v b ds))) (length out) (omega (arith, text-bound g v b ds e))) tt)))
 
 -- ---- 35 tracks
 

@@ -53,7 +53,7 @@ module _ (g : Geometry) (v : Valid g) (free : Address → Bool) where
   entry-length t = refl
 
   -- m holds the right entry of track t
-  abbrev Holds : Bytes → ℕ → Type 0
+  abbrev pub Holds : Bytes → ℕ → Type 0
   Holds m t = (i : ℕ) → i < 4 → byte m (g .mapAt t + i) ≡ getD (expectedEntry g free t) i 0
 
   bitmap-at : (t j : ℕ) → j < 3 → getD (expectedEntry g free t) (suc j) 0 ≡ bitmapByte g free t j
@@ -131,7 +131,7 @@ module _ (g : Geometry) (v : Valid g) (d : Disk) (w : Whole g d) (s : Sound g d)
   pub rewrite-claims : (n : ℕ) → claimCount g (rewriteMap g d) n ≡ claimCount g d n
   rewrite-claims = frame-claims g d (rewriteMap g d) map-apart
 
-  rewrite-holds : (t : ℕ) → 1 ≤ t → t ≤ tracks g → Holds g v (isFree g d) (rewriteMap g d (sectorNumber g mapAddress)) t
+  pub rewrite-holds : (t : ℕ) → 1 ≤ t → t ≤ tracks g → Holds g v (isFree g d) (rewriteMap g d (sectorNumber g mapAddress)) t
   unfolding rewriteMap
   rewrite-holds t l h = rw (put-same d (sectorNumber g mapAddress) (withEntries g (isFree g d) (d (sectorNumber g mapAddress)) (range 1 (tracks g))))
       (written g v (isFree g d) (d (sectorNumber g mapAddress)) (w .full (sectorNumber g mapAddress) map-below) 1 (tracks g) (omega arith) (omega arith) t l (omega arith))

@@ -228,7 +228,7 @@ image-byte img k =
     let z : 256 * (k / 256) + k % 256 ≡ k = omega arith in
     sym (getD-take 256 (drop (256 * (k / 256)) img) (k % 256) 0 (omega arith) ∙ getD-drop (256 * (k / 256)) img (k % 256) 0 ∙ ap (λ (x : ℕ). getD img x 0) z)
 
-byte-small : (img : Bytes) → ((k : ℕ) → byte img k < 256) → (n i : ℕ) → byte (disk img n) i < 256
+pub byte-small : (img : Bytes) → ((k : ℕ) → byte img k < 256) → (n i : ℕ) → byte (disk img n) i < 256
 unfolding disk
 byte-small img s n i = elim (decLe 256 i) [
   | yes h ↦ go (List·getD-eq-default (take 256 (drop (256 * n) img)) 0 {n = i} (omega (arith, length-take 256 (drop (256 * n) img))))

@@ -8,20 +8,21 @@ use lib.ListN.{length}
 use lib.Dec.{eqb, leb}
 use borrow.Author.Tests.{eqb-true}
 use Rattle.d64spec.specs.Lists.{All, Bytes, equal, filter}
-use Rattle.d64spec.specs.Answers.{Fault, badNameArgument, done, first, notFound, wrongBuffer, wrongSize}
+use Rattle.d64spec.specs.Answers.{Fault, done, first, notFound}
 use Rattle.d64spec.specs.Geometry.{Geometry, Valid, total}
 use Rattle.d64spec.specs.Image.{disk}
-use Rattle.d64spec.specs.Chain.{chainData}
 use Rattle.d64spec.specs.Directory.{File, files, nameOf, plainList}
 use Rattle.d64spec.specs.Owner.{claimCount}
-use Rattle.d64spec.specs.Check.{checkDisk, checkImage, rightSize}
+use Rattle.d64spec.specs.Check.{checkImage}
 use Rattle.d64spec.specs.Accepted.{Accepted}
-use Rattle.d64spec.specs.Reply.{Change, filesNamed, reply, validNameArgument}
+use Rattle.d64spec.specs.Reply.{Change, filesNamed, reply}
 use Rattle.d64spec.specs.Read.{callRead}
 use Rattle.d64spec.specs.Call.{Call, callCheck, check, read}
 use Rattle.d64spec.specs.Host.{HostReply, answerBlock, hostReply, littleEndian}
 use Rattle.d64spec.specs.Run.{ReadReports, plainListAfter}
-use Rattle.d64spec.proofs.ResultLaws.{need-done, then-done, bind-done, done-inj, refused≢done}
+use Rattle.d64spec.specs.Examples.{accepted, bytes, content, holds}
+use Rattle.d64spec.proofs.ResultLaws.{then-done, done-inj, refused≢done}
+use Rattle.d64spec.proofs.CallLaws.{read-done}
 use Rattle.d64spec.proofs.BoundLaws.{file-bound}
 use Rattle.d64spec.proofs.RunLaws.{StepHolds}
 
@@ -71,16 +72,12 @@ module _ (g : Geometry) (v : Valid g) (img : Bytes) (a : Accepted g img) where
       unchanged-step g img check (hostReply (reply img [] (done ch))) a (ap (λ (x : Change). x .imageAfter) (sym z)) refl tt
 
   pub read-step : (name out : Bytes) (ch : Change) → callRead g img name out ≡ done ch → StepHolds g img (read name out) (hostReply (reply img out (done ch)))
-  unfolding callRead reply plainListAfter filesNamed answerBlock
+  unfolding reply plainListAfter filesNamed answerBlock
   read-step name out ch e =
-      let h1 = need-done (rightSize g img) wrongSize _ ch e in
-      let h2 = need-done (validNameArgument name) badNameArgument _ ch (h1 .1) in
-      let h3 = then-done (checkDisk g (disk img)) _ ch (h2 .1) in
-      let h4 = bind-done (first notFound (filesNamed name (files g (disk img)))) _ ch (h3 .2) in
-      let f : File = h4 .0 in
-      let h5 = need-done (leb (length (chainData g (disk img) (f .sectors))) (length out)) wrongBuffer _ ch (h4 .2) in
-      let z = done-inj (h5 .1) in
-      let k = first-kept (λ f. equal name (nameOf (f .slot .bytes))) (λ f. length (f .sectors) ≤ total g - 2) notFound (files g (disk img)) f (file-bound g (disk img) v (a .content)) (h4 .1) in
+      let h = read-done g img name out ch e in
+      let f : File = h .file in
+      let z = h .change in
+      let k = first-kept (λ f. equal name (nameOf (f .slot .bytes))) (λ f. length (f .sectors) ≤ total g - 2) notFound (files g (disk img)) f (file-bound g (disk img) v (a .content)) (h .found) in
       let n : ch .reportedSectors ≡ length (f .sectors) = ap (λ (x : Change). x .reportedSectors) (sym z) in
       unchanged-step g img (read name out) (hostReply (reply img out (done ch))) a (ap (λ (x : Change). x .imageAfter) (sym z)) refl
       (λ e₀. (f, ∣ k .element ∣₁, sym (eq-of-equal name (nameOf (f .slot .bytes)) (k .test)), ap (littleEndian 2) n, k .fact))

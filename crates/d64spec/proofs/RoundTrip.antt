@@ -5,20 +5,20 @@ use mathlib.Core.Bool.{true}
 use mathlib.Core.Logic.{∥∥₁-map}
 use mathlib.Core.List.{List, [], _∷_, map, Perm·mem-iff, List·Mem, List·Memᴰ, List·Memᴰ·head, List·Memᴰ·tail}
 use lib.ListN.{length}
-use Rattle.d64spec.specs.Lists.{Bytes, splice}
-use Rattle.d64spec.specs.Answers.{badNameArgument, done, wrongSize}
+use Rattle.d64spec.specs.Lists.{Bytes, equal, splice}
+use Rattle.d64spec.specs.Answers.{done}
 use Rattle.d64spec.specs.Geometry.{Geometry, Valid}
 use Rattle.d64spec.specs.Image.{disk}
 use Rattle.d64spec.specs.Chain.{chainData}
 use Rattle.d64spec.specs.Directory.{File, PlainEntry, files, plainEntryOf, plainList}
-use Rattle.d64spec.specs.Check.{rightSize}
 use Rattle.d64spec.specs.Accepted.{Accepted}
 use Rattle.d64spec.specs.Reply.{Change, reply, validNameArgument}
 use Rattle.d64spec.specs.Read.{callRead}
 use Rattle.d64spec.specs.Store.{callStore}
 use Rattle.d64spec.specs.Host.{hostReply}
 use Rattle.d64spec.specs.Run.{plainListAfter}
-use Rattle.d64spec.proofs.ResultLaws.{need-done}
+use Rattle.d64spec.specs.Examples.{accepted, content, holds}
+use Rattle.d64spec.proofs.CallLaws.{store-done}
 use Rattle.d64spec.proofs.RunLaws.{StepHolds}
 use Rattle.d64spec.proofs.StoreStep.{store-step}
 use Rattle.d64spec.proofs.ExactLaws.{read-exact}
@@ -35,14 +35,12 @@ pub record Reads (g : Geometry) (img name out bs : Bytes) : Type 0 where
 -- WHAT IS STORED IS READ: after a store that is done, a read of that name gives the bytes handed in, where the output has room
 pub stored-read : (g : Geometry) → Valid g → (img : Bytes) → Accepted g img → (name : Bytes) (kind : ℕ) (bs : Bytes) (ch : Change)
     → callStore g img name kind bs ≡ done ch → (out : Bytes) → length bs ≤ length out → ∥ Reads g (ch .imageAfter) name out bs ∥₁
-unfolding callStore reply plainListAfter plainList plainEntryOf
+unfolding reply plainListAfter plainList plainEntryOf
 stored-read g v img a name kind bs ch e out fits =
-    let h1 = need-done (rightSize g img) wrongSize _ ch e in
-    let h2 = need-done (validNameArgument name) badNameArgument _ ch (h1 .1) in
     let r : StepHolds g img _ (hostReply (reply img [] (done ch))) = store-step g v img a name kind bs ch e in
     let x : PlainEntry = record { name = name; kind = kind; content = bs } in
     let m : List·Mem x (plainList g (disk (ch .imageAfter))) = Perm·mem-iff (r .holds) .1 ∣ List·Memᴰ·head refl ∣₁ in
-    ∥∥₁-map m (λ w. by (mem-map (plainEntryOf g (disk (ch .imageAfter))) x (files g (disk (ch .imageAfter))) w) (r .accepted) (h2 .0))
+    ∥∥₁-map m (λ w. by (mem-map (plainEntryOf g (disk (ch .imageAfter))) x (files g (disk (ch .imageAfter))) w) (r .accepted) (store-done g img name kind bs ch e .asked))
   where
     by : (f : File) × List·Memᴰ f (files g (disk (ch .imageAfter))) × (plainEntryOf g (disk (ch .imageAfter)) f ≡ record { name = name; kind = kind; content = bs })
         → Accepted g (ch .imageAfter) → validNameArgument name ≡ true → Reads g (ch .imageAfter) name out bs

@@ -5,19 +5,19 @@ use mathlib.Core.Bool.{true}
 use mathlib.Core.List.{List, [], _∷_, Perm, Perm·refl, List·Memᴰ}
 use lib.ListN.{length}
 use Rattle.d64spec.specs.Lists.{All, Bytes, equal, zeros}
-use Rattle.d64spec.specs.Answers.{badNameArgument, done, first, notFound, writeForbidden, wrongSize}
+use Rattle.d64spec.specs.Answers.{done, notFound}
 use Rattle.d64spec.specs.Geometry.{Geometry, Valid, total}
 use Rattle.d64spec.specs.Image.{Disk, disk, image}
 use Rattle.d64spec.specs.Directory.{File, Slot, directorySectors, fileOf, files, nameOf, occupied, plainList, slotsFrom}
 use Rattle.d64spec.specs.Owner.{claimCount}
-use Rattle.d64spec.specs.Check.{checkDisk, rightSize}
 use Rattle.d64spec.specs.Accepted.{Accepted, AcceptedDisk}
-use Rattle.d64spec.specs.Reply.{Change, filesNamed, reply, validNameArgument, writable}
+use Rattle.d64spec.specs.Reply.{Change, filesNamed, reply}
 use Rattle.d64spec.specs.Scratch.{callScratch, scratchedDisk}
-use Rattle.d64spec.specs.Call.{Call, scratch}
+use Rattle.d64spec.specs.Call.{Call, read, scratch}
 use Rattle.d64spec.specs.Host.{HostReply, hostReply}
 use Rattle.d64spec.specs.Run.{ReadReports, plainListAfter}
-use Rattle.d64spec.proofs.ResultLaws.{need-done, then-done, bind-done, done-inj}
+use Rattle.d64spec.specs.Examples.{accepted, bytes, content, holds}
+use Rattle.d64spec.proofs.CallLaws.{scratch-done}
 use Rattle.d64spec.proofs.ReadLaws.{eq-of-equal, first-kept}
 use Rattle.d64spec.proofs.RunLaws.{StepHolds}
 use Rattle.d64spec.proofs.FrameLaws.{Sound}
@@ -32,14 +32,14 @@ pub disk-step : (g : Geometry) (img : Bytes) (c : Call) (r : HostReply) (e : Dis
     → ((n : ℕ) → n < total g → 0 < claimCount g (disk img) n → claimCount g e n ≡ 0 → e n ≡ zeros 256)
     → ((n : ℕ) → n < total g → claimCount g (disk img) n ≡ 0 → claimCount g e n ≡ 0 → disk img n ≡ zeros 256 → e n ≡ zeros 256)
     → ReadReports g (total g - 2) img c r → StepHolds g img c r
-disk-step g img c r e z w a h given kept read =
+disk-step g img c r e z w a h given kept reported =
     let q : disk (r .imageAfter) ≡ e = ap disk z ∙ image-disk g e w in
     record {
       accepted = record { size = ap length z ∙ image-size g e w; content = rw q a };
       holds = rw q h;
       given = λ n b o f. ap (λ (x : Disk). x n) q ∙ given n b o (rw q at f);
       kept = λ n b o f y. ap (λ (x : Disk). x n) q ∙ kept n b o (rw q at f) y;
-      read = read;
+      read = reported;
     }
 
 pub sound-of : (g : Geometry) (d : Disk) → AcceptedDisk g d → Sound g d
@@ -84,14 +84,10 @@ module _ (g : Geometry) (v : Valid g) (img : Bytes) (a : Accepted g img) where
       tt
 
   pub scratch-step : (name : Bytes) (ch : Change) → callScratch g img name ≡ done ch → StepHolds g img (scratch name) (hostReply (reply img [] (done ch)))
-  unfolding callScratch reply filesNamed
+  unfolding reply filesNamed
   scratch-step name ch e =
-      let h1 = need-done (rightSize g img) wrongSize _ ch e in
-      let h2 = need-done (validNameArgument name) badNameArgument _ ch (h1 .1) in
-      let h3 = then-done (checkDisk g (disk img)) _ ch (h2 .1) in
-      let h4 = need-done (writable g (disk img)) writeForbidden _ ch (h3 .2) in
-      let h5 = bind-done (first notFound (filesNamed name (files g (disk img)))) _ ch (h4 .1) in
-      let f : File = h5 .0 in
-      let k = first-kept (λ f. equal name (nameOf (f .slot .bytes))) (λ f. Unit {0}) notFound (files g (disk img)) f (all-unit (files g (disk img))) (h5 .1) in
+      let h = scratch-done g img name ch e in
+      let f : File = h .file in
+      let k = first-kept (λ f. equal name (nameOf (f .slot .bytes))) (λ f. Unit {0}) notFound (files g (disk img)) f (all-unit (files g (disk img))) (h .found) in
       by-found name f (hostReply (reply img [] (done ch))) (found g (disk img) f (k .element)) (eq-of-equal name (nameOf (f .slot .bytes)) (k .test)) refl
-      (ap (λ (x : Change). x .imageAfter) (sym (done-inj (h5 .2))))
+      (ap (λ (x : Change). x .imageAfter) (sym (h .change)))

@@ -10,20 +10,21 @@ use lib.Seq.{length-take-le}
 use lib.Dec.{eqb, leb}
 use borrow.Author.Tests.{eq-eqb, ne-eqb, eqb-true, leb-true}
 use Rattle.d64spec.specs.Lists.{All, Bytes, count, equal, filter, indicator, nameCount, range}
-use Rattle.d64spec.specs.Answers.{Address, Result, _>>=_, address, badKindArgument, badNameArgument, directoryFull, diskFull, done, first, nameExists, writeForbidden, wrongSize}
+use Rattle.d64spec.specs.Answers.{Address, Result, _>>=_, address, directoryFull, done, first}
 use Rattle.d64spec.specs.Geometry.{Geometry, Valid, allocationOrder, mapAddress, onDisk, sectorNumber, sectorsOfTrack, sectorsOn}
 use Rattle.d64spec.specs.Image.{Disk, disk, image}
 use Rattle.d64spec.specs.Directory.{File, Slot, directorySectors, files, isEmpty, nameOf, slotsFrom}
 use Rattle.d64spec.specs.Owner.{claimCount, freeForDirectory, freeForFiles, isFree}
 use Rattle.d64spec.specs.Map.{rewriteMap}
-use Rattle.d64spec.specs.Check.{checkDisk, rightSize}
 use Rattle.d64spec.specs.Accepted.{Accepted}
-use Rattle.d64spec.specs.Reply.{Change, filesNamed, reply, validKind, validNameArgument, writable}
+use Rattle.d64spec.specs.Reply.{Change, filesNamed, reply, validKind, validNameArgument}
 use Rattle.d64spec.specs.Store.{SlotPlace, callStore, emptySlots, inEmptySlot, inNewSector, newEntry, placement, sectorsNeeded, slotPlaceFor, storedDisk, writeChain, writeSlot}
 use Rattle.d64spec.specs.Call.{store}
 use Rattle.d64spec.specs.Host.{HostReply, hostReply}
 use Rattle.d64spec.specs.Run.{plainListAfter}
-use Rattle.d64spec.proofs.ResultLaws.{need-done, then-done, bind-done, done-inj, refused≢done}
+use Rattle.d64spec.specs.Examples.{bytes, content, place}
+use Rattle.d64spec.proofs.ResultLaws.{done-inj, refused≢done}
+use Rattle.d64spec.proofs.CallLaws.{store-done}
 use Rattle.d64spec.proofs.RunLaws.{StepHolds}
 use Rattle.d64spec.proofs.FrameLaws.{Sound}
 use Rattle.d64spec.proofs.ImageLaws.{Whole, disk-whole}
@@ -254,18 +255,10 @@ by-placement g v img a name kind bs asked kind-asked new (r ∷ l) t e room c p 
 
 pub store-step : (g : Geometry) → Valid g → (img : Bytes) → Accepted g img → (name : Bytes) (kind : ℕ) (bs : Bytes) (ch : Change)
     → callStore g img name kind bs ≡ done ch → StepHolds g img (store name kind bs) (hostReply (reply img [] (done ch)))
-unfolding callStore reply
+unfolding reply
 store-step g v img a name kind bs ch e =
-    let h1 = need-done (rightSize g img) wrongSize _ ch e in
-    let h2 = need-done (validNameArgument name) badNameArgument _ ch (h1 .1) in
-    let h3 = need-done (validKind kind) badKindArgument _ ch (h2 .1) in
-    let h4 = then-done (checkDisk g (disk img)) _ ch (h3 .1) in
-    let h5 = need-done (writable g (disk img)) writeForbidden _ ch (h4 .2) in
-    let h6 = need-done (eqb (length (filesNamed name (files g (disk img)))) 0) nameExists _ ch (h5 .1) in
-    let h7 = bind-done (slotPlaceFor g (disk img)) _ ch (h6 .1) in
-    let h8 = need-done (leb (sectorsNeeded (length bs)) (length (freeForFiles g (disk img)))) diskFull _ ch (h7 .2) in
-    let z = done-inj (h8 .1) in
-    by-placement g v img a name kind bs (h2 .0) (h3 .0) (sym (filesNamed-count name (files g (disk img))) ∙ eqb-true (length (filesNamed name (files g (disk img)))) 0 (h6 .0))
+    let h = store-done g img name kind bs ch e in
+    by-placement g v img a name kind bs (h .asked) (h .kind-asked) (sym (filesNamed-count name (files g (disk img))) ∙ h .absent)
     (placement g (disk img) (sectorsNeeded (length bs))) (placement-taken g (disk img) (sectorsNeeded (length bs)))
-    (placement-length g (disk img) (sectorsNeeded (length bs)) (leb-true (sectorsNeeded (length bs)) (length (freeForFiles g (disk img))) (h8 .0)))
-    (h7 .0) (place-case g (disk img) (h7 .0) (h7 .1)) (hostReply (reply img [] (done ch))) refl (ap (λ (x : Change). x .imageAfter) (sym z))
+    (placement-length g (disk img) (sectorsNeeded (length bs)) (h .room))
+    (h .place) (place-case g (disk img) (h .place) (h .found)) (hostReply (reply img [] (done ch))) refl (ap (λ (x : Change). x .imageAfter) (sym (h .change)))

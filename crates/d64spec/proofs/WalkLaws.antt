@@ -19,7 +19,7 @@ use Rattle.d64spec.proofs.PigeonholeLaws.{pigeon}
 use Rattle.d64spec.proofs.ChainLaws.{chain-follow}
 
 -- one more claim on x, which nobody claims
-claim-one : (x : ℕ) (own : List ℕ) → member x own ≡ false → (m : ℕ) → count m own ≤ 1 → count m (x ∷ own) ≤ 1
+pub claim-one : (x : ℕ) (own : List ℕ) → member x own ≡ false → (m : ℕ) → count m own ≤ 1 → count m (x ∷ own) ≤ 1
 claim-one x own e m h = go (eqb m x) refl
   where
     go : (b : Bool) → eqb m x ≡ b → indicator b + count m own ≤ 1

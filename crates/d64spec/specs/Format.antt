@@ -1,5 +1,5 @@
 -- Format (01, What the calls do): an image all zero except 18/0 and 18/1. It runs no check; only 1 and 9 refuse it.
--- That the image is accepted, empty and writable, and what stands at each offset: proofs/FormatReady.
+-- What stands in every byte of the image, and that it is accepted, empty and writable: proofs/FormatTheorem.
 use Prim.Native.Nat.{ℕ}
 use mathlib.Core.Bool.{Bool, not}
 use mathlib.Core.List.{[], _∷_}

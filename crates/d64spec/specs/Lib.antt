@@ -4,6 +4,7 @@ pub mod Geometry
 pub mod Image
 pub mod Chain
 pub mod Directory
+pub mod Rules
 pub mod Owner
 pub mod Map
 pub mod Check
@@ -19,3 +20,5 @@ pub mod Host
 pub mod Run
 pub mod Order
 pub mod Changes
+pub mod Facts
+pub mod Examples

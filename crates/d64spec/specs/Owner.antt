@@ -1,10 +1,10 @@
 -- Who owns which sector (01, What demand 3 compares): 18/0 belongs to the map, 18/1 and the sectors linked from it to the directory,
 -- the sectors of a file's chain to that file, and all others to nobody.
--- Ownership is counted: one list has every claim on a sector, so that a sector claimed twice shows. Laws: proofs/OwnerLaws.
+-- Ownership is counted: one list has every claim on a sector, so that a sector claimed twice shows. Exactly one owner each: proofs/OwnerTheorem.
 use Prim.Native.Nat.{ℕ, _<_}
 use mathlib.Core.Path.{_≡_}
 use mathlib.Core.Bool.{Bool}
-use mathlib.Core.List.{List, [], _∷_, _++_, map, List·Mem}
+use mathlib.Core.List.{List, [], _∷_, _++_, map, List·Memᴰ}
 use lib.Dec.{eqb}
 use Rattle.d64spec.specs.Lists.{count, filter}
 use Rattle.d64spec.specs.Answers.{Address}
@@ -47,7 +47,7 @@ module _ (g : Geometry) (d : Disk) where
   abbrev pub Owns : Owner → ℕ → Type 0
   Owns theMap n = n ≡ sectorNumber g mapAddress
   Owns theDirectory n = Among g n (directorySectors g d)
-  Owns (theFile f) n = List·Mem f (files g d) × Among g n (f .sectors)
+  Owns (theFile f) n = List·Memᴰ f (files g d) × Among g n (f .sectors)
   Owns nobody n = Free n
 
   -- nobody owns a sector, as a test

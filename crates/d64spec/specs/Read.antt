@@ -7,20 +7,25 @@ use Rattle.d64spec.specs.Answers.{Answer, plain, answerOf, wrongSize, ba
 use Rattle.d64spec.specs.Geometry.{Geometry}
 use Rattle.d64spec.specs.Image.{disk}
 use Rattle.d64spec.specs.Chain.{chainData}
-use Rattle.d64spec.specs.Directory.{entryByte, nameField, countOf, files}
+use Rattle.d64spec.specs.Directory.{File, entryByte, nameField, countOf, files}
 use Rattle.d64spec.specs.Check.{rightSize, checkDisk}
 use Rattle.d64spec.specs.Reply.{Change, validNameArgument, filesNamed}
 
--- read: the file's bytes at the start of the output, the rest of it as it was; the length, and the length of the chain
+-- the change of a read of f: its bytes at the start of the output, the rest of it as it was; the length, and the length of the chain
+abbrev pub readChange : Geometry → Bytes → Bytes → File → Change
+readChange g img out f =
+    let bytes = chainData g (disk img) (f .sectors) in
+    record { imageAfter = img; outputAfter = splice out 0 bytes; reportedLength = length bytes; reportedSectors = length (f .sectors) }
+
+-- read: refusals in document 01's order, then the file's bytes
 unfoldable pub callRead : Geometry → Bytes → Bytes → Bytes → Result Change
 callRead g img name out = do
   need (rightSize g img) wrongSize
   need (validNameArgument name) badNameArgument
   checkDisk g (disk img)
   f ← first notFound (filesNamed name (files g (disk img)))
-  let bytes = chainData g (disk img) (f .sectors)
-  need (leb (length bytes) (length out)) wrongBuffer
-  done (record { imageAfter = img; outputAfter = splice out 0 bytes; reportedLength = length bytes; reportedSectors = length (f .sectors) })
+  need (leb (length (chainData g (disk img) (f .sectors))) (length out)) wrongBuffer
+  done (readChange g img out f)
 
 -- what tell gives of a file
 pub record FileInformation : Type 0 where

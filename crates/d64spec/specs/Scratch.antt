@@ -21,7 +21,11 @@ clearSectors g (r ∷ l) d = put (clearSectors g l d) (sectorNumber g r) (zeros 
 unfoldable pub scratchedDisk : Geometry → Disk → File → Disk
 scratchedDisk g d f = rewriteMap g (overwriteSlot g (f .slot .holder) (f .slot .index) (zeros 30) (clearSectors g (f .sectors) d))
 
--- scratch: refusals in document 01's order, then the changed image; it reports the file's length and its number of sectors
+-- the change of a scratch of f; it reports the file's length and its number of sectors
+abbrev pub scratchChange : Geometry → Bytes → File → Change
+scratchChange g img f = changed (image g (scratchedDisk g (disk img) f)) (length (chainData g (disk img) (f .sectors))) (length (f .sectors))
+
+-- scratch: refusals in document 01's order, then the changed image
 unfoldable pub callScratch : Geometry → Bytes → Bytes → Result Change
 callScratch g img name = do
   need (rightSize g img) wrongSize
@@ -29,4 +33,4 @@ callScratch g img name = do
   checkDisk g (disk img)
   need (writable g (disk img)) writeForbidden
   f ← first notFound (filesNamed name (files g (disk img)))
-  done (changed (image g (scratchedDisk g (disk img) f)) (length (chainData g (disk img) (f .sectors))) (length (f .sectors)))
+  done (scratchChange g img f)

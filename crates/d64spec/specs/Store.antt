@@ -83,6 +83,12 @@ storedDisk g d place [] name kind bs = d
 storedDisk g d place (r ∷ l) name kind bs =
     rewriteMap g (writeSlot g (writeChain g (r ∷ l) bs d) place (newEntry name kind r (length (r ∷ l))))
 
+-- the change of a store with its entry at this place; it reports the bytes handed in and their sectors
+abbrev pub storeChange : Geometry → Bytes → SlotPlace → Bytes → ℕ → Bytes → Change
+storeChange g img place name kind bs =
+    let k = sectorsNeeded (length bs) in
+    changed (image g (storedDisk g (disk img) place (placement g (disk img) k) name kind bs)) (length bs) k
+
 -- store: refusals in document 01's order, then the changed image
 unfoldable pub callStore : Geometry → Bytes → Bytes → ℕ → Bytes → Result Change
 callStore g img name kind bs = do
@@ -94,5 +100,4 @@ callStore g img name kind bs = do
   need (eqb (length (filesNamed name (files g (disk img)))) 0) nameExists
   place ← slotPlaceFor g (disk img)
   need (leb (sectorsNeeded (length bs)) (length (freeForFiles g (disk img)))) diskFull
-  let k = sectorsNeeded (length bs)
-  done (changed (image g (storedDisk g (disk img) place (placement g (disk img) k) name kind bs)) (length bs) k)
+  done (storeChange g img place name kind bs)

@@ -1,0 +1,222 @@
+-- A formatted disk has the bytes that document 01 lists, and is ready for use (01, Format). For 35 tracks, document 01's two numbers by computation.
+use Prim.Native.Nat.{ℕ, zero, suc, _+_, _-_, _≤_, _<_}
+use native.Mathlib.Omega.{arith}
+use native.Mathlib.Decide.{decLe}
+use mathlib.Core.Path.{_≡_, refl, sym, ap, _∙_, fun-ext}
+use mathlib.Core.Bool.{Bool, false}
+use mathlib.Core.Logic.{_⊎_, inl, inr, ⊎-elim, _↔_}
+use mathlib.Core.List.{[], _∷_, _++_}
+use lib.ListN.{List·getD-append, length-replicate, length, take, drop, length-take, length-drop}
+use lib.Seq.{take-at, drop-at, drop-drop, ext-getD, getD-take, getD-drop}
+use lib.Dec.{eqb}
+use borrow.Author.Tests.{eq-eqb, ltb-true, ne-eqb}
+use Rattle.d64spec.specs.Lists.{Bytes, ascending, byte, descending, filter, indicator, part, zeros}
+use Rattle.d64spec.specs.Answers.{Address, address, done}
+use Rattle.d64spec.specs.Geometry.{Geometry, Valid, allocationOrder, allocationTracks, directoryStart, firstOn, layout35, mapAddress, onDisk, sectorNumber, sectorsOfTrack, sectorsOn, total, tracks}
+use Rattle.d64spec.specs.Image.{Disk, disk}
+use Rattle.d64spec.specs.Directory.{padded}
+use Rattle.d64spec.specs.Owner.{claimCount, freeForFiles, isFree}
+use Rattle.d64spec.specs.Map.{bitmapByte, expectedBit, expectedEntry, mapBit, rewriteMap}
+use Rattle.d64spec.specs.Reply.{Change}
+use Rattle.d64spec.specs.Format.{callFormat, emptyDirectorySector, freeAfterFormat}
+use Rattle.d64spec.specs.Call.{attempt, format, outputBuffer, perform}
+use Rattle.d64spec.specs.Facts.{Formatted, FormattedMap, MapBesideName}
+use Rattle.d64spec.proofs.BoundLaws.{sectorNumber-lt, map-on}
+use Rattle.d64spec.proofs.SpliceLaws.{part-same}
+use Rattle.d64spec.proofs.ImageLaws.{Whole}
+use Rattle.d64spec.proofs.MapWriteLaws.{entry-length, rewrite-accepted, rewrite-claims, rewrite-holds, rewrite-other, rewrite-whole}
+use Rattle.d64spec.proofs.AllocationLaws.{one-track}
+use Rattle.d64spec.proofs.FormatLaws.{blankDisk, blank-claims, blank-dir, blank-map, blank-other, blank-sound, blank-whole, free-same, header, padded-length}
+use Rattle.d64spec.proofs.FormatReady.{formatted-disk, format-ready}
+use Rattle.d64spec.proofs.OtherBytes.{map-other}
+use Rattle.d64spec.proofs.ExactLaws.{zero-change}
+use Rattle.d64spec.proofs.RunTheorem.{valid35}
+
+-- ---- the header, by its offsets
+
+byte-zeros : (n i : ℕ) → byte (zeros n) i ≡ 0
+byte-zeros zero i = refl
+byte-zeros (suc n) zero = refl
+byte-zeros (suc n) (suc i) = byte-zeros n i
+
+-- what stands behind the name
+abbrev behind : ℕ → ℕ → Bytes
+behind i j = (0xA0 ∷ 0xA0 ∷ i ∷ j ∷ 0xA0 ∷ 0x32 ∷ 0x41 ∷ 0xA0 ∷ 0xA0 ∷ 0xA0 ∷ 0xA0 ∷ []) ++ zeros 0x55
+
+module _ (name : Bytes) (i j : ℕ) (short : length name ≤ 16) where
+  header-name : part 0x90 0x9F (header name i j) ≡ padded name
+  unfolding header
+  header-name = take-at (padded name) (behind i j) 16 (padded-length name short)
+
+  header-behind : (k : ℕ) → drop (0xA0 + k) (header name i j) ≡ drop k (behind i j)
+  unfolding header
+  header-behind k = sym (drop-drop k 0xA0 (header name i j)) ∙ ap (drop k) (drop-at (padded name) (behind i j) 16 (padded-length name short))
+
+  header-low : (k : ℕ) → k < 0x8C → byte (header name i j) (suc (suc (suc (suc k)))) ≡ 0
+  unfolding header
+  header-low k l = List·getD-append (zeros 0x8C) (padded name ++ behind i j) 0 k (omega (arith, length-replicate {A = ℕ} 0x8C 0)) ∙ byte-zeros 0x8C k
+
+  header-high : (k : ℕ) → byte (header name i j) (0xAB + k) ≡ 0
+  header-high k = sym (getD-drop 0xAB (header name i j) k 0) ∙ ap (λ (x : Bytes). byte x k) (header-behind 11) ∙ byte-zeros 0x55 k
+
+  header-rest : (k : ℕ) → 0x04 ≤ k → (k < 0x90) ⊎ (0xAA < k) → byte (header name i j) k ≡ 0
+  header-rest k l (inl h) = let z : k ≡ suc (suc (suc (suc (k - 4)))) = omega arith in ap (byte (header name i j)) z ∙ header-low (k - 4) (omega arith)
+  header-rest k l (inr h) = let z : k ≡ 0xAB + (k - 0xAB) = omega arith in ap (byte (header name i j)) z ∙ header-high (k - 0xAB)
+
+-- ---- 18/0
+
+module _ (g : Geometry) (v : Valid g) (beside : MapBesideName g) (name : Bytes) (i j : ℕ) (short : length name ≤ 16) where
+  -- the formatted disk
+  abbrev d : Disk
+  d = rewriteMap g (blankDisk g name i j)
+
+  -- its 18/0
+  abbrev m : Bytes
+  m = d (sectorNumber g mapAddress)
+
+  whole : Whole g d
+  whole = rewrite-whole g v (blankDisk g name i j) (blank-whole g v name i j short) (blank-sound g v name i j short)
+
+  map-below : sectorNumber g mapAddress < total g
+  map-below = sectorNumber-lt g mapAddress (map-on g (v .directory))
+
+  -- a byte in no map entry is the header's
+  map-byte : (k : ℕ) → ((t : ℕ) → 1 ≤ t → t ≤ tracks g → (k < g .mapAt t) ⊎ (g .mapAt t + 4 ≤ k)) → byte m k ≡ byte (header name i j) k
+  map-byte k h = map-other g v (blankDisk g name i j) (blank-whole g v name i j short .full (sectorNumber g mapAddress) map-below) k h ∙ ap (λ (x : Bytes). byte x k) (blank-map g name i j)
+
+  -- and so is a part before or behind them
+  map-part : (k n : ℕ) → ((t : ℕ) → 1 ≤ t → t ≤ tracks g → (k + n ≤ g .mapAt t) ⊎ (g .mapAt t + 4 ≤ k)) → take n (drop k m) ≡ take n (drop k (header name i j))
+  map-part k n h =
+      part-same m (header name i j) k n
+      (whole .full (sectorNumber g mapAddress) map-below ∙ sym (ap length (sym (blank-map g name i j)) ∙ blank-whole g v name i j short .full (sectorNumber g mapAddress) map-below))
+      (λ x l u. map-byte x (λ t a b. ⊎-elim (λ c. inl (omega arith)) (λ c. inr (omega arith)) (h t a b)))
+
+  -- a part from $90 to $AA
+  map-named : (k n : ℕ) → 0x90 ≤ k → k + n ≤ 0xAB → take n (drop k m) ≡ take n (drop k (header name i j))
+  map-named k n l u = map-part k n (λ t a b. ⊎-elim (λ c. inr (omega arith)) (λ c. inl (omega arith)) (beside t a b))
+
+  map-entry : (t : ℕ) → 1 ≤ t → t ≤ tracks g → part (g .mapAt t) (g .mapAt t + 3) m ≡ expectedEntry g (freeAfterFormat g) t
+  map-entry t l h =
+      let e : Bytes = expectedEntry g (isFree g (blankDisk g name i j)) t in
+      let p : Bytes = take 4 (drop (g .mapAt t) m) in
+      let n : g .mapAt t + 3 + 1 - g .mapAt t ≡ 4 = omega arith in
+      let size : length p ≡ 4 = length-take 4 (drop (g .mapAt t) m) ∙ omega (arith, length-drop (g .mapAt t) m, whole .full (sectorNumber g mapAddress) map-below, v .mapFits t l h) in
+      ap (λ (k : ℕ). take k (drop (g .mapAt t) m)) n
+      ∙ ext-getD 0 p e (size ∙ sym (entry-length g v (isFree g (blankDisk g name i j)) t))
+      (λ k b. getD-take 4 (drop (g .mapAt t) m) k 0 (omega arith) ∙ getD-drop (g .mapAt t) m k 0 ∙ rewrite-holds g v (blankDisk g name i j) (blank-whole g v name i j short) (blank-sound g v name i j short) t l h k (omega arith))
+      ∙ ap (λ (f : Address → Bool). expectedEntry g f t) (sym (free-same g v name i j short))
+
+  claims : (n : ℕ) → claimCount g d n ≡ indicator (eqb n (sectorNumber g mapAddress)) + indicator (eqb n (sectorNumber g directoryStart))
+  claims n = rewrite-claims g v (blankDisk g name i j) (blank-whole g v name i j short) (blank-sound g v name i j short) n ∙ blank-claims g v name i j short n
+
+  -- a sector with the number of sector x of track 18 is that sector
+  same-place : (t s x : ℕ) → s < sectorsOn g t → x < sectorsOn g 18 → sectorNumber g (address t s) ≡ sectorNumber g (address 18 x) → (t ≡ 18) × (s ≡ x)
+  unfolding sectorNumber
+  same-place t s x b c e =
+      let z : t ≡ 18 = one-track g t 18 (firstOn g t + s) (record { low = omega arith; high = omega arith }) (record { low = omega arith; high = omega arith }) in
+      (z, let y : firstOn g t ≡ firstOn g 18 = ap (firstOn g) z in omega arith)
+
+  map-free : (t s : ℕ) → 1 ≤ t → t ≤ tracks g → s < sectorsOn g t → (mapBit g m t s ≡ 1) ↔ ((t ≡ 18) × (s ≤ 1) → ⊥)
+  unfolding onDisk
+  map-free t s l h b = (
+    (λ e w.
+        let o : claimCount g d n ≡ 0 = mark .0 e in
+        elim (decLe 1 s) [
+          | yes k ↦ let z : indicator (eqb n (sectorNumber g directoryStart)) ≡ 1 = rw (eq-eqb n (sectorNumber g directoryStart) (same w 1 (omega arith))) in omega (arith, claims n)
+          | no k ↦ let z : indicator (eqb n (sectorNumber g mapAddress)) ≡ 1 = rw (eq-eqb n (sectorNumber g mapAddress) (same w 0 (omega arith))) in omega (arith, claims n)
+        ]),
+    (λ w. mark .1 (claims n ∙ (rw (apart 0 (omega arith) w (omega (arith, big)), apart 1 (omega arith) w big)))),
+  )
+    where
+      n : ℕ
+      n = sectorNumber g (address t s)
+
+      big : 1 < sectorsOn g 18
+      big = ltb-true 1 (sectorsOn g 18) (v .directory)
+
+      mark : (mapBit g m t s ≡ 1) ↔ (claimCount g d n ≡ 0)
+      mark = rewrite-accepted g v (blankDisk g name i j) (blank-whole g v name i j short) (blank-sound g v name i j short) .marks t l h .free s b
+
+      same : (t ≡ 18) × (s ≤ 1) → (x : ℕ) → s ≡ x → n ≡ sectorNumber g (address 18 x)
+      same w x e = rw (w .0, e) refl
+
+      apart : (x : ℕ) → x ≤ 1 → ((t ≡ 18) × (s ≤ 1) → ⊥) → x < sectorsOn g 18 → eqb n (sectorNumber g (address 18 x)) ≡ false
+      apart x u w c = ne-eqb n (sectorNumber g (address 18 x)) (λ e. w (let p = same-place t s x b c e in (p .0, omega arith)))
+
+  formatted-map : FormattedMap g name i j m
+  unfolding header
+  formatted-map = record {
+    start = map-part 0x00 4 (λ t a b. inl (omega (arith, v .mapPast t a b)));
+    named = map-named 0x90 16 (omega arith) (omega arith) ∙ header-name name i j short;
+    afterName = map-named 0xA0 2 (omega arith) (omega arith) ∙ ap (take 2) (header-behind name i j short 0);
+    id = map-named 0xA2 2 (omega arith) (omega arith) ∙ ap (take 2) (header-behind name i j short 2);
+    afterId = map-named 0xA4 1 (omega arith) (omega arith) ∙ ap (take 1) (header-behind name i j short 4);
+    type = map-named 0xA5 2 (omega arith) (omega arith) ∙ ap (take 2) (header-behind name i j short 5);
+    afterType = map-named 0xA7 4 (omega arith) (omega arith) ∙ ap (take 4) (header-behind name i j short 7);
+    entry = map-entry;
+    free = map-free;
+    rest = λ k l c h. map-byte k (λ t a b. ⊎-elim (λ x. inl x) (λ x. inr (omega arith)) (h t a b)) ∙ header-rest name i j short k l c;
+  }
+
+  dir-apart : sectorNumber g directoryStart ≡ sectorNumber g mapAddress → ⊥
+  unfolding sectorNumber
+  dir-apart e = omega arith
+
+  formatted-directory : d (sectorNumber g directoryStart) ≡ emptyDirectorySector
+  formatted-directory = rewrite-other g (blankDisk g name i j) (sectorNumber g directoryStart) dir-apart ∙ blank-dir g v name i j short
+
+  formatted-other : (n : ℕ) → n < total g → (n ≡ sectorNumber g mapAddress → ⊥) → (n ≡ sectorNumber g directoryStart → ⊥) → d n ≡ zeros 256
+  formatted-other n h p q = rewrite-other g (blankDisk g name i j) n p ∙ blank-other g v name i j short n h q p
+
+  -- the sectors that are free for files
+  formatted-free : freeForFiles g d ≡ filter (freeAfterFormat g) (allocationOrder g)
+  unfolding freeForFiles
+  formatted-free =
+      let same : _≡_ {A = Address → Bool} (isFree g d) (freeAfterFormat g)
+      = fun-ext (λ r. ap (λ (k : ℕ). eqb k 0) (rewrite-claims g v (blankDisk g name i j) (blank-whole g v name i j short) (blank-sound g v name i j short) (sectorNumber g r))) ∙ sym (free-same g v name i j short) in
+      ap (λ (p : Address → Bool). filter p (allocationOrder g)) same
+
+-- A FORMATTED DISK HAS THESE BYTES: every byte of the image after a format that is done
+pub format-bytes : (g : Geometry) → Valid g → MapBesideName g → (img name : Bytes) (id1 id2 : ℕ) (ch : Change) → callFormat g img name id1 id2 ≡ done ch → Formatted g name id1 id2 (ch .imageAfter)
+format-bytes g v beside img name id1 id2 ch e =
+    let z = formatted-disk g v img name id1 id2 ch e in
+    let r = format-ready g v img name id1 id2 ch e in
+    record {
+      size = r .accepted .size;
+      directory = rw (z .1) (formatted-directory g v beside name id1 id2 (z .0));
+      map = rw (z .1) (formatted-map g v beside name id1 id2 (z .0));
+      other = rw (z .1) (formatted-other g v beside name id1 id2 (z .0));
+      ready = r;
+    }
+
+-- ---- 35 tracks
+
+beside35 : MapBesideName layout35
+unfolding layout35 tracks
+beside35 t l h = inl (omega arith)
+
+-- the image after a format answered 0
+pub format-bytes35 : (img name : Bytes) (id1 id2 : ℕ) → perform layout35 img (format name id1 id2) .answer .number ≡ 0 → Formatted layout35 name id1 id2 (perform layout35 img (format name id1 id2) .change .imageAfter)
+unfolding perform attempt outputBuffer
+format-bytes35 img name id1 id2 e =
+    format-bytes layout35 valid35 beside35 img name id1 id2 (perform layout35 img (format name id1 id2) .change) (zero-change img [] (callFormat layout35 img name id1 id2) e)
+
+entry18 : expectedEntry layout35 (freeAfterFormat layout35) 18 ≡ 0x11 ∷ 0xFC ∷ 0xFF ∷ 0x07 ∷ []
+unfolding expectedEntry expectedBit bitmapByte freeAfterFormat layout35 sectorsOn sectorNumber firstOn
+entry18 = refl
+
+free664 : length (filter (freeAfterFormat layout35) (allocationOrder layout35)) ≡ 664
+unfolding allocationOrder allocationTracks ascending descending sectorsOfTrack tracks freeAfterFormat layout35 sectorsOn sectorNumber firstOn
+free664 = refl
+
+-- track 18's entry, at 4 * 18, is 11 FC FF 07 (01, Examples)
+pub format-entry18 : (img name : Bytes) (id1 id2 : ℕ) (ch : Change) → callFormat layout35 img name id1 id2 ≡ done ch
+    → part 0x48 0x4B (disk (ch .imageAfter) (sectorNumber layout35 mapAddress)) ≡ 0x11 ∷ 0xFC ∷ 0xFF ∷ 0x07 ∷ []
+unfolding layout35 tracks
+format-entry18 img name id1 id2 ch e = format-bytes layout35 valid35 beside35 img name id1 id2 ch e .map .entry 18 (omega arith) (omega arith) ∙ entry18
+
+-- 664 sectors off track 18 are free (01, Examples)
+pub format-free664 : (img name : Bytes) (id1 id2 : ℕ) (ch : Change) → callFormat layout35 img name id1 id2 ≡ done ch → length (freeForFiles layout35 (disk (ch .imageAfter))) ≡ 664
+format-free664 img name id1 id2 ch e =
+    let z = formatted-disk layout35 valid35 img name id1 id2 ch e in
+    rw (z .1) (ap length (formatted-free layout35 valid35 beside35 name id1 id2 (z .0)) ∙ free664)

@@ -1,0 +1,103 @@
+-- The tests of the calls agree with document 01's facts (specs/Rules), each stated apart from the tests' own text.
+use Prim.Native.Nat.{ℕ, zero, suc, _+_, _*_, _-_, _/_, _%_, _≤_, _<_}
+use native.Mathlib.Omega.{arith}
+use mathlib.Core.Path.{_≡_, refl, sym, ap, ap₂, _∙_}
+use mathlib.Core.Bool.{Bool, true, false, not, _&&_, _||_}
+use mathlib.Core.Logic.{_⊎_, inl, inr, ⊎-elim, _↔_}
+use mathlib.Core.List.{[], _∷_, _++_, append-nil}
+use lib.ListN.{length, take, drop, replicate, length-append, length-replicate, length-take}
+use lib.Seq.{take-at, drop-at}
+use lib.Dec.{eqb, ltb}
+use borrow.Author.Tests.{eq-eqb, ne-eqb, eqb-true, ltb-true, lt-ltb}
+use Rattle.d64spec.proofs.MapLaws.{and-true, both-true}
+use Rattle.d64spec.proofs.ReadLaws.{eq-of-equal}
+use Rattle.d64spec.proofs.CheckLaws.{equal-refl}
+use Rattle.d64spec.proofs.FormatLaws.{padded-length}
+use Rattle.d64spec.specs.Lists.{Bytes, byte, count, equal, filter, indicator, range}
+use Rattle.d64spec.specs.Answers.{plain}
+use Rattle.d64spec.specs.Geometry.{Geometry, mapAddress, sectorNumber}
+use Rattle.d64spec.specs.Image.{Disk}
+use Rattle.d64spec.specs.Directory.{nameField, nameOf, padded, validName, validType}
+use Rattle.d64spec.specs.Rules.{HoldsName, IsKind, IsName, MayWrite, typeBytes}
+use Rattle.d64spec.specs.Reply.{validKind, validNameArgument, writable}
+
+-- THE TYPE BYTES THAT ARE CARRIED, of all 256
+pub types-are : filter validType (range 0 256) ≡ typeBytes
+unfolding validType
+types-are = refl
+
+-- A NAME ARGUMENT IS TAKEN exactly when it is a name
+pub name-argument-exact : (n : Bytes) → (validNameArgument n ≡ true) ↔ IsName n
+unfolding validNameArgument
+name-argument-exact n = (
+  (λ e.
+      let a = and-true (ltb 0 (length n)) (ltb (length n) 17 && eqb (count 0xA0 n) 0) e in
+      let b = and-true (ltb (length n) 17) (eqb (count 0xA0 n) 0) (a .1) in
+      let l : length n < 17 = ltb-true (length n) 17 (b .0) in
+      record { some = ltb-true 0 (length n) (a .0); short = omega arith; plain = eqb-true (count 0xA0 n) 0 (b .1) }),
+  (λ h. both-true (lt-ltb 0 (length n) (h .some)) (both-true (lt-ltb (length n) 17 (let s = h .short in omega arith)) (eq-eqb (count 0xA0 n) 0 (h .plain)))),
+)
+
+-- either test of two
+or-true : (a b : Bool) → (a || b) ≡ true → (a ≡ true) ⊎ (b ≡ true)
+or-true true b e = inl refl
+or-true false b e = inr e
+
+true-or : (a b : Bool) → (a ≡ true) ⊎ (b ≡ true) → (a || b) ≡ true
+true-or true b h = refl
+true-or false b (inl h) = absurd (let z : _≡_ {A = ℕ} 0 1 = cc in omega arith)
+true-or false b (inr h) = h
+
+-- A KIND IS TAKEN exactly when it is 1, 2 or 3
+pub kind-exact : (k : ℕ) → (validKind k ≡ true) ↔ IsKind k
+unfolding validKind
+kind-exact k = (
+  (λ e. ⊎-elim (λ h. inl (eqb-true k 1 h)) (λ h. inr (⊎-elim (λ x. inl (eqb-true k 2 x)) (λ x. inr (eqb-true k 3 x)) (or-true (eqb k 2) (eqb k 3) h))) (or-true (eqb k 1) (eqb k 2 || eqb k 3) e)),
+  (λ h. true-or (eqb k 1) (eqb k 2 || eqb k 3)
+      (⊎-elim (λ x. inl (eq-eqb k 1 x)) (λ y. inr (true-or (eqb k 2) (eqb k 3) (⊎-elim (λ x. inl (eq-eqb k 2 x)) (λ x. inr (eq-eqb k 3 x)) y))) h)),
+)
+
+-- A VERSION ALLOWS WRITING exactly when it is $41 or $00
+pub version-exact : (g : Geometry) (d : Disk) → (writable g d ≡ true) ↔ MayWrite g d
+unfolding writable
+version-exact g d =
+    let v : ℕ = byte (d (sectorNumber g mapAddress)) 2 in (
+      (λ e. ⊎-elim (λ h. inl (eqb-true v 0x41 h)) (λ h. inr (eqb-true v 0 h)) (or-true (eqb v 0x41) (eqb v 0) e)),
+      (λ h. true-or (eqb v 0x41) (eqb v 0) (⊎-elim (λ x. inl (eq-eqb v 0x41 x)) (λ x. inr (eq-eqb v 0 x)) h)),
+    )
+
+-- ---- names on disk
+
+-- a filtered name has no $A0
+no-padding : (n : Bytes) → count 0xA0 (filter (λ c. not (eqb c 0xA0)) n) ≡ 0
+no-padding [] = refl
+no-padding (c ∷ n) = go (eqb c 0xA0) refl (no-padding n)
+  where
+    go : (b : Bool) → eqb c 0xA0 ≡ b → count 0xA0 (filter (λ c. not (eqb c 0xA0)) n) ≡ 0 → count 0xA0 (filter (λ c. not (eqb c 0xA0)) (c ∷ n)) ≡ 0
+    go true t ih = rw t ih
+    go false t ih = rw t (let z : indicator (eqb 0xA0 c) ≡ 0 = rw (ne-eqb 0xA0 c (λ e. let y : eqb c 0xA0 ≡ true = eq-eqb c 0xA0 (sym e) in let w : _≡_ {A = ℕ} 0 1 = cc in omega arith)) in omega arith)
+
+name-plain : (b : Bytes) → count 0xA0 (nameOf b) ≡ 0
+unfolding nameOf
+name-plain b = no-padding (nameField b)
+
+-- A NAME ON DISK IS VALID exactly when its field holds a name, which is then the file's name
+pub name-exact : (b : Bytes) → (validName b ≡ true) ↔ HoldsName (nameField b) (nameOf b)
+unfolding validName padded
+name-exact b = (
+  (λ e.
+      let h = and-true (not (eqb (length (nameOf b)) 0)) (equal (nameField b) (padded (nameOf b))) e in
+      let z : nameField b ≡ padded (nameOf b) = eq-of-equal (nameField b) (padded (nameOf b)) (h .1) in
+      record {
+        name = record { some = some-of (length (nameOf b)) (h .0); short = short-of (nameOf b) (ap length (sym z)); plain = name-plain b };
+        padding = z;
+      }),
+  (λ h. both-true (ap not (ne-eqb (length (nameOf b)) 0 (λ z. let s = h .name .some in omega arith))) (rw (h .padding) (equal-refl (padded (nameOf b))))),
+)
+  where
+    some-of : (n : ℕ) → not (eqb n 0) ≡ true → 1 ≤ n
+    some-of zero e = absurd (let z : _≡_ {A = ℕ} 0 1 = cc in omega arith)
+    some-of (suc n) e = omega arith
+
+    short-of : (n : Bytes) → length (padded n) ≡ length (nameField b) → length n ≤ 16
+    short-of n e = omega (arith, length-append n (replicate (16 - length n) 0xA0), length-take 16 (drop 3 b))

@@ -1,0 +1,99 @@
+-- Slots are numbered through the directory in link order, eight to a sector, empty ones counted, and from 0 to 143 (01, Answer numbers).
+use Prim.Native.Nat.{ℕ, zero, suc, _+_, _*_, _-_, _/_, _%_, _<_}
+use native.Mathlib.Omega.{arith}
+use native.Mathlib.Decide.{decLe}
+use mathlib.Core.Path.{_≡_, refl, sym, ap, ap₂, _∙_}
+use mathlib.Core.List.{List, [], _∷_, _++_, map, List·Memᴰ, List·Memᴰ·head, List·Memᴰ·tail}
+use lib.ListN.{length, getD, List·getD-append}
+use lib.Seq.{getD-append-add}
+use Rattle.d64spec.specs.Lists.{Bytes, range}
+use Rattle.d64spec.specs.Answers.{Address, done}
+use Rattle.d64spec.specs.Geometry.{Geometry, Valid, directoryStart, layout35, mapAddress, sectorNumber, sectorsOn}
+use Rattle.d64spec.specs.Image.{Disk, disk}
+use Rattle.d64spec.specs.Chain.{directoryLink, steps, to}
+use Rattle.d64spec.specs.Directory.{Slot, directorySectors, slotIn, slotsFrom, slotsIn}
+use Rattle.d64spec.specs.Check.{checkDirectory}
+use Rattle.d64spec.specs.Accepted.{Accepted, AcceptedDisk}
+use Rattle.d64spec.specs.Facts.{Numbered, slotsMost}
+use Rattle.d64spec.proofs.WalkLaws.{Walked, walk-sound}
+use Rattle.d64spec.proofs.ScratchLaws.{claimCount-of}
+use Rattle.d64spec.proofs.ListingLaws.{directory-few, slots-length}
+use Rattle.d64spec.proofs.RunTheorem.{valid35}
+
+-- ---- lists
+
+getD-map-range : {A : Type 0} (f : ℕ → A) (a n i : ℕ) (z : A) → i < n → getD (map f (range a n)) i z ≡ f (a + i)
+getD-map-range f a zero i z h = absurd (omega arith)
+getD-map-range f a (suc n) zero z h = ap f (omega arith)
+getD-map-range f a (suc n) (suc i) z h = getD-map-range f (suc a) n i z (omega arith) ∙ ap f (omega arith)
+
+-- an element is the one at its place
+pub mem-at : {A : Type 0} {x : A} {l : List A} (z : A) → List·Memᴰ x l → (i : ℕ) × (i < length l) × (getD l i z ≡ x)
+mem-at z (List·Memᴰ·head e) = (0, omega arith, sym e)
+mem-at z (List·Memᴰ·tail m) = let r = mem-at z m in (suc (r .0), omega (arith, r .1), r .2)
+
+-- ---- one slot
+
+-- the slots of the directory sectors l, numbered from n: the i-th of them
+slot-at : (g : Geometry) (d : Disk) (n : ℕ) (l : List Address) (i : ℕ) (z : Slot) (q : Address) → i < 8 * length l
+    → getD (slotsFrom g d n l) i z ≡ slotIn (d (sectorNumber g (getD l (i / 8) q))) (getD l (i / 8) q) (n + 8 * (i / 8)) (i % 8)
+unfolding slotsIn
+slot-at g d n [] i z q h = absurd (omega arith)
+slot-at g d n (r ∷ l) i z q h = elim (decLe 8 i) [
+  | yes k ↦
+      let j : ℕ = i - 8 in
+      let x : i / 8 ≡ suc (j / 8) = omega arith in
+      let y : i % 8 ≡ j % 8 = omega arith in
+      let e : i ≡ 8 + j = omega arith in
+      ap (λ (k : ℕ). getD (slotsIn (d (sectorNumber g r)) r n ++ slotsFrom g d (n + 8) l) k z) e
+      ∙ getD-append-add (slotsIn (d (sectorNumber g r)) r n) (slotsFrom g d (n + 8) l) j z
+      ∙ slot-at g d (n + 8) l j z q (omega arith)
+      ∙ rw (x, y) (ap (λ (k : ℕ). slotIn (d (sectorNumber g (getD l (j / 8) q))) (getD l (j / 8) q) k (j % 8)) (omega arith))
+  | no k ↦
+      let x : i / 8 ≡ 0 = omega arith in
+      let y : i % 8 ≡ i = omega arith in
+      List·getD-append (slotsIn (d (sectorNumber g r)) r n) (slotsFrom g d (n + 8) l) z i (omega arith)
+      ∙ getD-map-range (slotIn (d (sectorNumber g r)) r n) 0 8 i z (omega arith)
+      ∙ rw (x, y) (ap₂ (λ (k m : ℕ). slotIn (d (sectorNumber g r)) r k m) (omega arith) (omega arith))
+]
+
+-- SLOTS ARE NUMBERED: the i-th slot, empty ones counted, has number i, is in the (i / 8)-th sector of the directory, and there is the (i % 8)-th
+pub slots-numbered : (g : Geometry) (d : Disk) (l : List Address) (i : ℕ) (z : Slot) → i < 8 * length l → Numbered g d l i (getD (slotsFrom g d 0 l) i z)
+unfolding slotIn
+slots-numbered g d l i z h = rw (slot-at g d 0 l i z directoryStart h) (record { holder = refl; index = refl; number = omega arith; bytes = refl })
+
+pub slot-number-lt : (g : Geometry) (d : Disk) (l : List Address) (s : Slot) → List·Memᴰ s (slotsFrom g d 0 l) → s .number < 8 * length l
+slot-number-lt g d l s m =
+    let r = mem-at s m in
+    let i : ℕ = r .0 in
+    let b : i < 8 * length l = omega (arith, r .1, slots-length g d 0 l) in
+    let e : s .number ≡ i = ap (λ (x : Slot). x .number) (sym (r .2)) ∙ slots-numbered g d l i s b .number in
+    omega arith
+
+-- ---- the whole directory
+
+module _ (g : Geometry) (v : Valid g) (d : Disk) where
+  slots-walked : (l : List Address) → Walked g (directoryLink g) d (sectorNumber g mapAddress ∷ []) (to directoryStart) l → (s : Slot) → List·Memᴰ s (slotsFrom g d 0 l) → s .number < slotsMost g
+  slots-walked l w s m = omega (arith, slot-number-lt g d l s m, directory-few g v d l w)
+
+  -- a disk whose directory passes the check
+  pub slots-checked : (l : List Address) → checkDirectory g d ≡ done l → (s : Slot) → List·Memᴰ s (slotsFrom g d 0 l) → s .number < slotsMost g
+  unfolding checkDirectory
+  slots-checked l e = slots-walked l (walk-sound g (directoryLink g) d (steps g) (sectorNumber g mapAddress ∷ []) mapAddress 255 (to directoryStart) l e)
+
+  -- an accepted disk
+  pub slots-accepted : AcceptedDisk g d → (s : Slot) → List·Memᴰ s (slotsFrom g d 0 (directorySectors g d)) → s .number < slotsMost g
+  slots-accepted a = slots-walked (directorySectors g d) (record { chain = a .directory; once = λ m h. omega (arith, claimCount-of g d m, a .once m) })
+
+-- ---- 35 tracks
+
+slots35 : slotsMost layout35 ≡ 144
+unfolding layout35 sectorsOn
+slots35 = refl
+
+-- SLOTS ARE 0 TO 143
+pub slots-accepted35 : (img : Bytes) → Accepted layout35 img → (s : Slot) → List·Memᴰ s (slotsFrom layout35 (disk img) 0 (directorySectors layout35 (disk img))) → s .number < 144
+slots-accepted35 img a s m = rw slots35 at (slots-accepted layout35 valid35 (disk img) (a .content) s m)
+
+pub slots-checked35 : (d : Disk) (l : List Address) → checkDirectory layout35 d ≡ done l → (s : Slot) → List·Memᴰ s (slotsFrom layout35 d 0 l) → s .number < 144
+slots-checked35 d l e s m = rw slots35 at (slots-checked layout35 valid35 d l e s m)

@@ -1,0 +1,4 @@
+pub mod PartLaws
+pub mod EqualLaws
+pub mod PaddingLaws
+pub mod NameLaws

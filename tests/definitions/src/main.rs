@@ -1,0 +1,67 @@
+//! Compares the definitions of `crates/d64spec` with the independent program.
+//!
+//! `definitions DIR SEED IMAGES` writes a crate of cases into DIR: for so many
+//! generated images, what the independent program answers and leaves. The
+//! prover then computes the definitions on the same images. Each case is a
+//! statement of its own, under a comment with its kind and seed.
+
+mod rows;
+
+use independent::generate::{generate, kinds};
+use independent::geometry::IMAGE_BYTES;
+use independent::rng::Rng;
+use rows::Row;
+use std::fs;
+use std::path::Path;
+
+fn main() {
+    let arguments: Vec<String> = std::env::args().collect();
+    let [_, dir, seed, images] = &arguments[..] else {
+        eprintln!("usage: definitions DIR SEED IMAGES");
+        std::process::exit(64);
+    };
+    let seed: u64 = seed.parse().expect("SEED is a number");
+    let images: usize = images.parse().expect("IMAGES is a number");
+    let rows = draw_rows(seed, images);
+    write_crate(Path::new(dir), &rows).expect("the cases can be written");
+    println!("{} cases of {images} images from seed {seed}", rows.len());
+}
+
+/// The cases of so many images, each of a kind and a seed drawn anew.
+fn draw_rows(seed: u64, images: usize) -> Vec<Row> {
+    let rng = &mut Rng::new(seed);
+    let kinds = kinds();
+    let mut rows = Vec::new();
+    let mut taken = 0;
+    while taken < images {
+        let (kind, at) = (rng.pick(&kinds), rng.draw() % 1_000_000);
+        let Some(made) = generate(&kind, at) else {
+            continue;
+        };
+        if made.image.len() == IMAGE_BYTES && rows::is_small(&made.image) {
+            rows.extend(rows::of_image(&kind, at, &made.image));
+            taken += 1;
+        }
+    }
+    rows
+}
+
+fn write_crate(dir: &Path, rows: &[Row]) -> std::io::Result<()> {
+    for folder in ["src", "specs", "proofs"] {
+        fs::create_dir_all(dir.join(folder))?;
+    }
+    fs::write(
+        dir.join("src/lib.rt"),
+        "// Cases of the independent program.\n",
+    )?;
+    fs::write(dir.join("specs/Rows.antt"), rows::DEFINITIONS)?;
+    fs::write(dir.join("specs/Lib.antt"), "pub mod Rows\n")?;
+    let lib: String = (0..rows.len())
+        .map(|i| format!("pub mod Case{i}\n"))
+        .collect();
+    fs::write(dir.join("proofs/Lib.antt"), lib)?;
+    for (i, row) in rows.iter().enumerate() {
+        fs::write(dir.join(format!("proofs/Case{i}.antt")), row.module())?;
+    }
+    Ok(())
+}

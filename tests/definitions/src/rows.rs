@@ -1,0 +1,201 @@
+//! Rows of the comparison, as terms of the prover's language.
+
+use independent::answer::Answer;
+use independent::calls::{scratch, store, tell};
+use independent::check::check;
+use independent::geometry::{IMAGE_BYTES, TRACK_18_BYTES, TRACK_18_OFFSET};
+use independent::listing::sleeve_output;
+
+/// What the generated modules cite: the definitions that run a case.
+pub const DEFINITIONS: &str = include_str!("rows.antt.txt");
+
+/// The head of each module of cases.
+const MODULE_HEAD: &str = include_str!("head.antt.txt");
+
+/// Every definition on the way of a computation.
+const UNFOLDED: &str = include_str!("unfolded.txt");
+
+/// The lengths that a store of a case hands in.
+const LENGTHS: [usize; 4] = [0, 254, 255, 1000];
+
+/// Images with more files than this are left out: the prover computes the
+/// owners anew for every bit of the map.
+const MOST_FILES: usize = 12;
+
+/// With more files than this no store and no scratch is computed.
+const MOST_FILES_WRITTEN: usize = 1;
+
+/// One case: where it comes from, and its term.
+pub struct Row {
+    what: String,
+    term: String,
+}
+
+impl Row {
+    /// The module that states it.
+    pub fn module(&self) -> String {
+        let Row { what, term } = self;
+        format!(
+            "{MODULE_HEAD}\n-- {what}\nhere : Case\nhere = {term}\n\nagrees : holds here ≡ true\nunfolding here {UNFOLDED}\nagrees = refl\n"
+        )
+    }
+}
+
+/// Whether an image is cheap enough to compute on.
+pub fn is_small(image: &[u8]) -> bool {
+    occupied(image) <= MOST_FILES
+}
+
+/// The occupied slots of the sectors that the directory's links lead to.
+fn occupied(image: &[u8]) -> usize {
+    let mut sector = 1;
+    let mut found = 0;
+    for _ in 0..18 {
+        let start = TRACK_18_OFFSET + 256 * sector;
+        found += (0..8)
+            .filter(|slot| image[start + 32 * slot + 2] != 0)
+            .count();
+        let (track, next) = (image[start], image[start + 1] as usize);
+        if track != 18 || next == 0 || next > 18 {
+            break;
+        }
+        sector = next;
+    }
+    found
+}
+
+/// The cases of one image: its check and its listing, and where it is
+/// accepted a store and a scratch.
+pub fn of_image(kind: &str, seed: u64, image: &[u8]) -> Vec<Row> {
+    let answer = check(image);
+    let mut rows = vec![
+        row(
+            kind,
+            seed,
+            "checks",
+            format!("{} {}", disk(image), numbers(&answer_of(&answer))),
+        ),
+        row(
+            kind,
+            seed,
+            "lists",
+            format!("{} {}", sectors(image), numbers(&sleeve_output(image))),
+        ),
+    ];
+    if answer.number == 0 && occupied(image) <= MOST_FILES_WRITTEN {
+        rows.extend(store_row(kind, seed, image));
+        rows.extend(scratch_row(kind, seed, image));
+    }
+    rows
+}
+
+fn row(kind: &str, seed: u64, head: &str, rest: String) -> Row {
+    Row {
+        what: format!("{kind} {seed}: {head}"),
+        term: format!("{head} {rest}"),
+    }
+}
+
+fn answer_of(answer: &Answer) -> [u8; 4] {
+    [
+        answer.number,
+        answer.place.track,
+        answer.place.sector,
+        answer.place.slot,
+    ]
+}
+
+/// A store that is done, and the disk after it.
+fn store_row(kind: &str, seed: u64, image: &[u8]) -> Option<Row> {
+    let length = LENGTHS[(seed % 4) as usize];
+    let data: Vec<u8> = (0..length).map(|i| ((i * 7 + 3) % 256) as u8).collect();
+    let mut after = image.to_vec();
+    let name = b"NEW FILE";
+    let file_kind = 1 + (seed % 3) as u32;
+    if store(&mut after, name, file_kind, &data).number != 0 {
+        return None;
+    }
+    let rest = format!(
+        "{} {} {file_kind} {length} {}",
+        disk(image),
+        numbers(name),
+        disk(&after)
+    );
+    Some(row(kind, seed, "stores", rest))
+}
+
+/// A scratch of the first file, and the disk after it.
+fn scratch_row(kind: &str, seed: u64, image: &[u8]) -> Option<Row> {
+    let name = first_name(image)?;
+    let mut after = image.to_vec();
+    if scratch(&mut after, &name).number != 0 {
+        return None;
+    }
+    Some(row(
+        kind,
+        seed,
+        "scratches",
+        format!("{} {} {}", disk(image), numbers(&name), disk(&after)),
+    ))
+}
+
+/// The name of the file at position 0.
+fn first_name(image: &[u8]) -> Option<Vec<u8>> {
+    let (answer, told) = tell(image, 0);
+    (answer.number == 0).then(|| {
+        told.name
+            .iter()
+            .copied()
+            .take_while(|&b| b != 0xA0)
+            .collect()
+    })
+}
+
+/// Track 18 whole, and of every other sector its two link bytes.
+fn disk(image: &[u8]) -> String {
+    format!("{} {}", sectors(image), links(image))
+}
+
+fn sectors(image: &[u8]) -> String {
+    let track = &image[TRACK_18_OFFSET..TRACK_18_OFFSET + TRACK_18_BYTES];
+    let runs: String = track
+        .chunks(256)
+        .map(|s| format!("{} ∷ ", run_lengths(s)))
+        .collect();
+    format!("({runs}[])")
+}
+
+/// A sector as counts and values, one after the other.
+fn run_lengths(sector: &[u8]) -> String {
+    let mut runs: Vec<(usize, u8)> = Vec::new();
+    for &byte in sector {
+        match runs.last_mut() {
+            Some((count, value)) if *value == byte => *count += 1,
+            _ => runs.push((1, byte)),
+        }
+    }
+    let text: String = runs
+        .iter()
+        .map(|(count, value)| format!("{count} ∷ {value} ∷ "))
+        .collect();
+    format!("({text}[])")
+}
+
+/// Sector number and both link bytes of each sector off track 18 whose link
+/// bytes are not both 0.
+fn links(image: &[u8]) -> String {
+    let first = TRACK_18_OFFSET / 256;
+    let last = first + TRACK_18_BYTES / 256;
+    let text: String = (0..IMAGE_BYTES / 256)
+        .filter(|n| !(first..last).contains(n))
+        .map(|n| (n, image[256 * n], image[256 * n + 1]))
+        .filter(|&(_, a, b)| (a, b) != (0, 0))
+        .map(|(n, a, b)| format!("{n} ∷ {a} ∷ {b} ∷ "))
+        .collect();
+    format!("({text}[])")
+}
+
+fn numbers(bytes: &[u8]) -> String {
+    let text: String = bytes.iter().map(|b| format!("{b} ∷ ")).collect();
+    format!("({text}[])")
+}
