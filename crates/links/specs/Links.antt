@@ -1,4 +1,4 @@
--- The code's link as a link of the definitions, and what it has beside (01, Chains; The directory).
+-- The code's link as a link of the definitions, and what it has beside (01, Chains; The directory). Laws: proofs/LinkLaws.
 use Prim.Native.Nat.{ℕ}
 use mathlib.Core.Path.{_≡_}
 use mathlib.Core.Bool.{true}
