@@ -28,7 +28,8 @@ pub disk-image : (g : Geometry) (img : Bytes) → length img ≡ 256 * total g �
 unfolding image
 disk-image g img h = joined-part img 0 (total g) ∙ take-all (256 * total g) img (omega arith)
 
-module _ (g : Geometry) (img : Bytes) (size : length img ≡ 256 * total g) (n : ℕ) (on : n < total g) (s : Bytes) (full : length s ≡ 256) where
+-- a sector that lies whole in the image, with other bytes in its place, is that sector put on the disk
+module _ (img : Bytes) (n : ℕ) (s : Bytes) (inside : 256 * n + 256 ≤ length img) (full : length s ≡ 256) where
   fits : 256 * n + length s ≤ length img
   fits = omega arith
 
@@ -43,5 +44,8 @@ module _ (g : Geometry) (img : Bytes) (size : length img ≡ 256 * total g) (n :
         | no k ↦ part-after img (256 * n) s fits (256 * m) 256 (omega arith)
       ]
 
+module _ (g : Geometry) (img : Bytes) (size : length img ≡ 256 * total g) (n : ℕ) (on : n < total g) (s : Bytes) (full : length s ≡ 256) where
   pub image-put : image g (put (disk img) n s) ≡ splice img (256 * n) s
-  image-put = ap (image g) (sym splice-disk) ∙ disk-image g (splice img (256 * n) s) (length-splice img (256 * n) s fits ∙ size)
+  image-put =
+      ap (image g) (sym (splice-disk img n s (omega arith) full))
+      ∙ disk-image g (splice img (256 * n) s) (length-splice img (256 * n) s (omega arith) ∙ size)

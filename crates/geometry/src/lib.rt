@@ -1,0 +1,137 @@
+// Tracks and sectors of a disk of 35 tracks (01, Tracks and sectors): a track's sectors, an address on the disk, a sector's number.
+// Every function is total: an address off the disk has the number that the definition gives it, and `on_disk` tells it.
+// The tables' rule, the running sum, is proved once over both tables: proofs/TableLaws.
+ghost use mathlib.Core.Path.{_≡_};
+ghost use Rattle.d64spec.specs.Geometry.{layout35, firstOn, onDisk};
+ghost use Rattle.geometry.specs.Layout.{addressOf, Counted, Numbered};
+
+// A sector by its track, from 1, and its place on the track, from 0.
+pub struct Address {
+    pub track: u8,
+    pub sector: u8,
+}
+
+// The last track, and the sectors of all tracks.
+const TRACKS: u8 = 35;
+
+const TOTAL: u16 = 683;
+
+// How many sectors each track has, from track 1 on.
+pub const SECTORS: [u8; 35] = [
+    21,
+    21,
+    21,
+    21,
+    21,
+    21,
+    21,
+    21,
+    21,
+    21,
+    21,
+    21,
+    21,
+    21,
+    21,
+    21,
+    21,
+    19,
+    19,
+    19,
+    19,
+    19,
+    19,
+    19,
+    18,
+    18,
+    18,
+    18,
+    18,
+    18,
+    17,
+    17,
+    17,
+    17,
+    17,
+];
+
+// The number of each track's first sector, from track 1 on: all sectors of the lower tracks.
+pub const FIRST: [u16; 35] = [
+    0,
+    21,
+    42,
+    63,
+    84,
+    105,
+    126,
+    147,
+    168,
+    189,
+    210,
+    231,
+    252,
+    273,
+    294,
+    315,
+    336,
+    357,
+    376,
+    395,
+    414,
+    433,
+    452,
+    471,
+    490,
+    508,
+    526,
+    544,
+    562,
+    580,
+    598,
+    615,
+    632,
+    649,
+    666,
+];
+
+// How many sectors a track has: 0 where there is no such track.
+pub fn sectors_on(track: u8) -> u8
+    ensures { λ r. ⌜ Counted track r ⌝ }
+{
+    if track < 1 {
+        return 0;
+    }
+    if TRACKS < track {
+        return 0;
+    }
+    let i = (track - 1) as usize;
+    SECTORS[i]
+}
+
+// How many sectors the tracks below this one have: the number of its first sector, and 683 past the last track.
+pub fn first_on(track: u8) -> u16
+    ensures { λ r. ⌜ r ≡ firstOn layout35 track ⌝ }
+{
+    if track < 1 {
+        return 0;
+    }
+    if TRACKS < track {
+        return TOTAL;
+    }
+    let below = (track - 1) as usize;
+    FIRST[below]
+}
+
+// Whether an address names a sector of the disk.
+pub fn on_disk(at: Address) -> bool
+    ensures { λ r. ⌜ r ≡ onDisk layout35 (addressOf at) ⌝ }
+{
+    at.sector < sectors_on(at.track)
+}
+
+// A sector's number: all sectors of lower tracks plus its own. Of an address on the disk it is below 683.
+pub fn sector_number(at: Address) -> usize
+    ensures { λ r. ⌜ Numbered (addressOf at) r ⌝ }
+{
+    first_on(at.track) as usize + at.sector as usize
+}

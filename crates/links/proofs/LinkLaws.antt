@@ -1,0 +1,43 @@
+-- The decoders of links case by case, as the code's tests tell the cases apart. They hold for every layout.
+use Prim.Native.Nat.{ℕ, zero, suc, _≤_, _<_}
+use native.Mathlib.Omega.{arith}
+use mathlib.Core.Path.{_≡_, refl}
+use borrow.Author.Tests.{ne-eqb, lt-ltb, le-ltb}
+use Rattle.d64spec.specs.Geometry.{Geometry}
+use Rattle.d64spec.specs.Chain.{ends, bad, linkTo, decodeFileLink, decodeDirectoryLink}
+
+module _ (g : Geometry) (t s : ℕ) where
+  pub file-bad : t < 1 → s < 1 → decodeFileLink g t s ≡ bad
+  unfolding decodeFileLink
+  file-bad h k =
+      let e : t ≡ 0 = omega arith in
+      let f : s ≡ 0 = omega arith in
+      rw (e, f)
+
+  pub directory-ends : t < 1 → decodeDirectoryLink g t s ≡ ends
+  unfolding decodeDirectoryLink
+  directory-ends h = let e : t ≡ 0 = omega arith in rw e
+
+  pub directory-map : t ≡ 18 → s < 1 → decodeDirectoryLink g t s ≡ bad
+  unfolding decodeDirectoryLink
+  directory-map e h = simp (e, le-ltb 0 s (omega arith))
+
+  pub directory-to : t ≡ 18 → 1 ≤ s → decodeDirectoryLink g t s ≡ linkTo g t s
+  unfolding decodeDirectoryLink
+  directory-to e h = simp (e, lt-ltb 0 s h)
+
+pub file-ends : (g : Geometry) (t s : ℕ) → t < 1 → 1 ≤ s → decodeFileLink g t s ≡ ends
+unfolding decodeFileLink
+file-ends g zero (suc s) h k = refl
+file-ends g zero zero h k = absurd (omega arith)
+file-ends g (suc t) s h k = absurd (omega arith)
+
+pub file-to : (g : Geometry) (t s : ℕ) → 1 ≤ t → decodeFileLink g t s ≡ linkTo g t s
+unfolding decodeFileLink
+file-to g zero s h = absurd (omega arith)
+file-to g (suc t) s h = refl
+
+pub directory-other : (g : Geometry) (t s : ℕ) → 1 ≤ t → (t ≡ 18 → ⊥) → decodeDirectoryLink g t s ≡ bad
+unfolding decodeDirectoryLink
+directory-other g zero s h other = absurd (omega arith)
+directory-other g (suc t) s h other = simp (ne-eqb (suc t) 18 other)

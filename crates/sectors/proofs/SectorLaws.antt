@@ -1,0 +1,80 @@
+-- Laws of a sector and of an image with another sector in its place.
+-- In order: a sector as a part; when a sector is written, and when not; what is then on the disk.
+use Prim.Native.Nat.{ℕ, _+_, _-_, _*_, _≤_, _<_}
+use native.Mathlib.Omega.{arith}
+use mathlib.Core.Path.{_≡_, refl, sym, ap, _∙_}
+use mathlib.Core.Bool.{Bool, true, false, cond, _&&_}
+use mathlib.Core.List.{[], _++_, append-nil}
+use lib.ListN.{length, take, drop, length-take, length-drop, drop-of-length-le}
+use lib.Seq.{take-all, take-length, drop-drop}
+use lib.Dec.{eqb, leb}
+use borrow.Author.Tests.{eqb-true, leb-true, le-leb, lt-leb, eq-eqb, ne-eqb}
+use Rattle.d64spec.specs.Lists.{Bytes, splice}
+use Rattle.d64spec.specs.Image.{disk, put}
+use Rattle.d64spec.proofs.SpliceLaws.{length-splice}
+use Rattle.d64spec.proofs.InPlaceLaws.{splice-disk}
+use Rattle.sectors.specs.Sectors.{Inside, IsSector, withSector}
+
+module _ (img : Bytes) (n : ℕ) where
+  -- a sector that lies whole in the image has 256 bytes
+  pub length-disk : Inside img n → length (disk img n) ≡ 256
+  unfolding disk
+  length-disk h = simp (length-take, length-drop) (omega arith)
+
+  pub isSector : {p : Bytes} → p ≡ disk img n → IsSector img n p
+  isSector e = record { bytes = e; full = λ h. ap length e ∙ length-disk h }
+
+  -- where the sector starts past the image's end, it is empty
+  pub disk-past : length img ≤ 256 * n → [] ≡ disk img n
+  unfolding disk
+  disk-past h = sym (ap (take 256) (drop-of-length-le img {i = 256 * n} h))
+
+  -- where the image ends inside it, it is the rest of the image
+  pub disk-cut : length img ≤ 256 * n + 256 → take (length img - 256 * n) (drop (256 * n) img) ≡ disk img n
+  unfolding disk
+  disk-cut h =
+      let l = length-drop (256 * n) img in
+      take-all (length img - 256 * n) (drop (256 * n) img) (omega arith) ∙ sym (take-all 256 (drop (256 * n) img) (omega arith))
+
+module _ (img : Bytes) (n : ℕ) (s : Bytes) where
+  -- how wide the code lends the sector
+  abbrev width : ℕ
+  width = 256 * n + 256 - 256 * n
+
+  pub withSector-whole : Inside img n → length s ≡ 256 → withSector img n s ≡ splice img (256 * n) s
+  unfolding withSector
+  withSector-whole inside size = simp (le-leb (256 * n + 256) (length img) inside, eq-eqb (length s) 256 size)
+
+  pub withSector-cut : length img < 256 * n + 256 → withSector img n s ≡ img
+  unfolding withSector
+  withSector-cut h = simp (lt-leb (256 * n + 256) (length img) h)
+
+  pub withSector-size : (length s ≡ 256 → ⊥) → withSector img n s ≡ img
+  unfolding withSector
+  withSector-size other = rw (ne-eqb (length s) 256 other) (go (leb (256 * n + 256) (length img)))
+    where
+      go : (b : Bool) → cond (b && false) (splice img (256 * n) s) img ≡ img
+      go true = refl
+      go false = refl
+
+  -- no call that writes a sector changes the image's length
+  pub length-withSector : length (withSector img n s) ≡ length img
+  unfolding withSector
+  length-withSector = go (leb (256 * n + 256) (length img)) (eqb (length s) 256) refl refl
+    where
+      go : (b c : Bool) → leb (256 * n + 256) (length img) ≡ b → eqb (length s) 256 ≡ c → length (cond (b && c) (splice img (256 * n) s) img) ≡ length img
+      go true true inside size = length-splice img (256 * n) s (omega (arith, leb-true (256 * n + 256) (length img) inside, eqb-true (length s) 256 size))
+      go true false inside size = refl
+      go false c inside size = refl
+
+  -- A SECTOR WRITTEN IN THE IMAGE IS A SECTOR PUT ON THE DISK
+  pub disk-withSector : Inside img n → length s ≡ 256 → disk (withSector img n s) ≡ put (disk img) n s
+  disk-withSector inside size = ap disk (withSector-whole inside size) ∙ splice-disk img n s inside size
+
+  -- what comes back of a loan of the sector's 256 bytes when s is copied over them
+  pub copied : {p : Bytes} → Inside img n → length s ≡ 256 → p ≡ take (length s) s ++ drop (length s) (take width (drop (256 * n) img)) → take (256 * n) img ++ (p ++ drop width (drop (256 * n) img)) ≡ withSector img n s
+  copied {p} inside size e =
+      let long : length (take width (drop (256 * n) img)) ≡ length s = simp (length-take, length-drop) (omega arith) in
+      let same : p ≡ s = e ∙ simp (take-length, drop-of-length-le (take width (drop (256 * n) img)) {i = length s} (omega arith), append-nil) in
+      let end : 256 * n + width ≡ 256 * n + length s = omega arith in
+      rw (same, drop-drop width (256 * n) img, end) (sym (withSector-whole inside size))

@@ -1,0 +1,53 @@
+// A sector of an image, lent on as a part of it, read and written (01, Tracks and sectors): for any image and any number.
+// A sector that the image does not have is empty, one that the image cuts off is shorter; only a whole sector is written.
+// `n` is held to the sectors that lie whole in the image before it is multiplied, so that nothing wraps.
+ghost use mathlib.Core.Path.{_≡_};
+ghost use Rattle.d64spec.specs.Lists.{byte, zeros};
+ghost use Rattle.d64spec.specs.Image.{disk};
+ghost use Rattle.sectors.specs.Sectors.{IsSector, withSector};
+
+// The bytes of sector n, as a part of the image.
+pub fn sector(img: &[u8], n: usize) -> &[u8]
+    ensures { λ r. ⌜ IsSector (now (img .entry)) n (now r) ⌝ }
+{
+    let whole = img.len() / 256;
+    if whole < n {
+        return &img[0..0];
+    }
+    let start = 256 * n;
+    if n == whole {
+        return &img[start..];
+    }
+    &img[start..start + 256]
+}
+
+// Byte i of sector n, and 0 where there is none.
+pub fn byte_of(img: &[u8], n: usize, i: usize) -> u8
+    ensures { λ r. ⌜ r ≡ byte (disk (now (img .entry)) n) i ⌝ }
+{
+    let part = sector(img, n);
+    if i < part.len() {
+        return part[i];
+    }
+    0
+}
+
+// Writes 256 bytes over sector n. With another length, or a sector that is not whole in the image, nothing is written.
+pub fn write_sector(img: &mut [u8], n: usize, content: &[u8])
+    ensures { λ _. ⌜ now (img .exit) ≡ withSector (now (img .entry)) n (now (content .entry)) ⌝ }
+{
+    if n < img.len() / 256 {
+        if content.len() == 256 {
+            let from = 256 * n;
+            bytes::copy(content, &mut img[from..from + 256]);
+        }
+    }
+}
+
+// Sets every byte of sector n to 0. A sector that is not whole in the image is left as it is.
+pub fn clear_sector(img: &mut [u8], n: usize)
+    ensures { λ _. ⌜ now (img .exit) ≡ withSector (now (img .entry)) n (zeros 256) ⌝ }
+{
+    let blank = [0u8; 256];
+    write_sector(img, n, &blank);
+}
