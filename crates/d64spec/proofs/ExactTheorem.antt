@@ -18,19 +18,19 @@ use Rattle.d64spec.specs.Image.{Disk, disk}
 use Rattle.d64spec.specs.Chain.{chainData}
 use Rattle.d64spec.specs.Directory.{File, Slot, files, nameOf, occupied}
 use Rattle.d64spec.specs.Owner.{freeForDirectory, freeForFiles}
+use Rattle.d64spec.specs.Check.{rightSize}
+use Rattle.d64spec.specs.Rules.{IsKind}
 use Rattle.d64spec.specs.Accepted.{Accepted}
-use Rattle.d64spec.specs.Reply.{Reply, filesNamed, validKind, validNameArgument}
+use Rattle.d64spec.specs.Reply.{Reply, filesNamed, validNameArgument}
 use Rattle.d64spec.specs.Read.{callRead, callTell, tellReply}
 use Rattle.d64spec.specs.Store.{emptySlots, sectorsNeeded}
 use Rattle.d64spec.specs.Call.{check, format, perform, read, scratch, store}
 use Rattle.d64spec.specs.Listing.{callListing, listingReply, track18}
-use Rattle.d64spec.specs.Check.{rightSize}
 use Rattle.d64spec.specs.Order.{AllHold, Condition, FirstFails, asks, asksName, asksSize, asksVersion, conditions, diskConditions, listingConditions, listingSlots, tellConditions}
 use Rattle.d64spec.specs.Exact.{Admitted, Formattable, HasFile, Listable, ListingNumber, NoSlot, Readable, Scratchable, ShownEntry, Storable, Tellable}
 use Rattle.d64spec.proofs.ReadLaws.{eq-of-equal, first-kept}
 use Rattle.d64spec.proofs.CheckLaws.{disk-complete, equal-refl, name-one}
 use Rattle.d64spec.proofs.ConditionLaws.{allHold-append, firstFails-append}
-use Rattle.d64spec.proofs.RuleLaws.{kind-exact, name-argument-exact, version-exact}
 use Rattle.d64spec.proofs.FirstFault.{diskConditions-accepted}
 use Rattle.d64spec.proofs.NumberLaws.{Answers, Between, answers-imp, disk-answers, firstFails-answers, firstFails-past, listing-answers}
 use Rattle.d64spec.proofs.NamedLaws.{filesNamed-one, filesNamed-single, length-filesNamed, name-met}
@@ -99,8 +99,8 @@ module _ (g : Geometry) (v : Valid g) (img : Bytes) where
   pub format-exact : (name : Bytes) (id1 id2 : ℕ) → (perform g img (format name id1 id2) .answer .number ≡ 0) ↔ Formattable g img name
   unfolding conditions
   format-exact name id1 id2 = Iff·trans (done-exactly g v img (format name id1 id2)) (
-    (λ h. record { size = h .0; nameValid = name-argument-exact name .0 (h .1 .0) }),
-    (λ r. (r .size, (name-argument-exact name .1 (r .nameValid), tt))),
+    (λ h. record { size = h .0; nameValid = h .1 .0 }),
+    (λ r. (r .size, (r .nameValid, tt))),
   )
 
   -- A FORMAT IS REFUSED ONLY WITH 1 AND 9
@@ -124,8 +124,8 @@ module _ (g : Geometry) (v : Valid g) (img : Bytes) where
   unfolding conditions
   scratch-exact name = Iff·trans (done-exactly g v img (scratch name)) (
     (λ h. let w = asked-after _ (h .0) (h .1 .1) in
-        record { accepted = w .0; nameValid = name-argument-exact name .0 (h .1 .0); unlocked = version-exact g (disk img) .0 (w .1 .0); found = hasFile-exact g img name .1 (w .1 .1 .0) }),
-    (λ r. (r .accepted .size, (name-argument-exact name .1 (r .nameValid), after-asked _ (r .accepted) (version-exact g (disk img) .1 (r .unlocked), (hasFile-exact g img name .0 (r .found), tt))))),
+        record { accepted = w .0; nameValid = h .1 .0; unlocked = w .1 .0; found = hasFile-exact g img name .1 (w .1 .1 .0) }),
+    (λ r. (r .accepted .size, (r .nameValid, after-asked _ (r .accepted) (r .unlocked, (hasFile-exact g img name .0 (r .found), tt))))),
   )
 
   -- the bytes of the only file of a name, said of the file that is there
@@ -145,8 +145,8 @@ module _ (g : Geometry) (v : Valid g) (img : Bytes) where
   read-exact name out = Iff·trans (done-exactly g v img (read name out)) (
     (λ h. let w = asked-after _ (h .0) (h .1 .1) in
         let f : HasFile g img name = hasFile-exact g img name .1 (w .1 .0) in
-        record { accepted = w .0; nameValid = name-argument-exact name .0 (h .1 .0); found = f; fits = fits-exact name (length out) (w .0) f .0 (w .1 .1 .0) }),
-    (λ r. (r .accepted .size, (name-argument-exact name .1 (r .nameValid), after-asked _ (r .accepted) (hasFile-exact g img name .0 (r .found), (fits-exact name (length out) (r .accepted) (r .found) .1 (r .fits), tt))))),
+        record { accepted = w .0; nameValid = h .1 .0; found = f; fits = fits-exact name (length out) (w .0) f .0 (w .1 .1 .0) }),
+    (λ r. (r .accepted .size, (r .nameValid, after-asked _ (r .accepted) (hasFile-exact g img name .0 (r .found), (fits-exact name (length out) (r .accepted) (r .found) .1 (r .fits), tt))))),
   )
 
   -- A READ GIVES THE FILE'S BYTES: of each file of an accepted image, whole, where the output has room
@@ -179,7 +179,7 @@ noSlot-exact g d = (
 module _ (g : Geometry) (v : Valid g) (img name : Bytes) (kind : ℕ) (bytes : Bytes) where
   -- what a store asks up to the check
   abbrev upToCheck : List Condition
-  upToCheck = asksSize g img ∷ asksName name ∷ asks (validKind kind ≡ true) badKindArgument ∷ diskConditions g (disk img)
+  upToCheck = asksSize g img ∷ asksName name ∷ asks (IsKind kind) badKindArgument ∷ diskConditions g (disk img)
 
   -- what it asks then, before the room
   abbrev beforeRoom : List Condition
@@ -196,14 +196,14 @@ module _ (g : Geometry) (v : Valid g) (img name : Bytes) (kind : ℕ) (bytes : B
   admitted-exact = (
     (λ h. record {
       accepted = record { size = h .0 .0; content = diskConditions-accepted g v (disk img) .0 (h .0 .1 .1 .1) };
-      nameValid = name-argument-exact name .0 (h .0 .1 .0);
-      kindValid = kind-exact kind .0 (h .0 .1 .1 .0);
-      unlocked = version-exact g (disk img) .0 (h .1 .0);
+      nameValid = h .0 .1 .0;
+      kindValid = h .0 .1 .1 .0;
+      unlocked = h .1 .0;
       absent = absent-exact g img name .1 (h .1 .1 .0);
     }),
     (λ a. (
-      (a .accepted .size, (name-argument-exact name .1 (a .nameValid), (kind-exact kind .1 (a .kindValid), diskConditions-accepted g v (disk img) .1 (a .accepted .content)))),
-      (version-exact g (disk img) .1 (a .unlocked), (absent-exact g img name .0 (a .absent), tt)),
+      (a .accepted .size, (a .nameValid, (a .kindValid, diskConditions-accepted g v (disk img) .1 (a .accepted .content)))),
+      (a .unlocked, (absent-exact g img name .0 (a .absent), tt)),
     )),
   )
 

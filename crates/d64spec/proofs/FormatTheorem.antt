@@ -15,7 +15,7 @@ use Rattle.d64spec.specs.Answers.{Address, address, done}
 use Rattle.d64spec.specs.Geometry.{Geometry, Valid, allocationOrder, allocationTracks, directoryStart, firstOn, layout35, mapAddress, onDisk, sectorNumber, sectorsOfTrack, sectorsOn, total, tracks}
 use Rattle.d64spec.specs.Image.{Disk, disk}
 use Rattle.d64spec.specs.Directory.{padded}
-use Rattle.d64spec.specs.Owner.{claimCount, freeForFiles, isFree}
+use Rattle.d64spec.specs.Owner.{claimCount, freeForDirectory, freeForFiles, isFree}
 use Rattle.d64spec.specs.Map.{bitmapByte, expectedBit, expectedEntry, mapBit, rewriteMap}
 use Rattle.d64spec.specs.Reply.{Change}
 use Rattle.d64spec.specs.Format.{callFormat, emptyDirectorySector, freeAfterFormat}
@@ -168,13 +168,20 @@ module _ (g : Geometry) (v : Valid g) (beside : MapBesideName g) (name : Bytes) 
   formatted-other : (n : ℕ) → n < total g → (n ≡ sectorNumber g mapAddress → ⊥) → (n ≡ sectorNumber g directoryStart → ⊥) → d n ≡ zeros 256
   formatted-other n h p q = rewrite-other g (blankDisk g name i j) n p ∙ blank-other g v name i j short n h q p
 
-  -- the sectors that are free for files
+  -- the sectors that are free
+  formatted-isFree : _≡_ {A = Address → Bool} (isFree g d) (freeAfterFormat g)
+  formatted-isFree =
+      fun-ext (λ r. ap (λ (k : ℕ). eqb k 0) (rewrite-claims g v (blankDisk g name i j) (blank-whole g v name i j short) (blank-sound g v name i j short) (sectorNumber g r)))
+      ∙ sym (free-same g v name i j short)
+
+  -- off track 18, and on it
   formatted-free : freeForFiles g d ≡ filter (freeAfterFormat g) (allocationOrder g)
   unfolding freeForFiles
-  formatted-free =
-      let same : _≡_ {A = Address → Bool} (isFree g d) (freeAfterFormat g)
-      = fun-ext (λ r. ap (λ (k : ℕ). eqb k 0) (rewrite-claims g v (blankDisk g name i j) (blank-whole g v name i j short) (blank-sound g v name i j short) (sectorNumber g r))) ∙ sym (free-same g v name i j short) in
-      ap (λ (p : Address → Bool). filter p (allocationOrder g)) same
+  formatted-free = ap (λ (p : Address → Bool). filter p (allocationOrder g)) formatted-isFree
+
+  formatted-free18 : freeForDirectory g d ≡ filter (freeAfterFormat g) (sectorsOfTrack g 18)
+  unfolding freeForDirectory
+  formatted-free18 = ap (λ (p : Address → Bool). filter p (sectorsOfTrack g 18)) formatted-isFree
 
 -- A FORMATTED DISK HAS THESE BYTES: every byte of the image after a format that is done
 pub format-bytes : (g : Geometry) → Valid g → MapBesideName g → (img name : Bytes) (id1 id2 : ℕ) (ch : Change) → callFormat g img name id1 id2 ≡ done ch → Formatted g name id1 id2 (ch .imageAfter)
@@ -220,3 +227,13 @@ pub format-free664 : (img name : Bytes) (id1 id2 : ℕ) (ch : Change) → callFo
 format-free664 img name id1 id2 ch e =
     let z = formatted-disk layout35 valid35 img name id1 id2 ch e in
     rw (z .1) (ap length (formatted-free layout35 valid35 beside35 name id1 id2 (z .0)) ∙ free664)
+
+free17 : length (filter (freeAfterFormat layout35) (sectorsOfTrack layout35 18)) ≡ 17
+unfolding sectorsOfTrack freeAfterFormat layout35 sectorsOn sectorNumber firstOn
+free17 = refl
+
+-- 17 sectors of track 18 are free
+pub format-free17 : (img name : Bytes) (id1 id2 : ℕ) (ch : Change) → callFormat layout35 img name id1 id2 ≡ done ch → length (freeForDirectory layout35 (disk (ch .imageAfter))) ≡ 17
+format-free17 img name id1 id2 ch e =
+    let z = formatted-disk layout35 valid35 img name id1 id2 ch e in
+    rw (z .1) (ap length (formatted-free18 layout35 valid35 beside35 name id1 id2 (z .0)) ∙ free17)

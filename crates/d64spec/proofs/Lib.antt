@@ -55,3 +55,4 @@ pub mod PlaceLaws
 pub mod WidthTheorem
 pub mod FormatTheorem
 pub mod ReadTheorem
+pub mod FormatStore

@@ -15,6 +15,7 @@ use Rattle.d64spec.specs.Image.{Disk, disk}
 use Rattle.d64spec.specs.Chain.{chainData}
 use Rattle.d64spec.specs.Directory.{File, Slot, files, occupied}
 use Rattle.d64spec.specs.Owner.{freeForDirectory, freeForFiles}
+use Rattle.d64spec.specs.Rules.{IsKind, IsName, MayWrite}
 use Rattle.d64spec.specs.Check.{checkDisk, checkImage, rightSize}
 use Rattle.d64spec.specs.Accepted.{AcceptedDisk}
 use Rattle.d64spec.specs.Reply.{Change, filesNamed, reply, unchanged, validKind, validNameArgument, writable}
@@ -28,6 +29,7 @@ use Rattle.d64spec.specs.Order.{AllHold, Condition, FirstFails, asks, as
 use Rattle.d64spec.proofs.ConditionLaws.{Decided, decided-bind, decided-bind-done, decided-need, decided-one, decided-then, decided-then-done, done≢refused, eqb-exact, leb-exact}
 use Rattle.d64spec.proofs.NamedLaws.{filesNamed-single}
 use Rattle.d64spec.proofs.RefusalLaws.{fault-number}
+use Rattle.d64spec.proofs.RuleLaws.{kind-exact, name-argument-exact, version-exact}
 use Rattle.d64spec.proofs.FirstFault.{decided-directory, decided-disk, decided-list-slots, directory-walked, diskConditions-accepted}
 use Rattle.d64spec.proofs.ResultLaws.{refused≢done}
 
@@ -119,11 +121,11 @@ module _ (g : Geometry) (v : Valid g) (img : Bytes) where
 
   -- 9: the name
   decided-name : (name : Bytes) → Decided (need (validNameArgument name) badNameArgument) (asksName name ∷ [])
-  decided-name name = decided-need (validNameArgument name) badNameArgument _ Iff·rfl
+  decided-name name = decided-need (validNameArgument name) badNameArgument (IsName name) (name-argument-exact name)
 
   -- 11: the version
   decided-version : Decided (need (writable g (disk img)) writeForbidden) (asksVersion g (disk img) ∷ [])
-  decided-version = decided-need (writable g (disk img)) writeForbidden _ Iff·rfl
+  decided-version = decided-need (writable g (disk img)) writeForbidden (MayWrite g (disk img)) (version-exact g (disk img))
 
   decided-check : Decided (callCheck g img) (conditions g img check)
   unfolding callCheck checkImage conditions
@@ -142,7 +144,7 @@ module _ (g : Geometry) (v : Valid g) (img : Bytes) where
   decided-store : (name : Bytes) (kind : ℕ) (bs : Bytes) → Decided (callStore g img name kind bs) (conditions g img (store name kind bs))
   unfolding callStore conditions
   decided-store name kind bs =
-      decided-then decided-size (λ h. decided-then (decided-name name) (λ h. decided-then (decided-need (validKind kind) badKindArgument _ Iff·rfl) (λ h. decided-checked (λ a.
+      decided-then decided-size (λ h. decided-then (decided-name name) (λ h. decided-then (decided-need (validKind kind) badKindArgument (IsKind kind) (kind-exact kind)) (λ h. decided-checked (λ a.
       decided-then decided-version (λ h.
       decided-then (decided-need _ nameExists _ (eqb-exact (length (filesNamed name (files g (disk img)))) 0)) (λ h.
       decided-bind (decided-place g (disk img)) (λ place e h.

@@ -15,7 +15,8 @@ use Rattle.d64spec.specs.Chain.{Link, to, bad, fileLink, directoryLink, 
 use Rattle.d64spec.specs.Directory.{Slot, File, entryByte, validType, validName, nameOf, countOf, firstLink, fileOf, directorySectors, occupied, files}
 use Rattle.d64spec.specs.Owner.{freeForFiles, freeForDirectory}
 use Rattle.d64spec.specs.Accepted.{MarksFree}
-use Rattle.d64spec.specs.Reply.{validNameArgument, validKind, writable, filesNamed}
+use Rattle.d64spec.specs.Rules.{IsName, IsKind, MayWrite}
+use Rattle.d64spec.specs.Reply.{filesNamed}
 use Rattle.d64spec.specs.Store.{sectorsNeeded, emptySlots, lastOf}
 use Rattle.d64spec.specs.Call.{Call, check, format, read, store, scratch}
 use Rattle.d64spec.specs.Listing.{track18, listingText}
@@ -76,7 +77,7 @@ asksSize g img = asks (length img ≡ 256 * total g) wrongSize
 
 -- 9: the name asked for
 abbrev pub asksName : Bytes → Condition
-asksName name = asks (validNameArgument name ≡ true) badNameArgument
+asksName name = asks (IsName name) badNameArgument
 
 -- ---- steps 2 to 4 of the check
 
@@ -124,7 +125,7 @@ module _ (g : Geometry) (d : Disk) where
 
 -- 11: the DOS version
 abbrev pub asksVersion : Geometry → Disk → Condition
-asksVersion g d = asks (writable g d ≡ true) writeForbidden
+asksVersion g d = asks (MayWrite g d) writeForbidden
 
 -- 13: a file of that name
 abbrev pub asksFile : Geometry → Disk → Bytes → Condition
@@ -142,7 +143,7 @@ conditions g img (read name out) =
     asksSize g img ∷ asksName name
     ∷ (diskConditions g (disk img) ++ (asksFile g (disk img) name ∷ asksOutput g (disk img) name out ∷ []))
 conditions g img (store name kind bytes) =
-    asksSize g img ∷ asksName name ∷ asks (validKind kind ≡ true) badKindArgument
+    asksSize g img ∷ asksName name ∷ asks (IsKind kind) badKindArgument
     ∷ (diskConditions g (disk img)
     ++ (asksVersion g (disk img)
     ∷ asks (length (filesNamed name (files g (disk img))) ≡ 0) nameExists
