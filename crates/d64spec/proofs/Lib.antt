@@ -11,6 +11,7 @@ pub mod ReadLaws
 pub mod WalkLaws
 pub mod MapLaws
 pub mod CheckLaws
+pub mod NamedLaws
 pub mod SpliceLaws
 pub mod FrameLaws
 pub mod ImageLaws
@@ -33,7 +34,6 @@ pub mod AllocationLaws
 pub mod StoreStep
 pub mod RunTheorem
 pub mod InPlaceLaws
-pub mod NamedLaws
 pub mod OtherBytes
 pub mod ChangesTheorem
 pub mod RoundTrip

@@ -8,16 +8,16 @@ use mathlib.Core.List.{List, [], _∷_, map, List·Memᴰ, List·Memᴰ·head, L
 use lib.ListN.{length, take}
 use lib.Seq.{length-take-le}
 use lib.Dec.{eqb}
-use borrow.Author.Tests.{eq-eqb, ne-eqb, eqb-true, leb-true}
-use Rattle.d64spec.specs.Lists.{All, Bytes, count, equal, filter, indicator, nameCount, range}
+use borrow.Author.Tests.{eq-eqb, ne-eqb, eqb-true}
+use Rattle.d64spec.specs.Lists.{All, Bytes, count, filter, indicator, nameCount, range}
 use Rattle.d64spec.specs.Answers.{Address, Result, _>>=_, address, directoryFull, done, first}
 use Rattle.d64spec.specs.Geometry.{Geometry, Valid, allocationOrder, mapAddress, onDisk, sectorNumber, sectorsOfTrack, sectorsOn}
 use Rattle.d64spec.specs.Image.{Disk, disk, image}
-use Rattle.d64spec.specs.Directory.{File, Slot, directorySectors, files, isEmpty, nameOf, slotsFrom}
+use Rattle.d64spec.specs.Directory.{Slot, directorySectors, files, isEmpty, nameOf, slotsFrom}
 use Rattle.d64spec.specs.Owner.{claimCount, freeForDirectory, freeForFiles, isFree}
 use Rattle.d64spec.specs.Map.{rewriteMap}
 use Rattle.d64spec.specs.Accepted.{Accepted}
-use Rattle.d64spec.specs.Reply.{Change, filesNamed, reply, validKind, validNameArgument}
+use Rattle.d64spec.specs.Reply.{Change, reply, validKind, validNameArgument}
 use Rattle.d64spec.specs.Store.{SlotPlace, callStore, emptySlots, inEmptySlot, inNewSector, newEntry, placement, sectorsNeeded, slotPlaceFor, storedDisk, writeChain, writeSlot}
 use Rattle.d64spec.specs.Call.{store}
 use Rattle.d64spec.specs.Host.{HostReply, hostReply}
@@ -38,6 +38,7 @@ use Rattle.d64spec.proofs.WriteChainLaws.{Fits, sectors-fit, writeChain
 use Rattle.d64spec.proofs.EntryLaws.{entry-length}
 use Rattle.d64spec.proofs.WriteSlotLaws.{in-slot, at-new}
 use Rattle.d64spec.proofs.StoreLaws.{Entered, StoreLeaves, store-leaves}
+use Rattle.d64spec.proofs.NamedLaws.{length-filesNamed}
 
 -- ---- kept and taken
 
@@ -86,16 +87,6 @@ mem-count : (g : Geometry) (q : Address) (l : List Address) → List·Memᴰ q l
 mem-count g q [] m = elim m [ ]
 mem-count g q (x ∷ l) (List·Memᴰ·head e) = let z : indicator (eqb (sectorNumber g q) (sectorNumber g x)) ≡ 1 = rw (eq-eqb (sectorNumber g q) (sectorNumber g x) (ap (sectorNumber g) e)) in omega arith
 mem-count g q (x ∷ l) (List·Memᴰ·tail m) = omega (arith, mem-count g q l m)
-
-pub filesNamed-count : (n : Bytes) (l : List File) → length (filesNamed n l) ≡ nameCount n (map (λ f. nameOf (f .slot .bytes)) l)
-unfolding filesNamed
-filesNamed-count n [] = refl
-filesNamed-count n (f ∷ l) = go (equal n (nameOf (f .slot .bytes))) (filesNamed-count n l)
-  where
-    go : (b : Bool) → length (filter (λ f. equal n (nameOf (f .slot .bytes))) l) ≡ nameCount n (map (λ f. nameOf (f .slot .bytes)) l)
-        → length (cond b (f ∷ filter (λ f. equal n (nameOf (f .slot .bytes))) l) (filter (λ f. equal n (nameOf (f .slot .bytes))) l)) ≡ indicator b + nameCount n (map (λ f. nameOf (f .slot .bytes)) l)
-    go true e = omega arith
-    go false e = omega arith
 
 -- ---- the sectors taken
 
@@ -237,7 +228,7 @@ some-sector zero = omega arith
 some-sector (suc n) = rw (ne-eqb (suc n) 0 (λ e. omega arith)) (omega arith)
 
 pub store-new : {g : Geometry} {img name : Bytes} {kind : ℕ} {bs : Bytes} {ch : Change} → StoreDone g img name kind bs ch → nameCount name (map (λ f. nameOf (f .slot .bytes)) (files g (disk img))) ≡ 0
-store-new {g} {img} {name} h = sym (filesNamed-count name (files g (disk img))) ∙ h .absent
+store-new {g} {img} {name} h = sym (length-filesNamed name (files g (disk img))) ∙ h .absent
 
 pub store-enough : {g : Geometry} {img name : Bytes} {kind : ℕ} {bs : Bytes} {ch : Change} → StoreDone g img name kind bs ch → length (placement g (disk img) (sectorsNeeded (length bs))) ≡ sectorsNeeded (length bs)
 store-enough {g} {img} {bs = bs} h = placement-length g (disk img) (sectorsNeeded (length bs)) (h .room)
