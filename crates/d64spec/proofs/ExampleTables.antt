@@ -4,17 +4,22 @@ use mathlib.Core.List.{[]}
 use Rattle.d64spec.specs.Lists.{ascending, descending}
 use Rattle.d64spec.specs.Answers.{first}
 use Rattle.d64spec.specs.Geometry.{allocationOrder, allocationTracks, firstOn, layout35, onDisk, sectorNumber, sectorsOfTrack, sectorsOn, total, tracks}
-use Rattle.d64spec.specs.Image.{disk, put}
+use Rattle.d64spec.specs.Image.{disk, image, put}
 use Rattle.d64spec.specs.Chain.{decodeDirectoryLink, decodeFileLink, directoryLink, fileLink, linkTo}
 use Rattle.d64spec.specs.Directory.{directorySectors, fileOf, files, firstLink, nameOf, occupied, padded, slotIn, slotsIn, validName, validType}
 use Rattle.d64spec.specs.Owner.{claimCount, claimList, claimsOf, freeForDirectory, freeForFiles}
 use Rattle.d64spec.specs.Map.{bitmapByte, entryCorrect, expectedBit, expectedEntry, mapBit, mapOnes, rewriteMap, wrongBits}
-use Rattle.d64spec.specs.Check.{checkDirectory, checkDisk, checkEntry, checkSlot}
-use Rattle.d64spec.specs.Format.{formatHeader, formattedDisk, formattedMap, freeAfterFormat}
-use Rattle.d64spec.specs.Store.{emptySlots, growDirectory, lastOf, newEntry, overwriteSlot, placement, sectorsNeeded, slotPlaceFor, storedDisk, writeSlot}
-use Rattle.d64spec.specs.Scratch.{scratchedDisk}
+use Rattle.d64spec.specs.Check.{checkDirectory, checkDisk, checkEntry, checkImage, checkSlot, rightSize}
+use Rattle.d64spec.specs.Reply.{filesNamed, reply, validKind, validNameArgument, writable}
+use Rattle.d64spec.specs.Format.{callFormat, formatHeader, formattedDisk, formattedMap, freeAfterFormat}
+use Rattle.d64spec.specs.Read.{callRead, callTell, noInformation, tellReply}
+use Rattle.d64spec.specs.Store.{callStore, emptySlots, growDirectory, lastOf, newEntry, overwriteSlot, placement, sectorsNeeded, slotPlaceFor, storedDisk, writeSlot}
+use Rattle.d64spec.specs.Scratch.{callScratch, scratchedDisk}
+use Rattle.d64spec.specs.Call.{attempt, callCheck, outputBuffer, perform}
 use Rattle.d64spec.specs.Listing.{callListing, digit, freeTotal, headFrame, line, listingOutput, listingText, refusalLine, slotFrame, track18}
+use Rattle.d64spec.specs.Host.{answerBlock, hostCall}
 use Rattle.d64spec.specs.Examples.{broken, brokenSteps, content, contentsOf, diskAt, entryAlone, exampleSteps, formatted, grown, holds, isDone, lastSector, scratchedAgain, stepHolds, storedOnce, table, trackBytes, withFile}
+use Rattle.d64spec.specs.Trial.{afterCall, brokenCalls, callHolds, callRows, entryOn19, fieldsOf, freshImage, imageOf, imageWithA, imageWithAB, sent, smallLayout, withEnds}
 
 -- THE EXAMPLES MARKED P HOLD
 pub table-holds : broken table ≡ []
@@ -25,3 +30,8 @@ table-holds = refl
 pub steps-hold : brokenSteps exampleSteps ≡ []
 unfolding table holds entryAlone lastSector content formatted withFile storedOnce scratchedAgain grown trackBytes diskAt isDone contentsOf stepHolds exampleSteps sectorNumber onDisk layout35 firstOn sectorsOn total tracks mapOnes mapBit sectorsNeeded allocationOrder allocationTracks ascending descending sectorsOfTrack lastOf put formattedDisk formattedMap formatHeader freeAfterFormat padded expectedEntry expectedBit bitmapByte rewriteMap claimCount claimList claimsOf directorySectors files occupied fileOf slotIn slotsIn firstLink linkTo fileLink directoryLink decodeFileLink decodeDirectoryLink freeForFiles freeForDirectory emptySlots slotPlaceFor first placement storedDisk writeSlot overwriteSlot growDirectory newEntry scratchedDisk checkDisk checkDirectory checkSlot checkEntry entryCorrect wrongBits validType validName nameOf callListing listingOutput listingText headFrame slotFrame line digit freeTotal track18 disk refusalLine
 steps-hold = refl
+
+-- EVERY ANSWER NUMBER, in its order and with its place, on a small disk
+pub calls-hold : brokenCalls callRows ≡ []
+unfolding callRows callHolds imageOf freshImage imageWithA imageWithAB afterCall entryOn19 withEnds sent smallLayout fieldsOf hostCall perform reply attempt outputBuffer answerBlock callCheck callFormat callRead callStore callScratch callTell tellReply noInformation checkImage rightSize validNameArgument validKind writable filesNamed image disk put first sectorNumber onDisk firstOn sectorsOn total tracks mapOnes mapBit sectorsNeeded allocationOrder allocationTracks ascending descending sectorsOfTrack lastOf formattedDisk formattedMap formatHeader freeAfterFormat padded expectedEntry expectedBit bitmapByte rewriteMap claimCount claimList claimsOf directorySectors files occupied fileOf slotIn slotsIn firstLink linkTo fileLink directoryLink decodeFileLink decodeDirectoryLink freeForFiles freeForDirectory emptySlots slotPlaceFor placement storedDisk writeSlot overwriteSlot growDirectory newEntry scratchedDisk checkDisk checkDirectory checkSlot checkEntry entryCorrect wrongBits validType validName nameOf
+calls-hold = refl

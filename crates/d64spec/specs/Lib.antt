@@ -23,3 +23,4 @@ pub mod Changes
 pub mod Facts
 pub mod Exact
 pub mod Examples
+pub mod Trial

@@ -1,0 +1,210 @@
+-- Every answer number of document 01, computed: whole calls on a small disk, each with the number, the block and the bytes that 01 gives for it.
+-- The layout has two sectors on tracks 17 and 18, eight on track 19 and no other: an image of 3,072 bytes, small enough to compute on. The definitions are those of every layout.
+-- In order: the layout; the images; rows; the table. The statement: proofs/ExampleTables, `calls-hold`.
+use Prim.Native.Nat.{ℕ, zero, suc, _+_, _*_}
+use mathlib.Core.Bool.{Bool, cond, _&&_, not}
+use mathlib.Core.List.{List, [], _∷_, _++_, map}
+use lib.ListN.{length, take, replicate}
+use lib.Dec.{eqb}
+use Rattle.d64spec.specs.Lists.{Bytes, filter, equal, join, range, splice, zeros}
+use Rattle.d64spec.specs.Geometry.{Geometry}
+use Rattle.d64spec.specs.Read.{FileInformation, callTell, tellReply}
+use Rattle.d64spec.specs.Call.{Call, check, format, read, store, scratch}
+use Rattle.d64spec.specs.Host.{hostCall}
+
+-- 12 sectors: 17/0 is sector 0, 18/0 is sector 2, 19/0 is sector 4
+unfoldable pub smallLayout : Geometry
+smallLayout = record { counts = replicate 16 0 ++ (2 ∷ 2 ∷ 8 ∷ []); mapAt = λ t. 4 * t }
+
+-- ---- images
+
+-- the names D, A, B and C
+abbrev pub nameD : Bytes
+nameD = 0x44 ∷ []
+
+abbrev pub nameA : Bytes
+nameA = 0x41 ∷ []
+
+abbrev pub nameB : Bytes
+nameB = 0x42 ∷ []
+
+abbrev pub nameC : Bytes
+nameC = 0x43 ∷ []
+
+-- 300 bytes
+unfoldable pub sent : Bytes
+sent = range 1 200 ++ range 1 100
+
+-- nine bytes lent for the answer, none of them what a call leaves there
+abbrev pub lentBlock : Bytes
+lentBlock = replicate 9 0xEE
+
+-- the image after a host call
+unfoldable pub afterCall : Bytes → Call → Bytes
+afterCall img c = hostCall smallLayout img lentBlock c .imageAfter
+
+-- the 32 bytes of a slot whose file, named j, is empty and has the one sector 19/j
+unfoldable pub entryOn19 : ℕ → Bytes
+entryOn19 j = 0 ∷ 0 ∷ 0x81 ∷ 19 ∷ j ∷ j ∷ (replicate 15 0xA0 ++ (zeros 9 ++ (1 ∷ 0 ∷ [])))
+
+-- the image with the sectors 19/0 to 19/n-1 as ends of empty files
+unfoldable pub withEnds : ℕ → Bytes → Bytes
+withEnds zero img = img
+withEnds (suc n) img = splice (withEnds n img) (256 * (4 + n)) (0 ∷ 1 ∷ [])
+
+-- the image with other bytes from byte i of track 18's sector s on
+abbrev pub patch18 : ℕ → ℕ → Bytes → Bytes → Bytes
+patch18 s i bs img = splice img (256 * (2 + s) + i) bs
+
+-- the image with another link in track 17's sector s
+abbrev pub relink : ℕ → ℕ → ℕ → Bytes → Bytes
+relink s a b img = splice img (256 * s) (a ∷ b ∷ [])
+
+-- which image a call is given
+pub data Given : Type 0 where
+  zeroBytes freshDisk : Given
+  oneFile : Given  -- A, PRG, 300 bytes in 17/0 and 17/1
+  twoFiles : Given  -- and B, SEQ, ten bytes in 19/0
+  oneByteShort : Given
+  version42 : Given
+  lastLink0000 linkOffDisk linkToMap linkToItself firstLinkTrack0 chainsMeet : Given
+  directoryLinkToMap directoryLinkTwice directoryLinkTrack17 : Given
+  delEntry emptyName sharedName countOfThree : Given
+  mapCountWrong mapBitWrong bitPastTheLast : Given
+  fullDirectory fullDisk : Given
+
+-- the formatted image
+unfoldable pub freshImage : Bytes
+freshImage = afterCall (zeros 3072) (format nameD 0x30 0x31)
+
+-- with A
+unfoldable pub imageWithA : Bytes
+imageWithA = afterCall freshImage (store nameA 2 sent)
+
+-- with A and B
+unfoldable pub imageWithAB : Bytes
+imageWithAB = afterCall imageWithA (store nameB 1 (range 1 10))
+
+-- that image
+unfoldable pub imageOf : Given → Bytes
+imageOf zeroBytes = zeros 3072
+imageOf freshDisk = freshImage
+imageOf oneFile = imageWithA
+imageOf twoFiles = imageWithAB
+imageOf oneByteShort = take 3071 imageWithA
+imageOf version42 = patch18 0 0x02 (0x42 ∷ []) imageWithA
+imageOf lastLink0000 = relink 1 0 0 imageWithA
+imageOf linkOffDisk = relink 0 17 2 imageWithA
+imageOf linkToMap = relink 0 18 0 imageWithA
+imageOf linkToItself = relink 1 17 0 imageWithA
+imageOf firstLinkTrack0 = patch18 1 0x03 (0 ∷ 5 ∷ []) imageWithA
+imageOf chainsMeet = patch18 1 0x23 (17 ∷ 0 ∷ []) imageWithAB
+imageOf directoryLinkToMap = patch18 1 0x00 (18 ∷ 0 ∷ []) imageWithA
+imageOf directoryLinkTwice = patch18 1 0x00 (18 ∷ 1 ∷ []) imageWithA
+imageOf directoryLinkTrack17 = patch18 1 0x00 (17 ∷ 0 ∷ []) imageWithA
+imageOf delEntry = patch18 1 0x02 (0x80 ∷ []) imageWithA
+imageOf emptyName = patch18 1 0x05 (0xA0 ∷ []) imageWithA
+imageOf sharedName = patch18 1 0x25 nameA imageWithAB
+imageOf countOfThree = patch18 1 0x1E (3 ∷ []) imageWithA
+imageOf mapCountWrong = patch18 0 0x4C (0 ∷ []) imageWithA
+imageOf mapBitWrong = patch18 0 0x44 (2 ∷ 3 ∷ []) imageWithA
+imageOf bitPastTheLast = patch18 0 0x49 (4 ∷ []) imageWithA
+imageOf fullDirectory = patch18 0 0x4C (zeros 4) (patch18 1 0x00 (join (map entryOn19 (range 0 8))) (withEnds 8 freshImage))
+imageOf fullDisk = afterCall freshImage (store nameA 3 (zeros 2540))
+
+-- ---- rows
+
+-- one call, and what document 01 gives for it
+pub data CallRow : Type 0 where
+  quiet : Given → Call → ℕ → Bytes → Bytes → CallRow  -- number, block and output afterwards; the image stays as it was
+  writes : Given → Call → ℕ → Bytes → CallRow  -- number and block afterwards
+  badBlock : Given → Call → ℕ → CallRow  -- the length of a block that is refused with 16, and nothing written
+  told : Given → ℕ → ℕ → Bytes → CallRow  -- a position, number, and type, name, first sector, count and length in one list
+
+-- a report of 0 and 0 at this place
+abbrev pub place : ℕ → ℕ → ℕ → Bytes
+place t s slot = t ∷ s ∷ slot ∷ zeros 6
+
+-- a report without a place
+abbrev pub report : ℕ → ℕ → Bytes
+report n k = 0 ∷ 0 ∷ 255 ∷ n ∷ 0 ∷ 0 ∷ 0 ∷ k ∷ 0 ∷ []
+
+-- what tell gives, in one list
+unfoldable pub fieldsOf : FileInformation → Bytes
+fieldsOf i = i .typeByte ∷ (i .nameBytes ++ (i .firstTrack ∷ i .firstSector ∷ i .sectorCount ∷ i .byteLength ∷ []))
+
+-- whether a row is as document 01 says
+unfoldable pub callHolds : CallRow → Bool
+callHolds (quiet s c n b o) =
+    let r = hostCall smallLayout (imageOf s) lentBlock c in
+    eqb (r .number) n && (equal (r .blockAfter) b && (equal (r .outputAfter) o && equal (r .imageAfter) (imageOf s)))
+callHolds (writes s c n b) = let r = hostCall smallLayout (imageOf s) lentBlock c in eqb (r .number) n && equal (r .blockAfter) b
+callHolds (badBlock s c k) =
+    let r = hostCall smallLayout (imageOf s) (replicate k 0xEE) c in
+    eqb (r .number) 16 && (equal (r .blockAfter) (replicate k 0xEE) && equal (r .imageAfter) (imageOf s))
+callHolds (told s p n f) = let r = tellReply (callTell smallLayout (imageOf s) p) in eqb (r .answer .number) n && equal (fieldsOf (r .information)) f
+
+-- the rows that fail
+abbrev pub brokenCalls : List CallRow → List CallRow
+brokenCalls l = filter (λ e. not (callHolds e)) l
+
+-- a name that is too long, and one that holds $A0
+abbrev pub longName : Bytes
+longName = replicate 17 0x41
+
+abbrev pub paddedName : Bytes
+paddedName = 0x41 ∷ 0xA0 ∷ []
+
+-- every number, in its order: a row that breaks several rules shows which comes first
+unfoldable pub callRows : List CallRow
+callRows =
+    quiet zeroBytes check 8 (place 17 255 255) []
+    ∷ quiet zeroBytes (format [] 0x30 0x31) 9 (report 0 0) []
+    ∷ quiet oneByteShort (format [] 0x30 0x31) 1 (report 0 0) []
+    ∷ writes zeroBytes (format nameD 0x30 0x31) 0 (report 0 0)
+    ∷ quiet freshDisk check 0 (report 0 0) []
+    ∷ quiet oneFile check 0 (report 0 0) []
+    ∷ quiet oneByteShort check 1 (report 0 0) []
+    ∷ quiet oneByteShort (read [] (zeros 4)) 1 (report 0 0) (zeros 4)
+    ∷ quiet lastLink0000 check 2 (place 17 1 0) []
+    ∷ quiet linkOffDisk check 2 (place 17 0 0) []
+    ∷ quiet firstLinkTrack0 check 2 (place 18 1 0) []
+    ∷ quiet directoryLinkToMap check 2 (place 18 1 255) []
+    ∷ quiet directoryLinkTrack17 check 2 (place 18 1 255) []
+    ∷ quiet linkToMap check 3 (place 17 0 0) []
+    ∷ quiet linkToItself check 3 (place 17 1 0) []
+    ∷ quiet chainsMeet check 3 (place 18 1 1) []
+    ∷ quiet directoryLinkTwice check 3 (place 18 1 255) []
+    ∷ quiet delEntry check 4 (place 18 1 0) []
+    ∷ quiet emptyName check 5 (place 18 1 0) []
+    ∷ quiet sharedName check 6 (place 18 1 1) []
+    ∷ quiet countOfThree check 7 (place 18 1 0) []
+    ∷ quiet mapCountWrong check 8 (place 19 255 255) []
+    ∷ quiet mapBitWrong check 8 (place 17 255 255) []
+    ∷ quiet bitPastTheLast check 8 (place 18 255 255) []
+    ∷ quiet delEntry (read longName (zeros 4)) 9 (report 0 0) (zeros 4)
+    ∷ quiet delEntry (scratch paddedName) 9 (report 0 0) []
+    ∷ quiet delEntry (store nameC 4 sent) 10 (report 0 0) []
+    ∷ quiet delEntry (store [] 4 sent) 9 (report 0 0) []
+    ∷ quiet delEntry (store nameC 1 sent) 4 (place 18 1 0) []
+    ∷ quiet version42 (store nameA 1 sent) 11 (report 0 0) []
+    ∷ quiet version42 (scratch nameB) 11 (report 0 0) []
+    ∷ quiet version42 (read nameA (zeros 302)) 0 (0 ∷ 0 ∷ 255 ∷ 44 ∷ 1 ∷ 0 ∷ 0 ∷ 2 ∷ 0 ∷ []) (sent ++ zeros 2)
+    ∷ quiet oneFile (store nameA 1 sent) 12 (report 0 0) []
+    ∷ quiet oneFile (read nameB (zeros 4)) 13 (report 0 0) (zeros 4)
+    ∷ quiet oneFile (scratch nameB) 13 (report 0 0) []
+    ∷ quiet fullDirectory check 0 (report 0 0) []
+    ∷ quiet fullDirectory (store nameA 1 (zeros 2541)) 14 (report 0 0) []
+    ∷ quiet freshDisk (store nameA 1 (zeros 2541)) 15 (report 0 0) []
+    ∷ quiet fullDisk (store nameB 1 []) 15 (report 0 0) []
+    ∷ quiet oneFile (read nameA (zeros 299)) 16 (report 0 0) (zeros 299)
+    ∷ badBlock oneByteShort check 8
+    ∷ badBlock oneFile (scratch nameA) 10
+    ∷ quiet twoFiles (read nameB (replicate 12 7)) 0 (report 10 1) (range 1 10 ++ (7 ∷ 7 ∷ []))
+    ∷ writes freshDisk (store nameA 1 []) 0 (report 0 1)
+    ∷ writes freshDisk (store nameA 1 (zeros 255)) 0 (report 255 2)
+    ∷ writes twoFiles (scratch nameB) 0 (report 10 1)
+    ∷ told twoFiles 1 0 (0x81 ∷ (nameB ++ (replicate 15 0xA0 ++ (19 ∷ 0 ∷ 1 ∷ 10 ∷ []))))
+    ∷ told twoFiles 2 13 (zeros 21)
+    ∷ told delEntry 0 4 (zeros 21)
+    ∷ []
