@@ -1,0 +1,174 @@
+// The block availability map (document 01's map, 18/0) held by value: 35 entries, each a count of free sectors and three bitmap bytes.
+// It is loaded from a map sector, asked and changed mark by mark, counted again, and stored back.
+// Marking changes a bit alone; `recount` then makes a track's count byte right, whatever it was.
+ghost use mathlib.Core.Path.{_≡_};
+ghost use Prim.Native.Nat.{_+_, _≤_, _<_};
+ghost use lib.ListN.{length};
+ghost use Rattle.d64spec.specs.Lists.{byte, splice};
+ghost use Rattle.d64spec.specs.Geometry.{layout35};
+ghost use Rattle.bam.specs.Bam.{mapEntry, mapEntries, storedEntries, entryBit, entryOnes, withBit, markedFree, withMark, recounted};
+
+// Byte `at` of a slice, or 0 past its end.
+fn byte_at(bytes: &[u8], at: usize) -> u8
+    ensures { λ r. ⌜ r ≡ byte (now (bytes .entry)) at ⌝ }
+{
+    if at < bytes.len() { bytes[at] } else { 0 }
+}
+
+// The entry of track i + 1 in a map sector.
+fn load_entry(sector: &[u8], i: usize) -> [u8; 4]
+    requires { ⌜ i < 35 ⌝ }
+    ensures { λ r. ⌜ r ≡ mapEntry layout35 (now (sector .entry)) (i + 1) ⌝ }
+{
+    let a = 4 * (i + 1);
+    if a + 4 <= sector.len() {
+        // one test for all four bytes: a whole map sector is the common case
+        [sector[a], sector[a + 1], sector[a + 2], sector[a + 3]]
+    } else {
+        [
+            byte_at(sector, a),
+            byte_at(sector, a + 1),
+            byte_at(sector, a + 2),
+            byte_at(sector, a + 3),
+        ]
+    }
+}
+
+// The map of a map sector. Bytes past the end of a slice that is too short read as 0.
+pub fn load_map(sector: &[u8]) -> [[u8; 4]; 35]
+    ensures { λ r. ⌜ r ≡ mapEntries (now (sector .entry)) ⌝ }
+{
+    let mut map = [[0u8; 4]; 35];
+    let mut i = 0;
+    while i < 35 {
+        let entry = load_entry(sector, i);
+        map[i] = entry;
+        i += 1;
+    }
+    map
+}
+
+// Puts an entry's four bytes at `at`.
+fn store_entry(entry: [u8; 4], sector: &mut [u8], at: usize)
+    requires { ⌜ at + 4 ≤ length (now sector) ⌝ }
+    ensures { λ r. ⌜ now (sector .exit) ≡ splice (now (sector .entry)) at entry ⌝ }
+{
+    sector[at] = entry[0];
+    sector[at + 1] = entry[1];
+    sector[at + 2] = entry[2];
+    sector[at + 3] = entry[3];
+}
+
+// Puts the map into a map sector, at bytes 4 to 143; no other byte changes. A slice of fewer than 144 bytes is left as it is.
+pub fn store_map(map: [[u8; 4]; 35], sector: &mut [u8])
+    ensures { λ r. ⌜ now (sector .exit) ≡ storedEntries map (now (sector .entry)) ⌝ }
+{
+    if sector.len() < 144 {
+        return;
+    }
+    let mut i = 0;
+    while i < 35 {
+        store_entry(map[i], sector, 4 * (i + 1));
+        i += 1;
+    }
+}
+
+// The bit of an entry for a sector.
+fn bit(entry: [u8; 4], sector: u8) -> u8
+    requires { ⌜ sector < 24 ⌝ }
+    ensures { λ r. ⌜ r ≡ entryBit entry sector ⌝ }
+{
+    let j = 1 + (sector / 8) as usize;
+    (entry[j] >> (sector % 8)) % 2
+}
+
+// Whether a sector is marked free. A track other than 1 to 35 or a sector from 24 on has no mark, and is not free.
+pub fn is_free(map: [[u8; 4]; 35], track: u8, sector: u8) -> bool
+    ensures { λ r. ⌜ r ≡ markedFree map track sector ⌝ }
+{
+    if track < 1 {
+        return false;
+    }
+    if track > 35 {
+        return false;
+    }
+    if sector >= 24 {
+        return false;
+    }
+    let i = (track - 1) as usize;
+    bit(map[i], sector) == 1
+}
+
+// The number of ones among the first `sectors` bits of an entry, which has 24 bits.
+pub fn ones(entry: [u8; 4], sectors: u8) -> u8
+    ensures { λ r. ⌜ r ≡ entryOnes entry sectors ⌝ }
+{
+    let mut sum: u8 = 0;
+    let mut s: u8 = 0;
+    while s < sectors && s < 24 {
+        sum += bit(entry, s);
+        s += 1;
+    }
+    sum
+}
+
+// A byte with bit k made `value`.
+fn with_bit(byte: u8, k: u8, value: u8) -> u8
+    requires { ⌜ (k < 8) × (value ≤ 1) ⌝ }
+    ensures { λ r. ⌜ r ≡ withBit byte k value ⌝ }
+{
+    byte - ((byte >> k) % 2 << k) + (value << k)
+}
+
+// The map with the bit of a sector made `value`.
+fn with_mark(map: [[u8; 4]; 35], track: u8, sector: u8, value: u8) -> [[u8; 4]; 35]
+    requires { ⌜ value ≤ 1 ⌝ }
+    ensures { λ r. ⌜ r ≡ withMark map track sector value ⌝ }
+{
+    if track < 1 {
+        return map;
+    }
+    if track > 35 {
+        return map;
+    }
+    if sector >= 24 {
+        return map;
+    }
+    let i = (track - 1) as usize;
+    let j = 1 + (sector / 8) as usize;
+    let b = with_bit(map[i][j], sector % 8, value);
+    let mut marked = map;
+    marked[i][j] = b;
+    marked
+}
+
+// The map with a sector marked free. Its track's count byte stays; a sector that has no mark changes nothing.
+pub fn set_free(map: [[u8; 4]; 35], track: u8, sector: u8) -> [[u8; 4]; 35]
+    ensures { λ r. ⌜ r ≡ withMark map track sector 1 ⌝ }
+{
+    with_mark(map, track, sector, 1)
+}
+
+// The map with a sector marked used. Its track's count byte stays; a sector that has no mark changes nothing.
+pub fn set_used(map: [[u8; 4]; 35], track: u8, sector: u8) -> [[u8; 4]; 35]
+    ensures { λ r. ⌜ r ≡ withMark map track sector 0 ⌝ }
+{
+    with_mark(map, track, sector, 0)
+}
+
+// The map with a track's count byte set to the ones among its first `sectors` bits. A track other than 1 to 35 changes nothing.
+pub fn recount(map: [[u8; 4]; 35], track: u8, sectors: u8) -> [[u8; 4]; 35]
+    ensures { λ r. ⌜ r ≡ recounted map track sectors ⌝ }
+{
+    if track < 1 {
+        return map;
+    }
+    if track > 35 {
+        return map;
+    }
+    let i = (track - 1) as usize;
+    let n = ones(map[i], sectors);
+    let mut counted = map;
+    counted[i][0] = n;
+    counted
+}
