@@ -141,6 +141,10 @@ pub bit-counted : (e : Bytes) (n s : ℕ) → entryBit (set e 0 n) s ≡ entryBi
 unfolding entryBit
 bit-counted e n s = ap (λ (b : ℕ). bitOf b (s % 8)) (getD-set-other e 0 (1 + s / 8) n 0 (λ z. omega arith))
 
+pub ones-counted : (e : Bytes) (v n : ℕ) → entryOnes (set e 0 v) n ≡ entryOnes e n
+unfolding entryOnes
+ones-counted e v n = sum-map-equal (entryBit (set e 0 v)) (entryBit e) 0 (min n 24) (λ i l u. bit-counted e v i)
+
 -- ---- an entry is known by its count and its 24 bits
 
 -- a byte is put together of its bits

@@ -1,8 +1,9 @@
--- "The map follows" (01, Store and Scratch): a map by value whose bits are as the owners ask and whose counts are its ones, stored, is the
--- map sector of document 01's rewritten map. In order: the layout's small tracks; such a map is known entry by entry; stored, it is the
--- rewritten sector. Assumes nothing.
+-- "The map follows" (01, Store and Scratch): a map by value whose marks are as the owners ask and whose counts are its ones, stored, is the
+-- map sector of document 01's rewritten map. In order: the layout's tracks are small; marks changed one by one; tracks counted one by one;
+-- such a map is known entry by entry; stored, it is the rewritten sector. Assumes nothing.
 use Prim.Native.Nat.{ℕ, zero, suc, _+_, _-_, _*_, _≤_, _<_}
 use native.Mathlib.Omega.{arith}
+use native.Mathlib.Decide.{ℕ-discrete}
 use mathlib.Core.Path.{_≡_, refl, sym, ap, _∙_}
 use mathlib.Core.Bool.{Bool}
 use mathlib.Core.List.{[], map}
@@ -14,12 +15,12 @@ use Rattle.d64spec.specs.Lists.{Bytes, byte, range, join, splice}
 use Rattle.d64spec.specs.Answers.{Address}
 use Rattle.d64spec.specs.Geometry.{layout35, tracks, sectorsOn}
 use Rattle.d64spec.specs.Map.{expectedBit, expectedEntry, withEntries}
-use Rattle.bam.specs.Bam.{Entries, storedEntries, entryBit, entryOnes, entryOf}
+use Rattle.bam.specs.Bam.{Entries, storedEntries, entryBit, entryOnes, entryOf, withMark, recounted}
 use Rattle.bam.proofs.BelowLaws.{below, below-at}
 use Rattle.bam.proofs.ListLaws.{length-map-range, getD-map-range, splice-nil, splice-ahead}
 use Rattle.bam.proofs.ShapeLaws.{MapShape}
 use Rattle.bam.proofs.EntryLaws.{entry-expected}
-use Rattle.bam.proofs.MarkLaws.{Track, entry-shape}
+use Rattle.bam.proofs.MarkLaws.{Track, Mark, entry-shape, with-mark-shaped, bit-with-mark-same, bit-with-mark-other, count-recounted-ones, entry-recounted-other, bit-recounted, recounted-shaped}
 
 -- every track has at most 24 sectors
 small : T (below 36 (λ t. leb (sectorsOn layout35 t) 24))
@@ -30,26 +31,62 @@ pub sectors-le : {t : ℕ} → Track t → sectorsOn layout35 t ≤ 24
 sectors-le {t} track =
     leb→le (sectorsOn layout35 t) 24 (below-at 36 (λ t. leb (sectorsOn layout35 t) 24) small t (let high : t ≤ 35 = track .high in omega arith))
 
-module _ (free : Address → Bool) where
-  -- what a caller keeps: each bit as expected, and each count the ones among the track's own sectors
-  pub record Follows (es : Entries) : Type 0 where
-    pub shape : MapShape es
-    pub bits : (t s : ℕ) → Track t → s < 24 → entryBit (entryOf es t) s ≡ expectedBit layout35 free t s
-    pub counts : (t : ℕ) → Track t → byte (entryOf es t) 0 ≡ entryOnes (entryOf es t) (sectorsOn layout35 t)
+-- what a caller keeps while it changes marks: each bit is as expected
+pub record Marks (free : Address → Bool) (es : Entries) : Type 0 where
+  pub shape : MapShape es
+  pub bits : (t s : ℕ) → Mark t s → entryBit (entryOf es t) s ≡ expectedBit layout35 free t s
 
+-- and while it counts: each count of tracks 1 to n is the ones among the track's own sectors
+abbrev pub Counts : Entries → ℕ → Type 0
+Counts es n = (t : ℕ) → Track t → t ≤ n → byte (entryOf es t) 0 ≡ entryOnes (entryOf es t) (sectorsOn layout35 t)
+
+-- one mark changed, where what is free changes at that sector alone
+pub marks-with-mark : {free free′ : Address → Bool} {es : Entries} → Marks free es → {t s v : ℕ} → Mark t s → v ≤ 1
+    → v ≡ expectedBit layout35 free′ t s
+    → ((u r : ℕ) → (u ≡ t → r ≡ s → ⊥) → expectedBit layout35 free u r ≡ expectedBit layout35 free′ u r)
+    → Marks free′ (withMark es t s v)
+marks-with-mark {free} {free′} {es} m {t} {s} {v} mark hv new other = record {
+  shape = with-mark-shaped (m .shape) t s hv;
+  bits = λ u r k. elim (ℕ-discrete u t) [
+    | yes e ↦ elim (ℕ-discrete r s) [
+      | yes q ↦ rw (e, q) (bit-with-mark-same (m .shape) mark hv ∙ new)
+      | no q ↦ bit-with-mark-other (m .shape) mark hv u r (k .track .low) (λ a. q) ∙ m .bits u r k ∙ other u r (λ a. q)
+    ]
+    | no e ↦ bit-with-mark-other (m .shape) mark hv u r (k .track .low) (λ a b. e a) ∙ m .bits u r k ∙ other u r (λ a b. e a)
+  ];
+}
+
+module _ {free : Address → Bool} {es : Entries} (m : Marks free es) {t : ℕ} (track : Track t) (n : ℕ) where
+  pub marks-recounted : Marks free (recounted es t n)
+  marks-recounted = record {
+    shape = recounted-shaped (m .shape) track n;
+    bits = λ u s k. bit-recounted (m .shape) track n u s (k .track .low) ∙ m .bits u s k;
+  }
+
+  pub counts-recounted : n ≡ sectorsOn layout35 t → {k : ℕ} → Counts es k → t ≡ k + 1 → Counts (recounted es t n) t
+  counts-recounted e counts next u q h = elim (ℕ-discrete u t) [
+    | yes z ↦ rw (z, ← e) (count-recounted-ones (m .shape) track n)
+    | no z ↦ rw (entry-recounted-other (m .shape) track n u (q .low) z) (counts u q (omega arith))
+  ]
+
+pub counts-none : (es : Entries) → Counts es 0
+counts-none es t track h = let low : 1 ≤ t = track .low in absurd (omega arith)
+
+module _ (free : Address → Bool) where
   -- the map by value of which every entry is as expected
   abbrev expected : Entries
   expected = map (expectedEntry layout35 free) (range 1 35)
 
-  follows-expected : {es : Entries} → Follows es → es ≡ expected
+  entries-expected : {es : Entries} → Marks free es → Counts es 35 → es ≡ expected
   unfolding entryOf
-  follows-expected {es} f =
-      ext-getD [] es expected (f .shape .size ∙ sym (length-map-range (expectedEntry layout35 free) 1 35)) (λ i h.
+  entries-expected {es} m counts =
+      ext-getD [] es expected (m .shape .size ∙ sym (length-map-range (expectedEntry layout35 free) 1 35)) (λ i h.
       let z : 1 + i - 1 ≡ i = omega arith in
-      let track : Track (1 + i) = record { low = omega arith; high = omega (arith, f .shape .size) } in
+      let high : 1 + i ≤ 35 = omega (arith, m .shape .size) in
+      let track : Track (1 + i) = record { low = omega arith; high = high } in
       ap (λ (k : ℕ). getD es k []) (sym z)
-      ∙ entry-expected layout35 free (1 + i) (entry-shape (f .shape) track) (λ s l. f .bits (1 + i) s track l) (f .counts (1 + i) track) (sectors-le track)
-      ∙ sym (getD-map-range (expectedEntry layout35 free) 1 35 i [] (omega (arith, f .shape .size))))
+      ∙ entry-expected layout35 free (1 + i) (entry-shape (m .shape) track) (λ s l. m .bits (1 + i) s (record { track = track; sector = l })) (counts (1 + i) track high) (sectors-le track)
+      ∙ sym (getD-map-range (expectedEntry layout35 free) 1 35 i [] (omega arith)))
 
   length-expected : (t : ℕ) → length (expectedEntry layout35 free t) ≡ 4
   unfolding expectedEntry
@@ -74,7 +111,7 @@ module _ (free : Address → Bool) where
       ∙ ap (λ (l : Bytes). splice l (4 * a) e) (rewritten m (suc a) n (omega arith))
 
   -- THE MAP FOLLOWS
-  pub stored-follows : {es : Entries} → Follows es → (m : Bytes) → 144 ≤ length m → storedEntries es m ≡ withEntries layout35 free m (range 1 (tracks layout35))
+  pub stored-follows : {es : Entries} → Marks free es → Counts es 35 → (m : Bytes) → 144 ≤ length m → storedEntries es m ≡ withEntries layout35 free m (range 1 (tracks layout35))
   unfolding storedEntries tracks layout35
-  stored-follows f m h =
-      ap (λ (x : Entries). storedEntries x m) (follows-expected f) ∙ (simp (le-leb 144 (length m) h) (rewritten m 1 35 (omega arith)))
+  stored-follows marks counts m h =
+      ap (λ (x : Entries). storedEntries x m) (entries-expected marks counts) ∙ (simp (le-leb 144 (length m) h) (rewritten m 1 35 (omega arith)))

@@ -5,16 +5,16 @@ use Prim.Native.Nat.{ℕ, _+_, _-_, _/_, _%_, _≤_, _<_}
 use native.Mathlib.Omega.{arith}
 use native.Mathlib.Decide.{ℕ-discrete}
 use mathlib.Core.Path.{_≡_, refl, sym, ap, _∙_}
-use mathlib.Core.Bool.{Bool, true, false, _&&_, and-false, false≢true}
+use mathlib.Core.Bool.{Bool, true, false, _&&_, false≢true}
 use mathlib.Core.List.{[]}
 use lib.ListN.{length, getD, set, length-set}
 use lib.Seq.{getD-set-same, getD-set-other}
 use lib.Dec.{eqb, leb, ltb}
-use borrow.Author.Tests.{le-leb, lt-leb, lt-ltb, le-ltb, leb-true, ltb-true}
+use borrow.Author.Tests.{le-leb, lt-ltb, leb-true, ltb-true}
 use Rattle.d64spec.specs.Lists.{Bytes, byte}
 use Rattle.bam.specs.Bam.{Entries, entryBit, entryOnes, withBit, entryOf, hasEntry, hasMark, withByte, markedFree, withMark, recounted}
 use Rattle.bam.proofs.ShapeLaws.{EntryShape, MapShape, set-shaped}
-use Rattle.bam.proofs.EntryLaws.{ones-le, bit-marked-same, bit-marked-other, count-marked, marked-shaped, bit-counted}
+use Rattle.bam.proofs.EntryLaws.{ones-le, bit-marked-same, bit-marked-other, count-marked, marked-shaped, bit-counted, ones-counted}
 
 -- ---- which tracks and sectors have a mark
 
@@ -34,32 +34,17 @@ pub has-mark : {t s : ℕ} → Mark t s → hasMark t s ≡ true
 unfolding hasMark
 has-mark {t} {s} h = simp (has-entry (h .track), lt-ltb s 24 (h .sector))
 
-pub no-entry-low : (t : ℕ) → t < 1 → hasEntry t ≡ false
-unfolding hasEntry
-no-entry-low t h = simp (lt-leb 1 t h)
-
-pub no-entry-high : (t : ℕ) → 35 < t → hasEntry t ≡ false
-unfolding hasEntry
-no-entry-high t h = rw (lt-leb t 35 h) (and-false (leb 1 t))
-
-pub no-mark-track : (t s : ℕ) → hasEntry t ≡ false → hasMark t s ≡ false
-unfolding hasMark
-no-mark-track t s e = simp e
-
-pub no-mark-sector : (t s : ℕ) → 24 ≤ s → hasMark t s ≡ false
-unfolding hasMark
-no-mark-sector t s h = rw (le-ltb s 24 h) (and-false (hasEntry t))
-
 both-true : (a b : Bool) → (a && b) ≡ true → (a ≡ true) × (b ≡ true)
 both-true true b e = (refl, e)
 both-true false b e = absurd (false≢true e)
 
+pub track-of-has-entry : {t : ℕ} → hasEntry t ≡ true → Track t
+unfolding hasEntry
+track-of-has-entry {t} e = let h = both-true (leb 1 t) (leb t 35) e in record { low = leb-true 1 t (h .0); high = leb-true t 35 (h .1) }
+
 pub mark-of-has-mark : {t s : ℕ} → hasMark t s ≡ true → Mark t s
-unfolding hasMark hasEntry
-mark-of-has-mark {t} {s} e =
-    let h = both-true (leb 1 t && leb t 35) (ltb s 24) e in
-    let track = both-true (leb 1 t) (leb t 35) (h .0) in
-    record { track = record { low = leb-true 1 t (track .0); high = leb-true t 35 (track .1) }; sector = ltb-true s 24 (h .1) }
+unfolding hasMark
+mark-of-has-mark {t} {s} e = let h = both-true (hasEntry t) (ltb s 24) e in record { track = track-of-has-entry (h .0); sector = ltb-true s 24 (h .1) }
 
 -- ---- one byte of one entry changed
 
@@ -193,6 +178,13 @@ module _ {es : Entries} (shape : MapShape es) {t : ℕ} (track : Track t) (n : �
   count-recounted =
       ap (λ (e : Bytes). byte e 0) counted-entry
       ∙ getD-set-same (entryOf es t) 0 (entryOnes (entryOf es t) n) 0 (omega (arith, entry-shape shape track .four))
+
+  -- and so the count is right
+  pub count-recounted-ones : byte (entryOf (recounted es t n) t) 0 ≡ entryOnes (entryOf (recounted es t n) t) n
+  count-recounted-ones =
+      count-recounted
+      ∙ sym (ones-counted (entryOf es t) (entryOnes (entryOf es t) n) n)
+      ∙ ap (λ (e : Bytes). entryOnes e n) (sym counted-entry)
 
   pub entry-recounted-other : (u : ℕ) → 1 ≤ u → (u ≡ t → ⊥) → entryOf (recounted es t n) u ≡ entryOf es u
   entry-recounted-other u h other = ap (λ (x : Entries). entryOf x u) counted ∙ entry-with-byte-other shape track 0 (entryOnes (entryOf es t) n) u h other

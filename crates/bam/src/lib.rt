@@ -6,7 +6,7 @@ ghost use Prim.Native.Nat.{_+_, _≤_, _<_};
 ghost use lib.ListN.{length};
 ghost use Rattle.d64spec.specs.Lists.{byte, splice};
 ghost use Rattle.d64spec.specs.Geometry.{layout35};
-ghost use Rattle.bam.specs.Bam.{mapEntry, mapEntries, storedEntries, entryBit, entryOnes, withBit, markedFree, withMark, recounted};
+ghost use Rattle.bam.specs.Bam.{mapEntry, mapEntries, storedEntries, entryBit, entryOnes, withBit, hasEntry, hasMark, markedFree, withMark, recounted};
 
 // Byte `at` of a slice, or 0 past its end.
 fn byte_at(bytes: &[u8], at: usize) -> u8
@@ -82,21 +82,30 @@ fn bit(entry: [u8; 4], sector: u8) -> u8
     (entry[j] >> (sector % 8)) % 2
 }
 
+// Whether the map has an entry for a track.
+fn has_entry(track: u8) -> bool
+    ensures { λ r. ⌜ r ≡ hasEntry track ⌝ }
+{
+    1 <= track && track <= 35
+}
+
+// Whether the map has a mark for a sector of a track.
+fn has_mark(track: u8, sector: u8) -> bool
+    ensures { λ r. ⌜ r ≡ hasMark track sector ⌝ }
+{
+    has_entry(track) && sector < 24
+}
+
 // Whether a sector is marked free. A track other than 1 to 35 or a sector from 24 on has no mark, and is not free.
 pub fn is_free(map: [[u8; 4]; 35], track: u8, sector: u8) -> bool
     ensures { λ r. ⌜ r ≡ markedFree map track sector ⌝ }
 {
-    if track < 1 {
-        return false;
+    if has_mark(track, sector) {
+        let i = (track - 1) as usize;
+        bit(map[i], sector) == 1
+    } else {
+        false
     }
-    if track > 35 {
-        return false;
-    }
-    if sector >= 24 {
-        return false;
-    }
-    let i = (track - 1) as usize;
-    bit(map[i], sector) == 1
 }
 
 // The number of ones among the first `sectors` bits of an entry, which has 24 bits.
@@ -125,21 +134,16 @@ fn with_mark(map: [[u8; 4]; 35], track: u8, sector: u8, value: u8) -> [[u8; 4]; 
     requires { ⌜ value ≤ 1 ⌝ }
     ensures { λ r. ⌜ r ≡ withMark map track sector value ⌝ }
 {
-    if track < 1 {
-        return map;
+    if has_mark(track, sector) {
+        let i = (track - 1) as usize;
+        let j = 1 + (sector / 8) as usize;
+        let changed = with_bit(map[i][j], sector % 8, value);
+        let mut marked = map;
+        marked[i][j] = changed;
+        marked
+    } else {
+        map
     }
-    if track > 35 {
-        return map;
-    }
-    if sector >= 24 {
-        return map;
-    }
-    let i = (track - 1) as usize;
-    let j = 1 + (sector / 8) as usize;
-    let b = with_bit(map[i][j], sector % 8, value);
-    let mut marked = map;
-    marked[i][j] = b;
-    marked
 }
 
 // The map with a sector marked free. Its track's count byte stays; a sector that has no mark changes nothing.
@@ -160,15 +164,13 @@ pub fn set_used(map: [[u8; 4]; 35], track: u8, sector: u8) -> [[u8; 4]; 35]
 pub fn recount(map: [[u8; 4]; 35], track: u8, sectors: u8) -> [[u8; 4]; 35]
     ensures { λ r. ⌜ r ≡ recounted map track sectors ⌝ }
 {
-    if track < 1 {
-        return map;
+    if has_entry(track) {
+        let i = (track - 1) as usize;
+        let count = ones(map[i], sectors);
+        let mut counted = map;
+        counted[i][0] = count;
+        counted
+    } else {
+        map
     }
-    if track > 35 {
-        return map;
-    }
-    let i = (track - 1) as usize;
-    let n = ones(map[i], sectors);
-    let mut counted = map;
-    counted[i][0] = n;
-    counted
 }

@@ -1,19 +1,21 @@
--- `bam::is_free`: no mark on each of the three ways out, and otherwise the bit.
+-- `bam::is_free`: the bit, where there is one.
 -- Assumes nothing.
+use native.Mathlib.Omega.{arith}
+use mathlib.Core.Path.{sym, _∙_}
 use borrow.Author.Needs.{needs}
 use Rattle.bam.specs.Bam.{entryOf}
-use Rattle.bam.proofs.MarkLaws.{marked-free-none, marked-free-bit, no-mark-track, no-mark-sector, no-entry-low, no-entry-high}
+use Rattle.bam.proofs.MarkLaws.{Mark, mark-of-has-mark, marked-free-none, marked-free-bit}
 use Rattle.bam.proofs.is_free.Statement.{statement}
 use Rattle.bam.proofs.is_free.Tie as tie
 
-returns : tie.Need-returns
-returns c = marked-free-none _ _ _ (no-mark-track _ _ (no-entry-low _ (c .if1 .taken)))
+mark : (c : tie.Then1) → Mark (c .before .before .args .track) (c .before .before .args .sector)
+mark c = mark-of-has-mark (sym (c .before .has-mark .ensures) ∙ c .if1 .taken)
 
-returns-2 : tie.Need-returns-2
-returns-2 c = marked-free-none _ _ _ (no-mark-track _ _ (no-entry-high _ (c .if2 .taken)))
+has-mark-requires : tie.Need-has-mark-requires
+has-mark-requires c κs = search needs
 
-returns-3 : tie.Need-returns-3
-returns-3 c = marked-free-none _ _ _ (no-mark-sector _ _ (c .if3 .taken))
+sub-i : tie.Need-sub-i
+sub-i c = let m = mark c in omega arith
 
 cast-i : tie.Need-cast-i
 cast-i c = search needs
@@ -22,16 +24,27 @@ mul-bit : tie.Need-mul-bit
 mul-bit c = search needs
 
 array-copy-out-bit : tie.Need-array-copy-out-bit
-array-copy-out-bit c = search needs
+array-copy-out-bit c = let m = mark c in omega arith
 
 bit-requires : tie.Need-bit-requires
-bit-requires c κs = search needs
+bit-requires c κs = let m = mark (c .before) in omega arith
 
-returns-4 : tie.Need-returns-4
+returns : tie.Need-returns
 unfolding entryOf
-returns-4 c = marked-free-bit _ (search needs) _ (c .bit .ensures)
+returns c = marked-free-bit _ (mark (c .before .before)) _ (c .bit .ensures)
+
+returns-2 : tie.Need-returns-2
+returns-2 c = marked-free-none _ _ _ (sym (c .before .has-mark .ensures) ∙ c .if1 .left)
 
 pub is-free-spec : {M : Type 1} → statement M
 is-free-spec =
     tie.close
-    (tie.spec returns returns-2 returns-3 cast-i mul-bit array-copy-out-bit bit-requires returns-4)
+    (tie.spec
+    has-mark-requires
+    sub-i
+    cast-i
+    mul-bit
+    array-copy-out-bit
+    bit-requires
+    returns
+    returns-2)

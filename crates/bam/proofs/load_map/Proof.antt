@@ -35,10 +35,10 @@ loop-less c = search needs
 loop-again : tie.Need-loop-again Inv-loop μ-loop
 loop-again c =
     let l = c .before .before .loop in
-    loading-moved (l .inv) (c .before .loop-test .taken) (c .load-entry .result) (c .load-entry .ensures)
+    loading-moved (l .inv) (omega arith) (c .load-entry .result) (c .load-entry .ensures)
 
 returns : tie.Need-returns Inv-loop μ-loop
-returns c = loading-finished (c .before .loop .inv) (c .loop-test .left)
+returns c = loading-finished (c .before .loop .inv) (omega arith)
 
 pub load-map-spec : {M : Type 1} → statement M
 load-map-spec =

@@ -16,13 +16,13 @@ abbrev μ-loop : tie.MeasureT-loop
 
 -- the second half of the loop's test
 inside : (c : tie.Then1 Inv-loop μ-loop) → c .before .before .loop .s < 24
-inside c = ltb-true _ _ (c .if1 .taken)
+inside c = omega (arith, ltb-true)
 
 loop-holds : tie.Need-loop-holds Inv-loop μ-loop
 loop-holds c = counting-start _ _
 
 bit-requires : tie.Need-bit-requires Inv-loop μ-loop
-bit-requires c κs = search needs
+bit-requires c κs = omega (arith, inside c)
 
 add-sum : tie.Need-add-sum Inv-loop μ-loop
 add-sum c = omega (arith, counting-fits (c .before .before .before .loop .inv) (c .bit .ensures))
@@ -35,13 +35,13 @@ loop-less c = omega (arith, inside (c .before))
 
 loop-again : tie.Need-loop-again Inv-loop μ-loop
 loop-again c =
-    counting-moved (c .before .before .before .loop .inv) (c .before .before .loop-test .taken) (inside (c .before)) (c .bit .ensures)
+    counting-moved (c .before .before .before .loop .inv) (omega (arith, c .before .before .loop-test .taken)) (inside (c .before)) (c .bit .ensures)
 
 returns : tie.Need-returns Inv-loop μ-loop
-returns c = counting-clipped (c .before .before .loop .inv) (ltb-false _ _ (c .if1 .left))
+returns c = counting-clipped (c .before .before .loop .inv) (omega (arith, ltb-false))
 
 returns-2 : tie.Need-returns-2 Inv-loop μ-loop
-returns-2 c = counting-all (c .before .loop .inv) (c .loop-test .left)
+returns-2 c = counting-all (c .before .loop .inv) (omega arith)
 
 pub ones-spec : {M : Type 1} → statement M
 ones-spec =

@@ -1,17 +1,21 @@
--- `bam::recount`: the map as it is for a track that it does not have, and otherwise with the count byte of one entry changed.
+-- `bam::recount`: the count byte of one entry is changed where the track has one, and else nothing.
 -- Assumes nothing.
-use mathlib.Core.Path.{sym}
+use native.Mathlib.Omega.{arith}
+use mathlib.Core.Path.{sym, _∙_}
 use borrow.Author.Needs.{needs}
-use Rattle.bam.specs.Bam.{entryOf, withByte}
-use Rattle.bam.proofs.MarkLaws.{recounted-none, recounted-byte, no-entry-low, no-entry-high}
+use Rattle.bam.specs.Bam.{withByte, entryOf}
+use Rattle.bam.proofs.MarkLaws.{Track, track-of-has-entry, recounted-none, recounted-byte}
 use Rattle.bam.proofs.recount.Statement.{statement}
 use Rattle.bam.proofs.recount.Tie as tie
 
-returns : tie.Need-returns
-returns c = sym (recounted-none _ _ _ (no-entry-low _ (c .if1 .taken)))
+track : (c : tie.Then1) → Track (c .before .before .args .track)
+track c = track-of-has-entry (sym (c .before .has-entry .ensures) ∙ c .if1 .taken)
 
-returns-2 : tie.Need-returns-2
-returns-2 c = sym (recounted-none _ _ _ (no-entry-high _ (c .if2 .taken)))
+has-entry-requires : tie.Need-has-entry-requires
+has-entry-requires c κs = search needs
+
+sub-i : tie.Need-sub-i
+sub-i c = let t = track c in omega arith
 
 cast-i : tie.Need-cast-i
 cast-i c = search needs
@@ -20,7 +24,7 @@ mul-ones : tie.Need-mul-ones
 mul-ones c = search needs
 
 array-copy-out-ones : tie.Need-array-copy-out-ones
-array-copy-out-ones c = search needs
+array-copy-out-ones c = let t = track c in omega arith
 
 ones-requires : tie.Need-ones-requires
 ones-requires c κs = search needs
@@ -29,21 +33,24 @@ mul-counted : tie.Need-mul-counted
 mul-counted c = search needs
 
 index-1-counted : tie.Need-index-1-counted
-index-1-counted c = search needs
+index-1-counted c = let t = track (c .before .before) in omega arith
 
 index-2-counted : tie.Need-index-2-counted
 index-2-counted c = search needs
 
-returns-3 : tie.Need-returns-3
-unfolding entryOf withByte
-returns-3 c = sym (recounted-byte _ (search needs) _ _ (c .ones .ensures))
+returns : tie.Need-returns
+unfolding withByte entryOf
+returns c = sym (recounted-byte _ (track (c .before .before)) _ _ (c .ones .ensures))
+
+returns-2 : tie.Need-returns-2
+returns-2 c = sym (recounted-none _ _ _ (sym (c .before .has-entry .ensures) ∙ c .if1 .left))
 
 pub recount-spec : {M : Type 1} → statement M
 recount-spec =
     tie.close
     (tie.spec
-    returns
-    returns-2
+    has-entry-requires
+    sub-i
     cast-i
     mul-ones
     array-copy-out-ones
@@ -51,4 +58,5 @@ recount-spec =
     mul-counted
     index-1-counted
     index-2-counted
-    returns-3)
+    returns
+    returns-2)

@@ -46,7 +46,7 @@ same-length : tie.Need-same-length
 same-length c = search needs
 
 returns : tie.Need-returns
-returns c = stored-four (now (c .args .sector)) (c .args .at) (c .args .t1) (entry-shaped (c .args .t1) _ (c .good .0) .four) (c .pre)
+returns c = stored-four (now (c .args .sector)) (c .args .at) (c .args .t1) (entry-shaped (c .args .t1) _ (c .good .0) .four) (omega arith)
 
 pub store-entry-spec : {M : Type 1} → statement M
 store-entry-spec =

@@ -20,7 +20,7 @@ shape : (c : tie.Start Inv-loop μ-loop) → MapShape (c .args .t1)
 shape c = map-shaped _ _ (c .good .0)
 
 returns : tie.Need-returns Inv-loop μ-loop
-returns c = sym (stored-short _ _ (c .if1 .taken))
+returns c = sym (stored-short _ _ (omega arith))
 
 loop-holds : tie.Need-loop-holds Inv-loop μ-loop
 loop-holds c = storing-start _ _
@@ -50,14 +50,14 @@ loop-again : tie.Need-loop-again Inv-loop μ-loop
 loop-again c =
     let t = c .before .before .before .before .before in
     let s = t .before .before .before .before in
-    storing-moved (shape s) (t .before .before .if1 .left) (t .before .loop .inv) _ (t .loop-test .taken) (c .before .before .store-entry .ensures)
+    storing-moved (shape s) (omega (arith, t .before .before .if1 .left)) (t .before .loop .inv) _ (omega (arith, t .loop-test .taken)) (c .before .before .store-entry .ensures)
 
 same-length : tie.Need-same-length Inv-loop μ-loop
 same-length c = c .before .loop .inv .size
 
 returns-2 : tie.Need-returns-2 Inv-loop μ-loop
 returns-2 c =
-    storing-finished (shape (c .before .before .before .before)) (c .before .before .if1 .left) (c .before .loop .inv) (c .loop-test .left)
+    storing-finished (shape (c .before .before .before .before)) (omega (arith, c .before .before .if1 .left)) (c .before .loop .inv) (omega arith)
 
 pub store-map-spec : {M : Type 1} → statement M
 store-map-spec =

@@ -1,20 +1,21 @@
--- `bam::with_mark`: the map as it is on each of the three ways out, and otherwise with one byte of one entry changed.
+-- `bam::with_mark`: one byte of one entry is changed where there is a mark, and else nothing.
 -- Assumes nothing.
-use mathlib.Core.Path.{sym}
+use native.Mathlib.Omega.{arith}
+use mathlib.Core.Path.{sym, _∙_}
 use borrow.Author.Needs.{needs}
 use Rattle.bam.specs.Bam.{withByte, entryOf}
-use Rattle.bam.proofs.MarkLaws.{with-mark-none, with-mark-byte, no-mark-track, no-mark-sector, no-entry-low, no-entry-high}
+use Rattle.bam.proofs.MarkLaws.{Mark, mark-of-has-mark, with-mark-none, with-mark-byte}
 use Rattle.bam.proofs.with_mark.Statement.{statement}
 use Rattle.bam.proofs.with_mark.Tie as tie
 
-returns : tie.Need-returns
-returns c = sym (with-mark-none _ _ _ _ (no-mark-track _ _ (no-entry-low _ (c .if1 .taken))))
+mark : (c : tie.Then1) → Mark (c .before .before .args .track) (c .before .before .args .sector)
+mark c = mark-of-has-mark (sym (c .before .has-mark .ensures) ∙ c .if1 .taken)
 
-returns-2 : tie.Need-returns-2
-returns-2 c = sym (with-mark-none _ _ _ _ (no-mark-track _ _ (no-entry-high _ (c .if2 .taken))))
+has-mark-requires : tie.Need-has-mark-requires
+has-mark-requires c κs = search needs
 
-returns-3 : tie.Need-returns-3
-returns-3 c = sym (with-mark-none _ _ _ _ (no-mark-sector _ _ (c .if3 .taken)))
+sub-i : tie.Need-sub-i
+sub-i c = let m = mark c in omega arith
 
 cast-i : tie.Need-cast-i
 cast-i c = search needs
@@ -29,10 +30,10 @@ mul-with-bit : tie.Need-mul-with-bit
 mul-with-bit c = search needs
 
 index-1-with-bit : tie.Need-index-1-with-bit
-index-1-with-bit c = search needs
+index-1-with-bit c = let m = mark c in omega arith
 
 index-2-with-bit : tie.Need-index-2-with-bit
-index-2-with-bit c = search needs
+index-2-with-bit c = let m = mark c in omega arith
 
 with-bit-requires : tie.Need-with-bit-requires
 with-bit-requires c κs = search needs
@@ -41,22 +42,24 @@ mul-marked : tie.Need-mul-marked
 mul-marked c = search needs
 
 index-1-marked : tie.Need-index-1-marked
-index-1-marked c = search needs
+index-1-marked c = let m = mark (c .before .before) in omega arith
 
 index-2-marked : tie.Need-index-2-marked
-index-2-marked c = search needs
+index-2-marked c = let m = mark (c .before .before) in omega arith
 
-returns-4 : tie.Need-returns-4
+returns : tie.Need-returns
 unfolding withByte entryOf
-returns-4 c = sym (with-mark-byte _ (search needs) _ _ (c .with-bit .ensures))
+returns c = sym (with-mark-byte _ (mark (c .before .before)) _ _ (c .with-bit .ensures))
+
+returns-2 : tie.Need-returns-2
+returns-2 c = sym (with-mark-none _ _ _ _ (sym (c .before .has-mark .ensures) ∙ c .if1 .left))
 
 pub with-mark-spec : {M : Type 1} → statement M
 with-mark-spec =
     tie.close
     (tie.spec
-    returns
-    returns-2
-    returns-3
+    has-mark-requires
+    sub-i
     cast-i
     cast-j
     add-j
@@ -67,4 +70,5 @@ with-mark-spec =
     mul-marked
     index-1-marked
     index-2-marked
-    returns-4)
+    returns
+    returns-2)
