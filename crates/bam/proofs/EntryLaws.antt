@@ -1,13 +1,15 @@
--- Laws of one entry. In order: the entry of a map sector says what document 01's definitions say; its ones, bit by bit; one bit made v;
+-- Laws of one entry. In order: the entry of a map sector says what document 01's definitions say; bits past its four bytes; its ones, bit by bit; one bit made v;
 -- the count byte set; an entry is known by its count and its 24 bits.
 -- A track's laws are stated once, over its number of sectors. Assumes nothing.
-use Prim.Native.Nat.{ℕ, zero, suc, _+_, _*_, _/_, _%_, _^_, _≤_, _<_, min}
+use Prim.Native.Nat.{ℕ, zero, suc, _+_, _*_, _/_, _%_, _^_, _≤_, _<_}
 use native.Mathlib.Omega.{arith}
+use native.Mathlib.Nat.{zero-div}
+use native.Mathlib.Numerals.{add-one}
 use native.Mathlib.Decide.{ℕ-discrete}
 use mathlib.Core.Path.{_≡_, refl, sym, ap, ap₂, _∙_}
 use mathlib.Core.Bool.{Bool}
 use mathlib.Core.List.{List, [], _∷_, map}
-use lib.ListN.{length, getD, set}
+use lib.ListN.{length, set, List·getD-eq-default}
 use lib.Seq.{getD-set-same, getD-set-other}
 use lib.Dec.{T, eqb, eqb→eq}
 use Rattle.d64spec.specs.Lists.{Bytes, byte, sum, range}
@@ -35,6 +37,17 @@ module _ (g : Geometry) (m : Bytes) (t : ℕ) where
   byte-map-entry (suc (suc (suc zero))) h = refl
   byte-map-entry (suc (suc (suc (suc j)))) h = absurd (omega arith)
 
+  pub map-entry-shaped : ((k : ℕ) → byte m k < 256) → EntryShape (mapEntry g m t)
+  unfolding mapEntry
+  map-entry-shaped bytes = record { four = refl; small = small }
+    where
+      small : (j : ℕ) → byte (mapEntry g m t) j < 256
+      small zero = bytes (g .mapAt t)
+      small (suc zero) = bytes (g .mapAt t + 1)
+      small (suc (suc zero)) = bytes (g .mapAt t + 2)
+      small (suc (suc (suc zero))) = bytes (g .mapAt t + 3)
+      small (suc (suc (suc (suc j)))) = omega arith
+
   pub bit-map-entry : (s : ℕ) → s < 24 → entryBit (mapEntry g m t) s ≡ mapBit g m t s
   unfolding entryBit bitOf mapBit
   bit-map-entry s h =
@@ -44,61 +57,47 @@ module _ (g : Geometry) (m : Bytes) (t : ℕ) where
   -- over the number n of the track's sectors
   pub ones-map-entry : (n : ℕ) → n ≡ sectorsOn g t → n ≤ 24 → entryOnes (mapEntry g m t) n ≡ mapOnes g m t
   unfolding entryOnes mapOnes
-  ones-map-entry n e h =
-      let all : min n 24 ≡ n = omega arith in
-      rw (all, ← e) (sum-map-equal (entryBit (mapEntry g m t)) (mapBit g m t) 0 n (λ i l u. bit-map-entry i (omega arith)))
+  ones-map-entry n e h = rw (← e) (sum-map-equal (entryBit (mapEntry g m t)) (mapBit g m t) 0 n (λ i l u. bit-map-entry i (omega arith)))
+
+-- ---- bits past the fourth byte
+
+pub entry-bit-past : (e : Bytes) → length e ≡ 4 → (s : ℕ) → 24 ≤ s → 0 ≡ entryBit e s
+unfolding entryBit bitOf
+entry-bit-past e size s h =
+    let none : byte e (1 + s / 8) ≡ 0 = List·getD-eq-default e 0 (omega arith) in
+    sym (ap (λ (b : ℕ). b / 2 ^ (s % 8) % 2) none ∙ ap (λ (x : ℕ). x % 2) (zero-div (2 ^ (s % 8))))
 
 -- ---- ones, bit by bit
 
 module _ (e : Bytes) where
-  pub ones-none : entryOnes e 0 ≡ 0
+  ones-more : (s : ℕ) → entryOnes e (s + 1) ≡ entryOnes e s + entryBit e s
   unfolding entryOnes
-  ones-none = refl
-
-  pub ones-more : (s : ℕ) → s < 24 → entryOnes e (s + 1) ≡ entryOnes e s + entryBit e s
-  unfolding entryOnes
-  ones-more s h =
-      let more : min (s + 1) 24 ≡ suc s = omega arith in
-      let all : min s 24 ≡ s = omega arith in
+  ones-more s =
       let last : 0 + s ≡ s = omega arith in
-      rw (more, all) (sum-map-last (entryBit e) 0 s ∙ ap (λ (k : ℕ). sum (map (entryBit e) (range 0 s)) + entryBit e k) last)
+      rw (add-one s) (sum-map-last (entryBit e) 0 s ∙ ap (λ (k : ℕ). sum (map (entryBit e) (range 0 s)) + entryBit e k) last)
 
-  -- there are no more than 24 bits
-  pub ones-clipped : (n : ℕ) → 24 ≤ n → entryOnes e 24 ≡ entryOnes e n
+  pub ones-le : (n : ℕ) → entryOnes e n ≤ n
   unfolding entryOnes
-  ones-clipped n h = let z : 24 ≡ min n 24 = omega arith in ap (λ (k : ℕ). sum (map (entryBit e) (range 0 k))) z
-
-  pub ones-le : (n : ℕ) → entryOnes e n ≤ min n 24
-  unfolding entryOnes
-  ones-le n = sum-map-le (entryBit e) (entry-bit-le e) 0 (min n 24)
+  ones-le n = sum-map-le (entryBit e) (entry-bit-le e) 0 n
 
 -- the bits below s are counted
 pub record Counting (e : Bytes) (n sum s : ℕ) : Type 0 where
-  pub inside : s ≤ 24
-  pub own : s ≤ n
+  pub passed : s ≤ n
   pub ones : sum ≡ entryOnes e s
 
 pub counting-start : (e : Bytes) (n : ℕ) → Counting e n 0 0
-counting-start e n = record { inside = omega arith; own = omega arith; ones = sym (ones-none e) }
+unfolding entryOnes
+counting-start e n = record { passed = omega arith; ones = refl }
 
 module _ {e : Bytes} {n sum s : ℕ} (c : Counting e n sum s) where
-  pub counting-fits : {b : ℕ} → b ≡ entryBit e s → sum + b ≤ 25
-  counting-fits q = let i : s ≤ 24 = c .inside in omega (arith, c .ones, ones-le e s, entry-bit-le e s)
+  pub counting-le : {b : ℕ} → b ≡ entryBit e s → sum + b ≤ s + 1
+  counting-le q = omega (arith, c .ones, ones-le e s, entry-bit-le e s)
 
-  pub counting-moved : {b : ℕ} → s < n → s < 24 → b ≡ entryBit e s → Counting e n (sum + b) (s + 1)
-  counting-moved below inside q =
-      let so-far : sum ≡ entryOnes e s = c .ones in
-      record { inside = omega arith; own = omega arith; ones = omega (arith, ones-more e s inside) }
+  pub counting-moved : {b : ℕ} → s < n → b ≡ entryBit e s → Counting e n (sum + b) (s + 1)
+  counting-moved below q = let so-far : sum ≡ entryOnes e s = c .ones in record { passed = omega arith; ones = omega (arith, ones-more e s) }
 
-  pub counting-all : n ≤ s → sum ≡ entryOnes e n
-  counting-all h = let own : s ≤ n = c .own in let z : s ≡ n = omega arith in c .ones ∙ ap (entryOnes e) z
-
-  pub counting-clipped : 24 ≤ s → sum ≡ entryOnes e n
-  counting-clipped h =
-      let own : s ≤ n = c .own in
-      let inside : s ≤ 24 = c .inside in
-      let z : s ≡ 24 = omega arith in
-      c .ones ∙ ap (entryOnes e) z ∙ ones-clipped e n (omega arith)
+  pub counting-finished : n ≤ s → sum ≡ entryOnes e n
+  counting-finished h = let passed : s ≤ n = c .passed in let z : s ≡ n = omega arith in c .ones ∙ ap (entryOnes e) z
 
 -- ---- one bit made v
 
@@ -143,7 +142,7 @@ bit-counted e n s = ap (λ (b : ℕ). bitOf b (s % 8)) (getD-set-other e 0 (1 + 
 
 pub ones-counted : (e : Bytes) (v n : ℕ) → entryOnes (set e 0 v) n ≡ entryOnes e n
 unfolding entryOnes
-ones-counted e v n = sum-map-equal (entryBit (set e 0 v)) (entryBit e) 0 (min n 24) (λ i l u. bit-counted e v i)
+ones-counted e v n = sum-map-equal (entryBit (set e 0 v)) (entryBit e) 0 n (λ i l u. bit-counted e v i)
 
 -- ---- an entry is known by its count and its 24 bits
 
@@ -173,9 +172,8 @@ module _ (g : Geometry) (free : Address → Bool) (t : ℕ) {e : Bytes} (shape :
   pub entry-expected : byte e 0 ≡ entryOnes e (sectorsOn g t) → sectorsOn g t ≤ 24 → e ≡ expectedEntry g free t
   unfolding expectedEntry entryOnes
   entry-expected count small =
-      let all : min (sectorsOn g t) 24 ≡ sectorsOn g t = omega arith in
       let ones : byte e 0 ≡ sum (map (expectedBit g free t) (range 0 (sectorsOn g t)))
-      = count ∙ ap (λ (k : ℕ). sum (map (entryBit e) (range 0 k))) all
+      = count
       ∙ sum-map-equal (entryBit e) (expectedBit g free t) 0 (sectorsOn g t) (λ i l u. bits i (omega arith)) in
       four e (shape .four)
       ∙ simp (ones, bitmap-byte 0 (omega arith), bitmap-byte 1 (omega arith), bitmap-byte 2 (omega arith))

@@ -1,5 +1,5 @@
 -- "The map follows" (01, Store and Scratch): a map by value whose marks are as the owners ask and whose counts are its ones, stored, is the
--- map sector of document 01's rewritten map. In order: the layout's tracks are small; marks changed one by one; tracks counted one by one;
+-- map sector of document 01's rewritten map. In order: the layout's tracks are small; marks loaded, and changed one by one; tracks counted one by one;
 -- such a map is known entry by entry; stored, it is the rewritten sector. Assumes nothing.
 use Prim.Native.Nat.{ℕ, zero, suc, _+_, _-_, _*_, _≤_, _<_}
 use native.Mathlib.Omega.{arith}
@@ -14,13 +14,14 @@ use borrow.Author.Tests.{le-leb}
 use Rattle.d64spec.specs.Lists.{Bytes, byte, range, join, splice}
 use Rattle.d64spec.specs.Answers.{Address}
 use Rattle.d64spec.specs.Geometry.{layout35, tracks, sectorsOn}
-use Rattle.d64spec.specs.Map.{expectedBit, expectedEntry, withEntries}
-use Rattle.bam.specs.Bam.{Entries, storedEntries, entryBit, entryOnes, entryOf, withMark, recounted}
+use Rattle.d64spec.specs.Map.{mapBit, expectedBit, expectedEntry, withEntries}
+use Rattle.bam.specs.Bam.{Entries, mapEntries, storedEntries, entryBit, entryOnes, entryOf, withMark, recounted}
 use Rattle.bam.proofs.BelowLaws.{below, below-at}
 use Rattle.bam.proofs.ListLaws.{length-map-range, getD-map-range, splice-nil, splice-ahead}
 use Rattle.bam.proofs.ShapeLaws.{MapShape}
-use Rattle.bam.proofs.EntryLaws.{entry-expected}
+use Rattle.bam.proofs.EntryLaws.{bit-map-entry, entry-expected}
 use Rattle.bam.proofs.MarkLaws.{Track, Mark, entry-shape, with-mark-shaped, bit-with-mark-same, bit-with-mark-other, count-recounted-ones, entry-recounted-other, bit-recounted, recounted-shaped}
+use Rattle.bam.proofs.StoreLaws.{entry-map-entries}
 
 -- every track has at most 24 sectors
 small : T (below 36 (λ t. leb (sectorsOn layout35 t) 24))
@@ -40,6 +41,15 @@ pub record Marks (free : Address → Bool) (es : Entries) : Type 0 where
 abbrev pub Counts : Entries → ℕ → Type 0
 Counts es n = (t : ℕ) → Track t → t ≤ n → byte (entryOf es t) 0 ≡ entryOnes (entryOf es t) (sectorsOn layout35 t)
 
+-- a map sector whose bits are as expected, loaded
+pub marks-loaded : (free : Address → Bool) (m : Bytes) → MapShape (mapEntries m)
+    → ((t s : ℕ) → Mark t s → mapBit layout35 m t s ≡ expectedBit layout35 free t s) → Marks free (mapEntries m)
+marks-loaded free m shape bits = record {
+  shape = shape;
+  bits = λ t s k.
+      ap (λ (e : Bytes). entryBit e s) (entry-map-entries m (k .track)) ∙ bit-map-entry layout35 m t s (k .sector) ∙ bits t s k;
+}
+
 -- one mark changed, where what is free changes at that sector alone
 pub marks-with-mark : {free free′ : Address → Bool} {es : Entries} → Marks free es → {t s v : ℕ} → Mark t s → v ≤ 1
     → v ≡ expectedBit layout35 free′ t s
@@ -57,9 +67,9 @@ marks-with-mark {free} {free′} {es} m {t} {s} {v} mark hv new other = record {
 }
 
 module _ {free : Address → Bool} {es : Entries} (m : Marks free es) {t : ℕ} (track : Track t) (n : ℕ) where
-  pub marks-recounted : Marks free (recounted es t n)
-  marks-recounted = record {
-    shape = recounted-shaped (m .shape) track n;
+  pub marks-recounted : n < 256 → Marks free (recounted es t n)
+  marks-recounted h = record {
+    shape = recounted-shaped (m .shape) track n h;
     bits = λ u s k. bit-recounted (m .shape) track n u s (k .track .low) ∙ m .bits u s k;
   }
 

@@ -1,13 +1,14 @@
 -- Laws of lists that a map by value needs, over any function and any list.
--- In order: a function along a range; sums; entries joined; bytes replaced; a list of four.
+-- In order: a function along a range; a list filled from the front; sums; entries joined; bytes replaced; a list of four.
 -- Assumes nothing.
 use Prim.Native.Nat.{ℕ, zero, suc, _+_, _-_, _*_, _≤_, _<_}
 use native.Mathlib.Omega.{arith}
 use native.Mathlib.Nat.{add-zero, add-assoc}
 use mathlib.Core.Path.{_≡_, refl, sym, ap, ap₂, _∙_}
 use mathlib.Core.List.{List, [], _∷_, _++_, map, append-assoc, append-nil}
-use lib.ListN.{length, take, drop, getD, set, length-append, length-drop, take-append-drop, List·getD-append}
-use lib.Seq.{length-take-le, take-at, drop-at, take-take, take-append-le, drop-drop, drop-append-add, getD-append-add, getD-take, getD-drop, sets-eq}
+use lib.ListN.{length, take, drop, getD, set, length-append, length-drop, length-set, take-append-drop, List·getD-append}
+use lib.Seq.{length-take-le, take-at, drop-at, take-take, take-append-le, drop-drop, drop-append-add, getD-append-add, getD-take, getD-drop, getD-set-same, getD-set-other, ext-getD, sets-eq}
+use borrow.Author.Count.{below-more}
 use Rattle.d64spec.specs.Lists.{Bytes, byte, sum, range, join, splice}
 
 -- ---- a function along a range
@@ -21,6 +22,33 @@ module _ {A : Type 0} (f : ℕ → A) where
   getD-map-range a zero k d h = absurd (omega arith)
   getD-map-range a (suc n) zero d h = let e : a ≡ a + 0 = omega arith in ap f e
   getD-map-range a (suc n) (suc k) d h = let e : suc a + k ≡ a + suc k = omega arith in getD-map-range (suc a) n k d (omega arith) ∙ ap f e
+
+-- ---- a list filled from the front
+
+-- the first i of n elements are f's from a on
+pub record Filling {A : Type 0} (z : A) (f : ℕ → A) (a n : ℕ) (l : List A) (i : ℕ) : Type 0 where
+  pub passed : i ≤ n
+  pub size : length l ≡ n
+  pub filled : (k : ℕ) → k < i → getD l k z ≡ f (a + k)
+
+module _ {A : Type 0} {z : A} {f : ℕ → A} {a n : ℕ} where
+  pub filling-start : (l : List A) → length l ≡ n → Filling z f a n l 0
+  filling-start l size = record { passed = omega arith; size = size; filled = λ k h. absurd (omega arith) }
+
+  pub filling-moved : {l : List A} {i : ℕ} → Filling z f a n l i → i < n → (x : A) → x ≡ f (a + i) → Filling z f a n (set l i x) (i + 1)
+  filling-moved {l} {i} c h x e = record {
+    passed = omega arith;
+    size = length-set l i x ∙ c .size;
+    filled = below-more _ i
+        (λ k b. getD-set-other l i k x z (λ q. omega arith) ∙ c .filled k b)
+        (getD-set-same l i x z (omega (arith, c .size)) ∙ e);
+  }
+
+  pub filling-finished : {l : List A} {i : ℕ} → Filling z f a n l i → n ≤ i → l ≡ map f (range a n)
+  filling-finished {l} {i} c h =
+      let size : length l ≡ n = c .size in
+      ext-getD z l (map f (range a n)) (size ∙ sym (length-map-range f a n)) (λ k b.
+      c .filled k (omega arith) ∙ sym (getD-map-range f a n k z (omega arith)))
 
 -- ---- sums
 

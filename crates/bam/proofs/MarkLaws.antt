@@ -1,5 +1,5 @@
 -- Laws of the map: a mark asked for after one was changed, and after a track was counted.
--- In order: which tracks and sectors have a mark; one byte of one entry changed; a mark changed; a count set.
+-- In order: which tracks and sectors have a mark; one byte of one entry changed; a mark asked for; a mark changed; a count set.
 -- Assumes nothing.
 use Prim.Native.Nat.{ℕ, _+_, _-_, _/_, _%_, _≤_, _<_}
 use native.Mathlib.Omega.{arith}
@@ -168,35 +168,39 @@ unfolding recounted
 recounted-byte es track n b e = simp (has-entry track, e)
 
 module _ {es : Entries} (shape : MapShape es) {t : ℕ} (track : Track t) (n : ℕ) where
-  counted : recounted es t n ≡ withByte es t 0 (entryOnes (entryOf es t) n)
-  counted = recounted-byte es track n (entryOnes (entryOf es t) n) refl
+  -- the new count byte
+  abbrev count : ℕ
+  count = entryOnes (entryOf es t) n
 
-  counted-entry : entryOf (recounted es t n) t ≡ set (entryOf es t) 0 (entryOnes (entryOf es t) n)
-  counted-entry = ap (λ (x : Entries). entryOf x t) counted ∙ entry-with-byte-same shape track 0 (entryOnes (entryOf es t) n)
+  counted : recounted es t n ≡ withByte es t 0 count
+  counted = recounted-byte es track n count refl
+
+  counted-entry : entryOf (recounted es t n) t ≡ set (entryOf es t) 0 count
+  counted-entry = ap (λ (x : Entries). entryOf x t) counted ∙ entry-with-byte-same shape track 0 count
 
   pub count-recounted : byte (entryOf (recounted es t n) t) 0 ≡ entryOnes (entryOf es t) n
   count-recounted =
       ap (λ (e : Bytes). byte e 0) counted-entry
-      ∙ getD-set-same (entryOf es t) 0 (entryOnes (entryOf es t) n) 0 (omega (arith, entry-shape shape track .four))
+      ∙ getD-set-same (entryOf es t) 0 count 0 (omega (arith, entry-shape shape track .four))
 
   -- and so the count is right
   pub count-recounted-ones : byte (entryOf (recounted es t n) t) 0 ≡ entryOnes (entryOf (recounted es t n) t) n
   count-recounted-ones =
       count-recounted
-      ∙ sym (ones-counted (entryOf es t) (entryOnes (entryOf es t) n) n)
+      ∙ sym (ones-counted (entryOf es t) count n)
       ∙ ap (λ (e : Bytes). entryOnes e n) (sym counted-entry)
 
   pub entry-recounted-other : (u : ℕ) → 1 ≤ u → (u ≡ t → ⊥) → entryOf (recounted es t n) u ≡ entryOf es u
-  entry-recounted-other u h other = ap (λ (x : Entries). entryOf x u) counted ∙ entry-with-byte-other shape track 0 (entryOnes (entryOf es t) n) u h other
+  entry-recounted-other u h other = ap (λ (x : Entries). entryOf x u) counted ∙ entry-with-byte-other shape track 0 count u h other
 
   -- no bit changes
   pub bit-recounted : (u s : ℕ) → 1 ≤ u → entryBit (entryOf (recounted es t n) u) s ≡ entryBit (entryOf es u) s
   bit-recounted u s h = elim (ℕ-discrete u t) [
-    | yes e ↦ rw e (ap (λ (x : Bytes). entryBit x s) counted-entry ∙ bit-counted (entryOf es t) (entryOnes (entryOf es t) n) s)
+    | yes e ↦ rw e (ap (λ (x : Bytes). entryBit x s) counted-entry ∙ bit-counted (entryOf es t) count s)
     | no e ↦ ap (λ (x : Bytes). entryBit x s) (entry-recounted-other u h e)
   ]
 
-  pub recounted-shaped : MapShape (recounted es t n)
-  recounted-shaped =
-      rw counted (with-byte-shaped shape track 0 (entryOnes (entryOf es t) n)
+  pub recounted-shaped : n < 256 → MapShape (recounted es t n)
+  recounted-shaped h =
+      rw counted (with-byte-shaped shape track 0 count
       (set-shaped (entry-shape shape track) 0 (omega (arith, ones-le (entryOf es t) n))))

@@ -7,18 +7,17 @@ use mathlib.Core.Path.{_≡_, refl, sym, ap, _∙_}
 use mathlib.Core.Logic.{_⊎_, ⊎-elim}
 use mathlib.Core.List.{[], _++_}
 use native.Mathlib.Numerals.{add-one}
-use lib.ListN.{length, take, getD, set, length-set}
-use lib.Seq.{take-all, ext-getD, getD-set-same, getD-set-other}
+use lib.ListN.{length, take, getD, set}
+use lib.Seq.{take-all, ext-getD}
 use lib.Dec.{eqb}
-use borrow.Author.Count.{below-more}
 use borrow.Author.Tests.{le-leb, lt-leb}
 use Rattle.d64spec.specs.Lists.{Bytes, byte, join, splice}
 use Rattle.d64spec.specs.Geometry.{layout35, tracks, sectorsOn}
 use Rattle.d64spec.specs.Map.{mapBit, mapOnes}
-use Rattle.bam.specs.Bam.{Entries, mapEntry, mapEntries, storedEntries, entryOnes, entryOf, markedFree}
-use Rattle.bam.proofs.ListLaws.{length-map-range, getD-map-range, Fours, join-take-more, length-join-take, getD-join, splice-nil, splice-behind, length-splice, splice-before, splice-in, splice-past, four}
+use Rattle.bam.specs.Bam.{Entries, paddedTo, mapEntry, mapEntries, storedEntries, entryOnes, entryOf, markedFree}
+use Rattle.bam.proofs.ListLaws.{Filling, filling-moved, filling-finished, length-map-range, getD-map-range, Fours, join-take-more, length-join-take, getD-join, splice-nil, splice-behind, length-splice, splice-before, splice-in, splice-past, four}
 use Rattle.bam.proofs.ShapeLaws.{MapShape}
-use Rattle.bam.proofs.EntryLaws.{bit-map-entry, ones-map-entry}
+use Rattle.bam.proofs.EntryLaws.{map-entry-shaped, bit-map-entry, ones-map-entry}
 use Rattle.bam.proofs.MarkLaws.{Track, has-mark}
 
 -- ---- the map of a sector
@@ -31,6 +30,12 @@ pub entry-at-map-entries : (m : Bytes) (i : ℕ) → i < 35 → getD (mapEntries
 unfolding mapEntries tracks layout35
 entry-at-map-entries m i h =
     let z : 1 + i ≡ i + 1 = omega arith in getD-map-range (mapEntry layout35 m) 1 35 i [] h ∙ ap (mapEntry layout35 m) z
+
+pub map-entries-shaped : (m : Bytes) → ((k : ℕ) → byte m k < 256) → MapShape (mapEntries m)
+map-entries-shaped m small = record {
+  size = length-map-entries m;
+  entry = λ i h. rw (entry-at-map-entries m i h) (map-entry-shaped layout35 m (i + 1) small);
+}
 
 module _ (m : Bytes) {t : ℕ} (track : Track t) where
   pub entry-map-entries : entryOf (mapEntries m) t ≡ mapEntry layout35 m t
@@ -54,25 +59,32 @@ module _ (m : Bytes) {t : ℕ} (track : Track t) where
 -- ---- reading entry by entry
 
 -- the first i entries are read
-pub record Loading (m : Bytes) (es : Entries) (i : ℕ) : Type 0 where
-  pub passed : i ≤ 35
-  pub size : length es ≡ 35
-  pub read : (k : ℕ) → k < i → getD es k [] ≡ mapEntry layout35 m (k + 1)
+abbrev pub Loading : Bytes → Entries → ℕ → Type 0
+Loading m es i = Filling [] (mapEntry layout35 m) 1 35 es i
 
-pub loading-moved : {m : Bytes} {es : Entries} {i : ℕ} → Loading m es i → i < 35 → (e : Bytes) → e ≡ mapEntry layout35 m (i + 1) → Loading m (set es i e) (i + 1)
-loading-moved {m} {es} {i} l h e q = record {
-  passed = omega arith;
-  size = length-set es i e ∙ l .size;
-  read = below-more _ i
-      (λ k b. getD-set-other es i k e [] (λ z. omega arith) ∙ l .read k b)
-      (getD-set-same es i e [] (omega (arith, l .size)) ∙ q);
-}
+pub loading-moved : (m : Bytes) {es : Entries} {i : ℕ} → Loading m es i → i < 35 → (e : Bytes) → e ≡ mapEntry layout35 m (i + 1) → Loading m (set es i e) (i + 1)
+loading-moved m l h e q = filling-moved l h e (q ∙ ap (mapEntry layout35 m) (omega arith))
 
-pub loading-finished : {m : Bytes} {es : Entries} {i : ℕ} → Loading m es i → 35 ≤ i → es ≡ mapEntries m
-loading-finished {m} {es} {i} l h =
-    ext-getD [] es (mapEntries m) (l .size ∙ sym (length-map-entries m)) (λ k b.
-    let size : length es ≡ 35 = l .size in
-    l .read k (omega arith) ∙ sym (entry-at-map-entries m k (omega arith)))
+pub loading-finished : (m : Bytes) {es : Entries} {i : ℕ} → Loading m es i → 35 ≤ i → es ≡ mapEntries m
+unfolding mapEntries tracks layout35
+loading-finished m l h = filling-finished l h
+
+-- a sector too short is read as one with zeros behind it
+pub map-entries-padded : (m : Bytes) → mapEntries (paddedTo 144 m) ≡ mapEntries m
+unfolding paddedTo mapEntry layout35
+map-entries-padded m =
+    let p : Bytes = paddedTo 144 m in
+    let at : (k : ℕ) → k < 144 → byte p k ≡ byte m k
+    = λ k h. getD-map-range (byte m) 0 144 k 0 h ∙ ap (byte m) (let z : 0 + k ≡ k = omega arith in z) in
+    ext-getD [] (mapEntries p) (mapEntries m) (length-map-entries p ∙ sym (length-map-entries m)) (λ i h.
+    let hi : i < 35 = omega (arith, length-map-entries p) in
+    entry-at-map-entries p i hi
+    ∙ (simp (at (4 * (i + 1)) (omega arith), at (4 * (i + 1) + 1) (omega arith), at (4 * (i + 1) + 2) (omega arith), at (4 * (i + 1) + 3) (omega arith)))
+    ∙ sym (entry-at-map-entries m i hi))
+
+pub length-padded : (n : ℕ) (m : Bytes) → length (paddedTo n m) ≡ n
+unfolding paddedTo
+length-padded n m = length-map-range (byte m) 0 n
 
 -- ---- writing entry by entry
 

@@ -6,7 +6,7 @@ ghost use Prim.Native.Nat.{_+_, _≤_, _<_};
 ghost use lib.ListN.{length};
 ghost use Rattle.d64spec.specs.Lists.{byte, splice};
 ghost use Rattle.d64spec.specs.Geometry.{layout35};
-ghost use Rattle.bam.specs.Bam.{mapEntry, mapEntries, storedEntries, entryBit, entryOnes, withBit, hasEntry, hasMark, markedFree, withMark, recounted};
+ghost use Rattle.bam.specs.Bam.{paddedTo, mapEntry, mapEntries, storedEntries, entryBit, entryOnes, withBit, hasEntry, hasMark, markedFree, withMark, recounted};
 
 // Byte `at` of a slice, or 0 past its end.
 fn byte_at(bytes: &[u8], at: usize) -> u8
@@ -15,27 +15,31 @@ fn byte_at(bytes: &[u8], at: usize) -> u8
     if at < bytes.len() { bytes[at] } else { 0 }
 }
 
+// The first 144 bytes of a slice, with zeros past its end.
+fn padded(bytes: &[u8]) -> [u8; 144]
+    ensures { λ r. ⌜ r ≡ paddedTo 144 (now (bytes .entry)) ⌝ }
+{
+    let mut whole = [0u8; 144];
+    let mut i = 0;
+    while i < 144 {
+        whole[i] = byte_at(bytes, i);
+        i += 1;
+    }
+    whole
+}
+
 // The entry of track i + 1 in a map sector.
 fn load_entry(sector: &[u8], i: usize) -> [u8; 4]
-    requires { ⌜ i < 35 ⌝ }
+    requires { ⌜ (144 ≤ length (now sector)) × (i < 35) ⌝ }
     ensures { λ r. ⌜ r ≡ mapEntry layout35 (now (sector .entry)) (i + 1) ⌝ }
 {
     let a = 4 * (i + 1);
-    if a + 4 <= sector.len() {
-        // one test for all four bytes: a whole map sector is the common case
-        [sector[a], sector[a + 1], sector[a + 2], sector[a + 3]]
-    } else {
-        [
-            byte_at(sector, a),
-            byte_at(sector, a + 1),
-            byte_at(sector, a + 2),
-            byte_at(sector, a + 3),
-        ]
-    }
+    [sector[a], sector[a + 1], sector[a + 2], sector[a + 3]]
 }
 
-// The map of a map sector. Bytes past the end of a slice that is too short read as 0.
-pub fn load_map(sector: &[u8]) -> [[u8; 4]; 35]
+// The map of a sector that has all entries.
+fn load_whole(sector: &[u8]) -> [[u8; 4]; 35]
+    requires { ⌜ 144 ≤ length (now sector) ⌝ }
     ensures { λ r. ⌜ r ≡ mapEntries (now (sector .entry)) ⌝ }
 {
     let mut map = [[0u8; 4]; 35];
@@ -46,6 +50,19 @@ pub fn load_map(sector: &[u8]) -> [[u8; 4]; 35]
         i += 1;
     }
     map
+}
+
+// The map of a map sector. Bytes past the end of a slice that is too short read as 0.
+pub fn load_map(sector: &[u8]) -> [[u8; 4]; 35]
+    ensures { λ r. ⌜ r ≡ mapEntries (now (sector .entry)) ⌝ }
+{
+    if 144 <= sector.len() {
+        load_whole(sector)
+    } else {
+        // only a short slice is copied: a map sector is whole
+        let whole = padded(sector);
+        load_whole(&whole)
+    }
 }
 
 // Puts an entry's four bytes at `at`.
@@ -73,13 +90,16 @@ pub fn store_map(map: [[u8; 4]; 35], sector: &mut [u8])
     }
 }
 
-// The bit of an entry for a sector.
-fn bit(entry: [u8; 4], sector: u8) -> u8
-    requires { ⌜ sector < 24 ⌝ }
+// The bit of an entry for a sector: 1 where the sector is marked free, and 0 from sector 24 on.
+pub fn entry_bit(entry: [u8; 4], sector: u8) -> u8
     ensures { λ r. ⌜ r ≡ entryBit entry sector ⌝ }
 {
-    let j = 1 + (sector / 8) as usize;
-    (entry[j] >> (sector % 8)) % 2
+    if sector < 24 {
+        let place = 1 + (sector / 8) as usize;
+        (entry[place] >> (sector % 8)) % 2
+    } else {
+        0
+    }
 }
 
 // Whether the map has an entry for a track.
@@ -102,31 +122,31 @@ pub fn is_free(map: [[u8; 4]; 35], track: u8, sector: u8) -> bool
 {
     if has_mark(track, sector) {
         let i = (track - 1) as usize;
-        bit(map[i], sector) == 1
+        entry_bit(map[i], sector) == 1
     } else {
         false
     }
 }
 
-// The number of ones among the first `sectors` bits of an entry, which has 24 bits.
+// The number of ones among the first `sectors` bits of an entry.
 pub fn ones(entry: [u8; 4], sectors: u8) -> u8
     ensures { λ r. ⌜ r ≡ entryOnes entry sectors ⌝ }
 {
     let mut sum: u8 = 0;
     let mut s: u8 = 0;
-    while s < sectors && s < 24 {
-        sum += bit(entry, s);
+    while s < sectors {
+        sum += entry_bit(entry, s);
         s += 1;
     }
     sum
 }
 
 // A byte with bit k made `value`.
-fn with_bit(byte: u8, k: u8, value: u8) -> u8
+fn with_bit(old: u8, k: u8, value: u8) -> u8
     requires { ⌜ (k < 8) × (value ≤ 1) ⌝ }
-    ensures { λ r. ⌜ r ≡ withBit byte k value ⌝ }
+    ensures { λ r. ⌜ r ≡ withBit old k value ⌝ }
 {
-    byte - ((byte >> k) % 2 << k) + (value << k)
+    old - ((old >> k) % 2 << k) + (value << k)
 }
 
 // The map with the bit of a sector made `value`.

@@ -20,18 +20,18 @@ sub-i c = let m = mark c in omega arith
 cast-i : tie.Need-cast-i
 cast-i c = search needs
 
-mul-bit : tie.Need-mul-bit
-mul-bit c = search needs
+mul-entry-bit : tie.Need-mul-entry-bit
+mul-entry-bit c = search needs
 
-array-copy-out-bit : tie.Need-array-copy-out-bit
-array-copy-out-bit c = let m = mark c in omega arith
+array-copy-out-entry-bit : tie.Need-array-copy-out-entry-bit
+array-copy-out-entry-bit c = let m = mark c in omega arith
 
-bit-requires : tie.Need-bit-requires
-bit-requires c κs = let m = mark (c .before) in omega arith
+entry-bit-requires : tie.Need-entry-bit-requires
+entry-bit-requires c κs = search needs
 
 returns : tie.Need-returns
 unfolding entryOf
-returns c = marked-free-bit _ (mark (c .before .before)) _ (c .bit .ensures)
+returns c = marked-free-bit _ (mark (c .before .before)) _ (c .entry-bit .ensures)
 
 returns-2 : tie.Need-returns-2
 returns-2 c = marked-free-none _ _ _ (sym (c .before .has-mark .ensures) ∙ c .if1 .left)
@@ -43,8 +43,8 @@ is-free-spec =
     has-mark-requires
     sub-i
     cast-i
-    mul-bit
-    array-copy-out-bit
-    bit-requires
+    mul-entry-bit
+    array-copy-out-entry-bit
+    entry-bit-requires
     returns
     returns-2)

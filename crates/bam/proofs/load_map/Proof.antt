@@ -1,56 +1,37 @@
--- `bam::load_map`. The loop keeps `Loading`: the first i entries are those of the sector. What falls is the number of entries not yet read.
+-- `bam::load_map`: a slice too short is read with zeros behind it, which gives the same map.
 -- Assumes nothing.
-use Prim.Native.Nat.{_-_}
-use native.Mathlib.Omega.{arith}
-use mathlib.Core.Path.{refl}
+use mathlib.Core.Path.{ap, _∙_}
 use borrow.Author.Needs.{needs}
-use Rattle.bam.proofs.StoreLaws.{Loading, loading-moved, loading-finished}
+use Rattle.bam.specs.Bam.{mapEntries}
+use Rattle.bam.proofs.StoreLaws.{map-entries-padded}
 use Rattle.bam.proofs.load_map.Statement.{statement}
 use Rattle.bam.proofs.load_map.Tie as tie
 
-abbrev Inv-loop : tie.InvT-loop
-Inv-loop sector map₀ i₀ map i = Loading sector map i
+load-whole-requires : tie.Need-load-whole-requires
+load-whole-requires c κs = search needs
 
-abbrev μ-loop : tie.MeasureT-loop
-μ-loop sector map₀ i₀ map i = 35 - i
+padded-requires : tie.Need-padded-requires
+padded-requires c κs = search needs
 
-loop-holds : tie.Need-loop-holds Inv-loop μ-loop
-loop-holds c = record { passed = omega arith; size = refl; read = λ k h. let z : ⊥ = omega arith in absurd z }
+slice-aggregate-load-whole : tie.Need-slice-aggregate-load-whole
+slice-aggregate-load-whole c = search needs
 
-load-entry-requires : tie.Need-load-entry-requires Inv-loop μ-loop
-load-entry-requires c κs = search needs
+load-whole-requires-2 : tie.Need-load-whole-requires-2
+load-whole-requires-2 c κs = search needs
 
-mul-map : tie.Need-mul-map Inv-loop μ-loop
-mul-map c = search needs
+returns : tie.Need-returns
+returns c = search needs
 
-array-set-from-map : tie.Need-array-set-from-map Inv-loop μ-loop
-array-set-from-map c = search needs
-
-add-i : tie.Need-add-i Inv-loop μ-loop
-add-i c = search needs
-
-loop-less : tie.Need-loop-less Inv-loop μ-loop
-loop-less c = search needs
-
-loop-again : tie.Need-loop-again Inv-loop μ-loop
-loop-again c =
-    let l = c .before .before .loop in
-    loading-moved (l .inv) (omega arith) (c .load-entry .result) (c .load-entry .ensures)
-
-returns : tie.Need-returns Inv-loop μ-loop
-returns c = loading-finished (c .before .loop .inv) (omega arith)
+returns-2 : tie.Need-returns-2
+returns-2 c = c .load-whole2 .ensures ∙ ap mapEntries (c .before .before .padded .ensures) ∙ map-entries-padded _
 
 pub load-map-spec : {M : Type 1} → statement M
 load-map-spec =
     tie.close
     (tie.spec
-    Inv-loop
-    μ-loop
-    loop-holds
-    load-entry-requires
-    mul-map
-    array-set-from-map
-    add-i
-    loop-less
-    loop-again
-    returns)
+    load-whole-requires
+    padded-requires
+    slice-aggregate-load-whole
+    load-whole-requires-2
+    returns
+    returns-2)

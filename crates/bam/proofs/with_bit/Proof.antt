@@ -17,8 +17,7 @@ shl-result c = search needs
 sub-result : tie.Need-sub-result
 unfolding bitOf
 sub-result c =
-    let a = c .args in
-    let b = c .fits .byte .fits in
+    let b = c .fits .old .fits in
     omega (arith, taken-le b (c .pre .0) (c .pre .1), taken-shifted b (c .pre .0) (c .pre .1))
 
 shl-result-2 : tie.Need-shl-result-2
@@ -27,13 +26,13 @@ shl-result-2 c = search needs
 add-result : tie.Need-add-result
 unfolding bitOf withBit
 add-result c =
-    let b = c .fits .byte .fits in
+    let b = c .fits .old .fits in
     omega (arith, taken-shifted b (c .pre .0) (c .pre .1), value-shifted b (c .pre .0) (c .pre .1), with-bit-lt b (c .pre .0) (c .pre .1))
 
 returns : tie.Need-returns
 unfolding bitOf withBit
 returns c =
-    let b = c .fits .byte .fits in
+    let b = c .fits .old .fits in
     omega (arith, taken-shifted b (c .pre .0) (c .pre .1), value-shifted b (c .pre .0) (c .pre .1))
 
 pub with-bit-spec : {M : Type 1} → statement M
