@@ -1,5 +1,5 @@
 -- Every answer number of document 01, computed: whole calls on a small disk, each with the number, the block and the bytes that 01 gives for it.
--- The layout has two sectors on tracks 17 and 18, eight on track 19 and no other: an image of 3,072 bytes, small enough to compute on. The definitions are those of every layout.
+-- The layout has two sectors on track 18, ten on track 19 and no other: an image of 3,072 bytes, small enough to compute on. The definitions are those of every layout.
 -- In order: the layout; the images; rows; the table. The statement: proofs/ExampleTables, `calls-hold`.
 use Prim.Native.Nat.{ℕ, zero, suc, _+_, _*_}
 use mathlib.Core.Bool.{Bool, cond, _&&_, not}
@@ -12,9 +12,9 @@ use Rattle.d64spec.specs.Read.{FileInformation, callTell, tellReply}
 use Rattle.d64spec.specs.Call.{Call, check, format, read, store, scratch}
 use Rattle.d64spec.specs.Host.{hostCall}
 
--- 12 sectors: 17/0 is sector 0, 18/0 is sector 2, 19/0 is sector 4
+-- 12 sectors: 18/0 is sector 0, 19/0 is sector 2
 unfoldable pub smallLayout : Geometry
-smallLayout = record { counts = replicate 16 0 ++ (2 ∷ 2 ∷ 8 ∷ []); mapAt = λ t. 4 * t }
+smallLayout = record { counts = replicate 17 0 ++ (2 ∷ 10 ∷ []); mapAt = λ t. 4 * t }
 
 -- ---- images
 
@@ -50,25 +50,25 @@ entryOn19 j = 0 ∷ 0 ∷ 0x81 ∷ 19 ∷ j ∷ j ∷ (replicate 15 0xA0 ++ (zer
 -- the image with the sectors 19/0 to 19/n-1 as ends of empty files
 unfoldable pub withEnds : ℕ → Bytes → Bytes
 withEnds zero img = img
-withEnds (suc n) img = splice (withEnds n img) (256 * (4 + n)) (0 ∷ 1 ∷ [])
+withEnds (suc n) img = splice (withEnds n img) (256 * (2 + n)) (0 ∷ 1 ∷ [])
 
 -- the image with other bytes from byte i of track 18's sector s on
 abbrev pub patch18 : ℕ → ℕ → Bytes → Bytes → Bytes
-patch18 s i bs img = splice img (256 * (2 + s) + i) bs
+patch18 s i bs img = splice img (256 * s + i) bs
 
--- the image with another link in track 17's sector s
+-- the image with another link in track 19's sector s
 abbrev pub relink : ℕ → ℕ → ℕ → Bytes → Bytes
-relink s a b img = splice img (256 * s) (a ∷ b ∷ [])
+relink s a b img = splice img (256 * (2 + s)) (a ∷ b ∷ [])
 
 -- which image a call is given
 pub data Given : Type 0 where
   zeroBytes freshDisk : Given
-  oneFile : Given  -- A, PRG, 300 bytes in 17/0 and 17/1
-  twoFiles : Given  -- and B, SEQ, ten bytes in 19/0
+  oneFile : Given  -- A, PRG, 300 bytes in 19/0 and 19/1
+  twoFiles : Given  -- and B, SEQ, ten bytes in 19/2
   oneByteShort : Given
   version42 : Given
   lastLink0000 linkOffDisk linkToMap linkToItself firstLinkTrack0 chainsMeet : Given
-  directoryLinkToMap directoryLinkTwice directoryLinkTrack17 : Given
+  directoryLinkToMap directoryLinkTwice directoryLinkTrack19 : Given
   delEntry emptyName sharedName countOfThree : Given
   mapCountWrong mapBitWrong bitPastTheLast : Given
   fullDirectory fullDisk : Given
@@ -94,22 +94,22 @@ imageOf twoFiles = imageWithAB
 imageOf oneByteShort = take 3071 imageWithA
 imageOf version42 = patch18 0 0x02 (0x42 ∷ []) imageWithA
 imageOf lastLink0000 = relink 1 0 0 imageWithA
-imageOf linkOffDisk = relink 0 17 2 imageWithA
+imageOf linkOffDisk = relink 0 19 10 imageWithA
 imageOf linkToMap = relink 0 18 0 imageWithA
-imageOf linkToItself = relink 1 17 0 imageWithA
+imageOf linkToItself = relink 1 19 0 imageWithA
 imageOf firstLinkTrack0 = patch18 1 0x03 (0 ∷ 5 ∷ []) imageWithA
-imageOf chainsMeet = patch18 1 0x23 (17 ∷ 0 ∷ []) imageWithAB
+imageOf chainsMeet = patch18 1 0x23 (19 ∷ 0 ∷ []) imageWithAB
 imageOf directoryLinkToMap = patch18 1 0x00 (18 ∷ 0 ∷ []) imageWithA
 imageOf directoryLinkTwice = patch18 1 0x00 (18 ∷ 1 ∷ []) imageWithA
-imageOf directoryLinkTrack17 = patch18 1 0x00 (17 ∷ 0 ∷ []) imageWithA
+imageOf directoryLinkTrack19 = patch18 1 0x00 (19 ∷ 5 ∷ []) imageWithA
 imageOf delEntry = patch18 1 0x02 (0x80 ∷ []) imageWithA
 imageOf emptyName = patch18 1 0x05 (0xA0 ∷ []) imageWithA
 imageOf sharedName = patch18 1 0x25 nameA imageWithAB
 imageOf countOfThree = patch18 1 0x1E (3 ∷ []) imageWithA
-imageOf mapCountWrong = patch18 0 0x4C (0 ∷ []) imageWithA
-imageOf mapBitWrong = patch18 0 0x44 (2 ∷ 3 ∷ []) imageWithA
+imageOf mapCountWrong = patch18 0 0x4C (9 ∷ []) imageWithA
+imageOf mapBitWrong = patch18 0 0x4C (9 ∷ 0xFE ∷ []) imageWithA
 imageOf bitPastTheLast = patch18 0 0x49 (4 ∷ []) imageWithA
-imageOf fullDirectory = patch18 0 0x4C (zeros 4) (patch18 1 0x00 (join (map entryOn19 (range 0 8))) (withEnds 8 freshImage))
+imageOf fullDirectory = patch18 0 0x4C (2 ∷ 0 ∷ 3 ∷ 0 ∷ []) (patch18 1 0x00 (join (map entryOn19 (range 0 8))) (withEnds 8 freshImage))
 imageOf fullDisk = afterCall freshImage (store nameA 3 (zeros 2540))
 
 -- ---- rows
@@ -158,7 +158,7 @@ paddedName = 0x41 ∷ 0xA0 ∷ []
 -- every number, in its order: a row that breaks several rules shows which comes first
 unfoldable pub callRows : List CallRow
 callRows =
-    quiet zeroBytes check 8 (place 17 255 255) []
+    quiet zeroBytes check 8 (place 19 255 255) []
     ∷ quiet zeroBytes (format [] 0x30 0x31) 9 (report 0 0) []
     ∷ quiet oneByteShort (format [] 0x30 0x31) 1 (report 0 0) []
     ∷ writes zeroBytes (format nameD 0x30 0x31) 0 (report 0 0)
@@ -166,13 +166,13 @@ callRows =
     ∷ quiet oneFile check 0 (report 0 0) []
     ∷ quiet oneByteShort check 1 (report 0 0) []
     ∷ quiet oneByteShort (read [] (zeros 4)) 1 (report 0 0) (zeros 4)
-    ∷ quiet lastLink0000 check 2 (place 17 1 0) []
-    ∷ quiet linkOffDisk check 2 (place 17 0 0) []
+    ∷ quiet lastLink0000 check 2 (place 19 1 0) []
+    ∷ quiet linkOffDisk check 2 (place 19 0 0) []
     ∷ quiet firstLinkTrack0 check 2 (place 18 1 0) []
     ∷ quiet directoryLinkToMap check 2 (place 18 1 255) []
-    ∷ quiet directoryLinkTrack17 check 2 (place 18 1 255) []
-    ∷ quiet linkToMap check 3 (place 17 0 0) []
-    ∷ quiet linkToItself check 3 (place 17 1 0) []
+    ∷ quiet directoryLinkTrack19 check 2 (place 18 1 255) []
+    ∷ quiet linkToMap check 3 (place 19 0 0) []
+    ∷ quiet linkToItself check 3 (place 19 1 0) []
     ∷ quiet chainsMeet check 3 (place 18 1 1) []
     ∷ quiet directoryLinkTwice check 3 (place 18 1 255) []
     ∷ quiet delEntry check 4 (place 18 1 0) []
@@ -180,7 +180,7 @@ callRows =
     ∷ quiet sharedName check 6 (place 18 1 1) []
     ∷ quiet countOfThree check 7 (place 18 1 0) []
     ∷ quiet mapCountWrong check 8 (place 19 255 255) []
-    ∷ quiet mapBitWrong check 8 (place 17 255 255) []
+    ∷ quiet mapBitWrong check 8 (place 19 255 255) []
     ∷ quiet bitPastTheLast check 8 (place 18 255 255) []
     ∷ quiet delEntry (read longName (zeros 4)) 9 (report 0 0) (zeros 4)
     ∷ quiet delEntry (scratch paddedName) 9 (report 0 0) []
@@ -204,7 +204,7 @@ callRows =
     ∷ writes freshDisk (store nameA 1 []) 0 (report 0 1)
     ∷ writes freshDisk (store nameA 1 (zeros 255)) 0 (report 255 2)
     ∷ writes twoFiles (scratch nameB) 0 (report 10 1)
-    ∷ told twoFiles 1 0 (0x81 ∷ (nameB ++ (replicate 15 0xA0 ++ (19 ∷ 0 ∷ 1 ∷ 10 ∷ []))))
+    ∷ told twoFiles 1 0 (0x81 ∷ (nameB ++ (replicate 15 0xA0 ++ (19 ∷ 2 ∷ 1 ∷ 10 ∷ []))))
     ∷ told twoFiles 2 13 (zeros 21)
     ∷ told delEntry 0 4 (zeros 21)
     ∷ []
