@@ -56,3 +56,4 @@ pub mod WidthTheorem
 pub mod FormatTheorem
 pub mod ReadTheorem
 pub mod FormatStore
+pub mod RefusalTheorem

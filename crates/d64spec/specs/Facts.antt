@@ -1,5 +1,5 @@
 -- What the theorems say that are not about one definition alone (01; demand 2): records that their statements name.
--- In order: owners (proofs/OwnerTheorem); slots (SlotBounds); the answer block (WidthTheorem); a formatted disk (FormatTheorem); files, read and told (ReadTheorem).
+-- In order: refusals (proofs/RefusalTheorem); owners (OwnerTheorem); slots (SlotBounds); the answer block (WidthTheorem); a formatted disk (FormatTheorem); files, read and told (ReadTheorem).
 use Prim.Native.Nat.{ℕ, _+_, _*_, _-_, _/_, _%_, _≤_, _<_}
 use mathlib.Core.Path.{_≡_}
 use mathlib.Core.Bool.{true}
@@ -19,6 +19,17 @@ use Rattle.d64spec.specs.Reply.{Change, Reply, writable}
 use Rattle.d64spec.specs.Format.{freeAfterFormat}
 use Rattle.d64spec.specs.Read.{FileInformation}
 use Rattle.d64spec.specs.Store.{lastOf}
+use Rattle.d64spec.specs.Host.{HostReply}
+
+-- ---- refusals
+
+-- a refused host call changes no byte of the image and of the output; it reports length 0 and 0 sectors in a block of nine bytes, and leaves any other block
+-- as it was (demand 1; 01, Answer numbers; Host calls)
+pub record LeftAlone (img out block : Bytes) (r : HostReply) : Type 0 where
+  pub image : r .imageAfter ≡ img
+  pub output : r .outputAfter ≡ out
+  pub reports : length block ≡ 9 → part 3 8 (r .blockAfter) ≡ zeros 6
+  pub otherBlock : (length block ≡ 9 → ⊥) → r .blockAfter ≡ block
 
 -- ---- owners
 
