@@ -71,6 +71,7 @@ pub data Given : Type 0 where
   directoryLinkToMap directoryLinkTwice directoryLinkTrack19 : Given
   delEntry emptyName sharedName countOfThree : Given
   mapCountWrong mapBitWrong bitPastTheLast : Given
+  mapLinkElsewhere : Given  -- bytes 0-1 of 18/0 lead to a file's sector
   fullDirectory fullDisk : Given
 
 -- the formatted image
@@ -109,6 +110,7 @@ imageOf countOfThree = patch18 1 0x1E (3 ∷ []) imageWithA
 imageOf mapCountWrong = patch18 0 0x4C (9 ∷ []) imageWithA
 imageOf mapBitWrong = patch18 0 0x4C (9 ∷ 0xFE ∷ []) imageWithA
 imageOf bitPastTheLast = patch18 0 0x49 (4 ∷ []) imageWithA
+imageOf mapLinkElsewhere = patch18 0 0x00 (19 ∷ 1 ∷ []) imageWithA
 imageOf fullDirectory = patch18 0 0x4C (2 ∷ 0 ∷ 3 ∷ 0 ∷ []) (patch18 1 0x00 (join (map entryOn19 (range 0 8))) (withEnds 8 freshImage))
 imageOf fullDisk = afterCall freshImage (store nameA 3 (zeros 2540))
 
@@ -164,6 +166,7 @@ callRows =
     ∷ writes zeroBytes (format nameD 0x30 0x31) 0 (report 0 0)
     ∷ quiet freshDisk check 0 (report 0 0) []
     ∷ quiet oneFile check 0 (report 0 0) []
+    ∷ quiet mapLinkElsewhere check 0 (report 0 0) []
     ∷ quiet oneByteShort check 1 (report 0 0) []
     ∷ quiet oneByteShort (read [] (zeros 4)) 1 (report 0 0) (zeros 4)
     ∷ quiet lastLink0000 check 2 (place 19 1 0) []
