@@ -166,7 +166,7 @@ callRows =
     ∷ writes zeroBytes (format nameD 0x30 0x31) 0 (report 0 0)
     ∷ quiet freshDisk check 0 (report 0 0) []
     ∷ quiet oneFile check 0 (report 0 0) []
-    ∷ quiet mapLinkElsewhere check 0 (report 0 0) []
+    ∷ quiet mapLinkElsewhere (read nameA (zeros 302)) 0 (0 ∷ 0 ∷ 255 ∷ 44 ∷ 1 ∷ 0 ∷ 0 ∷ 2 ∷ 0 ∷ []) (sent ++ zeros 2)
     ∷ quiet oneByteShort check 1 (report 0 0) []
     ∷ quiet oneByteShort (read [] (zeros 4)) 1 (report 0 0) (zeros 4)
     ∷ quiet lastLink0000 check 2 (place 19 1 0) []
