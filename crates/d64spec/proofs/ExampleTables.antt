@@ -1,4 +1,4 @@
--- Document 01's worked examples hold: one statement for each table of specs/Examples. Where a definition is wrong, the check prints the rows that fail.
+-- Document 01's worked examples hold: one statement for each table of specs/Examples and specs/Trial. Where a definition is wrong, the check names the table that fails, and of the P table the rows.
 use mathlib.Core.Path.{_≡_, refl}
 use mathlib.Core.List.{[]}
 use Rattle.d64spec.specs.Lists.{ascending, descending}
@@ -18,8 +18,8 @@ use Rattle.d64spec.specs.Scratch.{callScratch, scratchedDisk}
 use Rattle.d64spec.specs.Call.{attempt, callCheck, outputBuffer, perform}
 use Rattle.d64spec.specs.Listing.{callListing, digit, freeTotal, headFrame, line, listingOutput, listingText, refusalLine, slotFrame, track18}
 use Rattle.d64spec.specs.Host.{answerBlock, hostCall}
-use Rattle.d64spec.specs.Examples.{broken, brokenSteps, content, contentsOf, diskAt, entryAlone, exampleSteps, formatted, grown, holds, isDone, lastSector, scratchedAgain, stepHolds, storedOnce, table, trackBytes, withFile}
-use Rattle.d64spec.specs.Trial.{afterCall, brokenCalls, callHolds, callRows, entryOn19, fieldsOf, freshImage, imageOf, imageWithA, imageWithAB, sent, smallLayout, withEnds}
+use Rattle.d64spec.specs.Examples.{broken, brokenSteps, content, contentsOf, diskAt, exampleSteps, formatted, grown, holds, isDone, lastSector, scratchedAgain, stepHolds, storedOnce, table, trackBytes, withFile}
+use Rattle.d64spec.specs.Trial.{afterCall, brokenCalls, callHolds, checkRows, entryOn19, fieldsOf, freshImage, imageOf, imageWithA, imageWithAB, orderRows, readRows, sent, smallLayout, tellRows, withEnds, writeRows}
 
 -- THE EXAMPLES MARKED P HOLD
 pub table-holds : broken table ≡ []
@@ -28,10 +28,24 @@ table-holds = refl
 
 -- THE OTHER EXAMPLES HOLD: format, store, scratch, a directory that grows, and the whole listing
 pub steps-hold : brokenSteps exampleSteps ≡ []
-unfolding table holds entryAlone lastSector content formatted withFile storedOnce scratchedAgain grown trackBytes diskAt isDone contentsOf stepHolds exampleSteps sectorNumber onDisk layout35 firstOn sectorsOn total tracks mapOnes mapBit sectorsNeeded allocationOrder allocationTracks ascending descending sectorsOfTrack lastOf put formattedDisk formattedMap formatHeader freeAfterFormat padded expectedEntry expectedBit bitmapByte rewriteMap claimCount claimList claimsOf directorySectors files occupied fileOf slotIn slotsIn firstLink linkTo fileLink directoryLink decodeFileLink decodeDirectoryLink freeForFiles freeForDirectory emptySlots slotPlaceFor first placement storedDisk writeSlot overwriteSlot growDirectory newEntry scratchedDisk checkDisk checkDirectory checkSlot checkEntry entryCorrect wrongBits validType validName nameOf callListing listingOutput listingText headFrame slotFrame line digit freeTotal track18 disk refusalLine
+unfolding table holds lastSector content formatted withFile storedOnce scratchedAgain grown trackBytes diskAt isDone contentsOf stepHolds exampleSteps sectorNumber onDisk layout35 firstOn sectorsOn total tracks mapOnes mapBit sectorsNeeded allocationOrder allocationTracks ascending descending sectorsOfTrack lastOf put formattedDisk formattedMap formatHeader freeAfterFormat padded expectedEntry expectedBit bitmapByte rewriteMap claimCount claimList claimsOf directorySectors files occupied fileOf slotIn slotsIn firstLink linkTo fileLink directoryLink decodeFileLink decodeDirectoryLink freeForFiles freeForDirectory emptySlots slotPlaceFor first placement storedDisk writeSlot overwriteSlot growDirectory newEntry scratchedDisk checkDisk checkDirectory checkSlot checkEntry entryCorrect wrongBits validType validName nameOf callListing listingOutput listingText headFrame slotFrame line digit freeTotal track18 disk refusalLine
 steps-hold = refl
 
+-- the calls on a small disk, by subject
+pub record CallsHold : Type 0 where
+  pub checks : brokenCalls checkRows ≡ []
+  pub refusals : brokenCalls orderRows ≡ []
+  pub reads : brokenCalls readRows ≡ []
+  pub writes : brokenCalls writeRows ≡ []
+  pub tells : brokenCalls tellRows ≡ []
+
 -- EVERY ANSWER NUMBER, in its order and with its place, on a small disk
-pub calls-hold : brokenCalls callRows ≡ []
-unfolding callRows callHolds imageOf freshImage imageWithA imageWithAB afterCall entryOn19 withEnds sent smallLayout fieldsOf hostCall perform reply attempt outputBuffer answerBlock callCheck callFormat callRead callStore callScratch callTell tellReply noInformation checkImage rightSize validNameArgument validKind writable filesNamed image disk put first sectorNumber onDisk firstOn sectorsOn total tracks mapOnes mapBit sectorsNeeded allocationOrder allocationTracks ascending descending sectorsOfTrack lastOf formattedDisk formattedMap formatHeader freeAfterFormat padded expectedEntry expectedBit bitmapByte rewriteMap claimCount claimList claimsOf directorySectors files occupied fileOf slotIn slotsIn firstLink linkTo fileLink directoryLink decodeFileLink decodeDirectoryLink freeForFiles freeForDirectory emptySlots slotPlaceFor placement storedDisk writeSlot overwriteSlot growDirectory newEntry scratchedDisk checkDisk checkDirectory checkSlot checkEntry entryCorrect wrongBits validType validName nameOf
-calls-hold = refl
+pub calls-hold : CallsHold
+unfolding checkRows orderRows readRows writeRows tellRows callHolds imageOf freshImage imageWithA imageWithAB afterCall entryOn19 withEnds sent smallLayout fieldsOf hostCall perform reply attempt outputBuffer answerBlock callCheck callFormat callRead callStore callScratch callTell tellReply noInformation checkImage rightSize validNameArgument validKind writable filesNamed image disk put first sectorNumber onDisk firstOn sectorsOn total tracks mapOnes mapBit sectorsNeeded allocationOrder allocationTracks ascending descending sectorsOfTrack lastOf formattedDisk formattedMap formatHeader freeAfterFormat padded expectedEntry expectedBit bitmapByte rewriteMap claimCount claimList claimsOf directorySectors files occupied fileOf slotIn slotsIn firstLink linkTo fileLink directoryLink decodeFileLink decodeDirectoryLink freeForFiles freeForDirectory emptySlots slotPlaceFor placement storedDisk writeSlot overwriteSlot growDirectory newEntry scratchedDisk checkDisk checkDirectory checkSlot checkEntry entryCorrect wrongBits validType validName nameOf
+calls-hold = record {
+  checks = refl;
+  refusals = refl;
+  reads = refl;
+  writes = refl;
+  tells = refl;
+}

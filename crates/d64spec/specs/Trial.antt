@@ -157,18 +157,13 @@ longName = replicate 17 0x41
 abbrev pub paddedName : Bytes
 paddedName = 0x41 ∷ 0xA0 ∷ []
 
--- every number, in its order: a row that breaks several rules shows which comes first
-unfoldable pub callRows : List CallRow
-callRows =
+-- the check: numbers 0 to 8 with their places
+unfoldable pub checkRows : List CallRow
+checkRows =
     quiet zeroBytes check 8 (place 19 255 255) []
-    ∷ quiet zeroBytes (format [] 0x30 0x31) 9 (report 0 0) []
-    ∷ quiet oneByteShort (format [] 0x30 0x31) 1 (report 0 0) []
-    ∷ writes zeroBytes (format nameD 0x30 0x31) 0 (report 0 0)
     ∷ quiet freshDisk check 0 (report 0 0) []
     ∷ quiet oneFile check 0 (report 0 0) []
-    ∷ quiet mapLinkElsewhere (read nameA (zeros 302)) 0 (0 ∷ 0 ∷ 255 ∷ 44 ∷ 1 ∷ 0 ∷ 0 ∷ 2 ∷ 0 ∷ []) (sent ++ zeros 2)
     ∷ quiet oneByteShort check 1 (report 0 0) []
-    ∷ quiet oneByteShort (read [] (zeros 4)) 1 (report 0 0) (zeros 4)
     ∷ quiet lastLink0000 check 2 (place 19 1 0) []
     ∷ quiet linkOffDisk check 2 (place 19 0 0) []
     ∷ quiet firstLinkTrack0 check 2 (place 18 1 0) []
@@ -185,29 +180,54 @@ callRows =
     ∷ quiet mapCountWrong check 8 (place 19 255 255) []
     ∷ quiet mapBitWrong check 8 (place 19 255 255) []
     ∷ quiet bitPastTheLast check 8 (place 18 255 255) []
-    ∷ quiet delEntry (read longName (zeros 4)) 9 (report 0 0) (zeros 4)
+    ∷ quiet fullDirectory check 0 (report 0 0) []
+    ∷ []
+
+-- refusals of format, store and scratch, and of the block: 1, 9, 10, then the check's, then 11 to 16. A row that breaks several rules shows which number comes first
+unfoldable pub orderRows : List CallRow
+orderRows =
+    quiet zeroBytes (format [] 0x30 0x31) 9 (report 0 0) []
+    ∷ quiet oneByteShort (format [] 0x30 0x31) 1 (report 0 0) []
     ∷ quiet delEntry (scratch paddedName) 9 (report 0 0) []
     ∷ quiet delEntry (store nameC 4 sent) 10 (report 0 0) []
     ∷ quiet delEntry (store [] 4 sent) 9 (report 0 0) []
     ∷ quiet delEntry (store nameC 1 sent) 4 (place 18 1 0) []
     ∷ quiet version42 (store nameA 1 sent) 11 (report 0 0) []
     ∷ quiet version42 (scratch nameB) 11 (report 0 0) []
-    ∷ quiet version42 (read nameA (zeros 302)) 0 (0 ∷ 0 ∷ 255 ∷ 44 ∷ 1 ∷ 0 ∷ 0 ∷ 2 ∷ 0 ∷ []) (sent ++ zeros 2)
     ∷ quiet oneFile (store nameA 1 sent) 12 (report 0 0) []
-    ∷ quiet oneFile (read nameB (zeros 4)) 13 (report 0 0) (zeros 4)
     ∷ quiet oneFile (scratch nameB) 13 (report 0 0) []
-    ∷ quiet fullDirectory check 0 (report 0 0) []
     ∷ quiet fullDirectory (store nameA 1 (zeros 2541)) 14 (report 0 0) []
     ∷ quiet freshDisk (store nameA 1 (zeros 2541)) 15 (report 0 0) []
     ∷ quiet fullDisk (store nameB 1 []) 15 (report 0 0) []
-    ∷ quiet oneFile (read nameA (zeros 299)) 16 (report 0 0) (zeros 299)
     ∷ badBlock oneByteShort check 8
     ∷ badBlock oneFile (scratch nameA) 10
+    ∷ []
+
+-- reads: done and refused, with every byte of the output
+unfoldable pub readRows : List CallRow
+readRows =
+    quiet mapLinkElsewhere (read nameA (zeros 302)) 0 (0 ∷ 0 ∷ 255 ∷ 44 ∷ 1 ∷ 0 ∷ 0 ∷ 2 ∷ 0 ∷ []) (sent ++ zeros 2)
+    ∷ quiet oneByteShort (read [] (zeros 4)) 1 (report 0 0) (zeros 4)
+    ∷ quiet delEntry (read longName (zeros 4)) 9 (report 0 0) (zeros 4)
+    ∷ quiet version42 (read nameA (zeros 302)) 0 (0 ∷ 0 ∷ 255 ∷ 44 ∷ 1 ∷ 0 ∷ 0 ∷ 2 ∷ 0 ∷ []) (sent ++ zeros 2)
+    ∷ quiet oneFile (read nameB (zeros 4)) 13 (report 0 0) (zeros 4)
+    ∷ quiet oneFile (read nameA (zeros 299)) 16 (report 0 0) (zeros 299)
     ∷ quiet twoFiles (read nameB (replicate 12 7)) 0 (report 10 1) (range 1 10 ++ (7 ∷ 7 ∷ []))
+    ∷ []
+
+-- format, store and scratch that are done, with what they report
+unfoldable pub writeRows : List CallRow
+writeRows =
+    writes zeroBytes (format nameD 0x30 0x31) 0 (report 0 0)
     ∷ writes freshDisk (store nameA 1 []) 0 (report 0 1)
     ∷ writes freshDisk (store nameA 1 (zeros 255)) 0 (report 255 2)
     ∷ writes twoFiles (scratch nameB) 0 (report 10 1)
-    ∷ told twoFiles 1 0 (0x81 ∷ (nameB ++ (replicate 15 0xA0 ++ (19 ∷ 2 ∷ 1 ∷ 10 ∷ []))))
+    ∷ []
+
+-- tell: a position, and all zero if refused
+unfoldable pub tellRows : List CallRow
+tellRows =
+    told twoFiles 1 0 (0x81 ∷ (nameB ++ (replicate 15 0xA0 ++ (19 ∷ 2 ∷ 1 ∷ 10 ∷ []))))
     ∷ told twoFiles 2 13 (zeros 21)
     ∷ told delEntry 0 4 (zeros 21)
     ∷ []
