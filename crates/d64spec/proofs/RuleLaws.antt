@@ -4,7 +4,7 @@ use native.Mathlib.Omega.{arith}
 use mathlib.Core.Path.{_≡_, refl, sym, ap, ap₂, _∙_}
 use mathlib.Core.Bool.{Bool, true, false, not, _&&_, _||_}
 use mathlib.Core.Logic.{_⊎_, inl, inr, ⊎-elim, _↔_}
-use mathlib.Core.List.{[], _∷_, _++_, append-nil}
+use mathlib.Core.List.{[], _∷_, map}
 use lib.ListN.{length, take, drop, replicate, length-append, length-replicate, length-take}
 use lib.Seq.{take-at, drop-at}
 use lib.Dec.{eqb, ltb}
@@ -17,7 +17,7 @@ use Rattle.d64spec.specs.Lists.{Bytes, byte, count, equal, filter, indic
 use Rattle.d64spec.specs.Answers.{plain}
 use Rattle.d64spec.specs.Geometry.{Geometry, mapAddress, sectorNumber}
 use Rattle.d64spec.specs.Image.{Disk}
-use Rattle.d64spec.specs.Directory.{nameField, nameOf, padded, validName, validType}
+use Rattle.d64spec.specs.Directory.{isEmpty, kindOf, nameField, nameOf, padded, validName, validType}
 use Rattle.d64spec.specs.Rules.{HoldsName, IsKind, IsName, MayWrite, typeBytes}
 use Rattle.d64spec.specs.Reply.{validKind, validNameArgument, writable}
 
@@ -25,6 +25,14 @@ use Rattle.d64spec.specs.Reply.{validKind, validNameArgument, writable}
 pub types-are : filter validType (range 0 256) ≡ typeBytes
 unfolding validType
 types-are = refl
+
+-- OF ALL 256 TYPE BYTES only 0 is an empty slot
+pub empties-are : filter (λ b. isEmpty (b ∷ [])) (range 0 256) ≡ 0 ∷ []
+empties-are = refl
+
+-- THE KIND of each type byte that is carried, locked or not
+pub kinds-are : map (λ b. kindOf (b ∷ [])) typeBytes ≡ 1 ∷ 2 ∷ 3 ∷ 1 ∷ 2 ∷ 3 ∷ []
+kinds-are = refl
 
 -- A NAME ARGUMENT IS TAKEN exactly when it is a name
 pub name-argument-exact : (n : Bytes) → (validNameArgument n ≡ true) ↔ IsName n

@@ -1,14 +1,14 @@
 -- Document 01's worked examples as rows of two tables (01, Examples). A row says what is computed and what document 01 gives for it, so that
 -- a missing value does not type; `broken` lists the rows that fail. The statements, one for each table: proofs/ExampleTables.
--- In order: the rows marked P; the disk that the other examples make; their rows.
-use Prim.Native.Nat.{ℕ, _+_, _*_}
+-- In order: the rows marked P; the table of tracks and house order; the disk that the other examples make; their rows.
+use Prim.Native.Nat.{ℕ, _+_, _*_, _-_}
 use mathlib.Core.Bool.{Bool, true, false, _&&_, not}
 use mathlib.Core.List.{List, [], _∷_, _++_, map}
 use lib.ListN.{length, take, drop, replicate}
 use lib.Dec.{eqb}
-use Rattle.d64spec.specs.Lists.{Bytes, byte, part, zeros, filter, equal, range, join}
+use Rattle.d64spec.specs.Lists.{Bytes, byte, part, zeros, filter, equal, range, ascending, sum, join}
 use Rattle.d64spec.specs.Answers.{Address, address, answerOf, Result, refused, done}
-use Rattle.d64spec.specs.Geometry.{layout35, sectorNumber, onDisk, sectorsOn, total, allocationOrder, directoryStart}
+use Rattle.d64spec.specs.Geometry.{layout35, sectorNumber, onDisk, sectorsOn, firstOn, total, allocationOrder, directoryStart}
 use Rattle.d64spec.specs.Image.{Disk, put}
 use Rattle.d64spec.specs.Chain.{chainData}
 use Rattle.d64spec.specs.Directory.{slotIn, files, fileOf}
@@ -63,6 +63,31 @@ table =
     ∷ stored 0 1 1 ∷ stored 254 1 255 ∷ stored 255 2 2
     ∷ []
 
+-- ---- the table of tracks (01, Tracks and sectors)
+
+-- a zone: its first and its last track, the sectors of each, all of them, and the number of the first
+pub data Zone : Type 0 where
+  zone : ℕ → ℕ → ℕ → ℕ → ℕ → Zone
+
+-- whether the layout has it
+unfoldable pub zoneHolds : Zone → Bool
+zoneHolds (zone a b each all n) =
+    equal (map (sectorsOn layout35) (ascending a b)) (replicate (b + 1 - a) each) && (eqb (sum (map (sectorsOn layout35) (ascending a b))) all && eqb (firstOn layout35 a) n)
+
+-- document 01's table
+unfoldable pub zones : List Zone
+zones = zone 1 17 21 357 0 ∷ zone 18 24 19 133 357 ∷ zone 25 30 18 108 490 ∷ zone 31 35 17 85 598 ∷ []
+
+-- the rows that fail
+abbrev pub brokenZones : List Zone → List Zone
+brokenZones l = filter (λ z. not (zoneHolds z)) l
+
+-- house order (01, Store): tracks 17 down to 1, then 19 up to 35
+unfoldable pub houseTracks : List ℕ
+houseTracks =
+    17 ∷ 16 ∷ 15 ∷ 14 ∷ 13 ∷ 12 ∷ 11 ∷ 10 ∷ 9 ∷ 8 ∷ 7 ∷ 6 ∷ 5 ∷ 4 ∷ 3 ∷ 2 ∷ 1
+    ∷ 19 ∷ 20 ∷ 21 ∷ 22 ∷ 23 ∷ 24 ∷ 25 ∷ 26 ∷ 27 ∷ 28 ∷ 29 ∷ 30 ∷ 31 ∷ 32 ∷ 33 ∷ 34 ∷ 35 ∷ []
+
 -- ---- format CODES with the ids 30 31, then store 300 bytes as CODE, PRG
 
 -- the name of the disk
@@ -81,7 +106,7 @@ content = range 1 255 ++ range 101 45
 unfoldable pub formatted : Disk
 formatted = formattedDisk layout35 codes 0x30 0x31
 
--- the disk after the store, as the call leaves it; the disk as it was where there is no place for the entry
+-- the disk after the store, with its entry at this place; the disk as it was where there is none
 unfoldable pub withFile : Result SlotPlace → Disk → Disk
 withFile (refused f) d = d
 withFile (done p) d = storedDisk layout35 d p (placement layout35 d (sectorsNeeded (length content))) code 2 content
@@ -94,7 +119,7 @@ storedOnce = withFile (slotPlaceFor layout35 formatted) formatted
 unfoldable pub scratchedAgain : Disk
 scratchedAgain = scratchedDisk layout35 storedOnce (fileOf layout35 storedOnce (slotIn (storedOnce (sectorNumber layout35 directoryStart)) directoryStart 0 0))
 
--- the formatted disk with all eight slots of 18/1 in use, and the entry in a new directory sector
+-- the formatted disk with bytes in all eight slots of 18/1, and the entry in a new directory sector (a whole store that grows the directory: specs/Trial)
 unfoldable pub grown : Disk
 grown = let full = put formatted (sectorNumber layout35 directoryStart) (0x00 ∷ 0xFF ∷ range 1 254) in withFile (slotPlaceFor layout35 full) full
 

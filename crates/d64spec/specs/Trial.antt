@@ -1,20 +1,21 @@
 -- Every answer number of document 01, computed: whole calls on a small disk, each with the number, the block and the bytes that 01 gives for it.
--- The layout has two sectors on track 18, ten on track 19 and no other: an image of 3,072 bytes, small enough to compute on. The definitions are those of every layout.
+-- The layout has three sectors on track 18, ten on track 19 and no other: an image of 3,328 bytes, small enough to compute on. The definitions are those of every layout.
 -- In order: the layout; the images; rows; the table. The statement: proofs/ExampleTables, `calls-hold`.
 use Prim.Native.Nat.{ℕ, zero, suc, _+_, _*_}
 use mathlib.Core.Bool.{Bool, cond, _&&_, not}
 use mathlib.Core.List.{List, [], _∷_, _++_, map}
-use lib.ListN.{length, take, replicate}
+use lib.ListN.{length, take, drop, replicate}
 use lib.Dec.{eqb}
 use Rattle.d64spec.specs.Lists.{Bytes, filter, equal, join, range, splice, zeros}
 use Rattle.d64spec.specs.Geometry.{Geometry}
-use Rattle.d64spec.specs.Read.{FileInformation, callTell, tellReply}
+use Rattle.d64spec.specs.Read.{TellReply, callTell, tellReply}
 use Rattle.d64spec.specs.Call.{Call, check, format, read, store, scratch}
+use Rattle.d64spec.specs.Listing.{sleeveOutput}
 use Rattle.d64spec.specs.Host.{hostCall}
 
--- 12 sectors: 18/0 is sector 0, 19/0 is sector 2
+-- 13 sectors: 18/0 is sector 0, 19/0 is sector 3
 unfoldable pub smallLayout : Geometry
-smallLayout = record { counts = replicate 17 0 ++ (2 ∷ 10 ∷ []); mapAt = λ t. 4 * t }
+smallLayout = record { counts = replicate 17 0 ++ (3 ∷ 10 ∷ []); mapAt = λ t. 4 * t }
 
 -- ---- images
 
@@ -50,7 +51,7 @@ entryOn19 j = 0 ∷ 0 ∷ 0x81 ∷ 19 ∷ j ∷ j ∷ (replicate 15 0xA0 ++ (zer
 -- the image with the sectors 19/0 to 19/n-1 as ends of empty files
 unfoldable pub withEnds : ℕ → Bytes → Bytes
 withEnds zero img = img
-withEnds (suc n) img = splice (withEnds n img) (256 * (2 + n)) (0 ∷ 1 ∷ [])
+withEnds (suc n) img = splice (withEnds n img) (256 * (3 + n)) (0 ∷ 1 ∷ [])
 
 -- the image with other bytes from byte i of track 18's sector s on
 abbrev pub patch18 : ℕ → ℕ → Bytes → Bytes → Bytes
@@ -58,7 +59,7 @@ patch18 s i bs img = splice img (256 * s + i) bs
 
 -- the image with another link in track 19's sector s
 abbrev pub relink : ℕ → ℕ → ℕ → Bytes → Bytes
-relink s a b img = splice img (256 * (2 + s)) (a ∷ b ∷ [])
+relink s a b img = splice img (256 * (3 + s)) (a ∷ b ∷ [])
 
 -- which image a call is given
 pub data Given : Type 0 where
@@ -72,11 +73,17 @@ pub data Given : Type 0 where
   delEntry emptyName sharedName countOfThree : Given
   mapCountWrong mapBitWrong bitPastTheLast : Given
   mapLinkElsewhere : Given  -- bytes 0-1 of 18/0 lead to a file's sector
-  fullDirectory fullDisk : Given
+  eightFiles : Given  -- all slots of 18/1 in use, and 18/2 free
+  nineFiles : Given  -- and A in 18/2
+  fullDirectory : Given  -- eight files, one of them in 18/2
+  fullDisk : Given
+  farFile : Given  -- A in 18/1, and B, SEQ, ten bytes in 19/2, in slot 8, the first of 18/2
+  farEndsAnyhow farLinkTwice farLinkOff farType farName farSharedName farFirstLinkOff farMeets farCount : Given
+  countsOf255 : Given  -- count bytes of tracks without sectors
 
 -- the formatted image
 unfoldable pub freshImage : Bytes
-freshImage = afterCall (zeros 3072) (format nameD 0x30 0x31)
+freshImage = afterCall (zeros 3328) (format nameD 0x30 0x31)
 
 -- with A
 unfoldable pub imageWithA : Bytes
@@ -86,13 +93,23 @@ imageWithA = afterCall freshImage (store nameA 2 sent)
 unfoldable pub imageWithAB : Bytes
 imageWithAB = afterCall imageWithA (store nameB 1 (range 1 10))
 
+-- with eight empty files on track 19
+unfoldable pub imageWithEight : Bytes
+imageWithEight = patch18 0 0x4C (2 ∷ 0 ∷ 3 ∷ 0 ∷ []) (patch18 1 0x00 (0 ∷ 255 ∷ drop 2 (join (map entryOn19 (range 0 8)))) (withEnds 8 freshImage))
+
+-- with A in slot 0, and B in slot 8
+unfoldable pub imageFar : Bytes
+imageFar =
+    patch18 0 0x48 (zeros 4) (patch18 1 0x00 (18 ∷ 2 ∷ []) (patch18 1 0x22 (zeros 30)
+    (patch18 2 0x00 (0 ∷ 255 ∷ 0x81 ∷ 19 ∷ 2 ∷ (nameB ++ (replicate 15 0xA0 ++ (zeros 9 ++ (1 ∷ 0 ∷ zeros 224))))) imageWithAB)))
+
 -- that image
 unfoldable pub imageOf : Given → Bytes
-imageOf zeroBytes = zeros 3072
+imageOf zeroBytes = zeros 3328
 imageOf freshDisk = freshImage
 imageOf oneFile = imageWithA
 imageOf twoFiles = imageWithAB
-imageOf oneByteShort = take 3071 imageWithA
+imageOf oneByteShort = take 3327 imageWithA
 imageOf version42 = patch18 0 0x02 (0x42 ∷ []) imageWithA
 imageOf lastLink0000 = relink 1 0 0 imageWithA
 imageOf linkOffDisk = relink 0 19 10 imageWithA
@@ -109,9 +126,22 @@ imageOf sharedName = patch18 1 0x25 nameA imageWithAB
 imageOf countOfThree = patch18 1 0x1E (3 ∷ []) imageWithA
 imageOf mapCountWrong = patch18 0 0x4C (9 ∷ []) imageWithA
 imageOf mapBitWrong = patch18 0 0x4C (9 ∷ 0xFE ∷ []) imageWithA
-imageOf bitPastTheLast = patch18 0 0x49 (4 ∷ []) imageWithA
+imageOf bitPastTheLast = patch18 0 0x49 (0x0C ∷ []) imageWithA
 imageOf mapLinkElsewhere = patch18 0 0x00 (19 ∷ 1 ∷ []) imageWithA
-imageOf fullDirectory = patch18 0 0x4C (2 ∷ 0 ∷ 3 ∷ 0 ∷ []) (patch18 1 0x00 (join (map entryOn19 (range 0 8))) (withEnds 8 freshImage))
+imageOf eightFiles = imageWithEight
+imageOf nineFiles = afterCall imageWithEight (store nameA 2 sent)
+imageOf fullDirectory = patch18 0 0x48 (zeros 4) (patch18 0 0x4C (3 ∷ 1 ∷ 3 ∷ 0 ∷ []) (patch18 2 0x00 (0 ∷ 1 ∷ []) (patch18 1 0x03 (18 ∷ 2 ∷ []) (relink 0 0 0 imageWithEight))))
+imageOf farFile = imageFar
+imageOf farEndsAnyhow = patch18 2 0x00 (0 ∷ 1 ∷ []) imageFar
+imageOf farLinkTwice = patch18 2 0x00 (18 ∷ 1 ∷ []) imageFar
+imageOf farLinkOff = patch18 2 0x00 (18 ∷ 3 ∷ []) imageFar
+imageOf farType = patch18 2 0x02 (0x40 ∷ []) imageFar
+imageOf farName = patch18 2 0x06 (0x42 ∷ 0xA0 ∷ 0x42 ∷ []) imageFar
+imageOf farSharedName = patch18 2 0x05 nameA imageFar
+imageOf farFirstLinkOff = patch18 2 0x03 (20 ∷ 0 ∷ []) imageFar
+imageOf farMeets = patch18 2 0x03 (19 ∷ 1 ∷ []) imageFar
+imageOf farCount = patch18 2 0x1F (1 ∷ []) imageFar
+imageOf countsOf255 = patch18 0 0x04 (255 ∷ 0 ∷ 0 ∷ 0 ∷ 255 ∷ []) imageWithA
 imageOf fullDisk = afterCall freshImage (store nameA 3 (zeros 2540))
 
 -- ---- rows
@@ -121,7 +151,9 @@ pub data CallRow : Type 0 where
   quiet : Given → Call → ℕ → Bytes → Bytes → CallRow  -- number, block and output afterwards; the image stays as it was
   writes : Given → Call → ℕ → Bytes → CallRow  -- number and block afterwards
   badBlock : Given → Call → ℕ → CallRow  -- the length of a block that is refused with 16, and nothing written
-  told : Given → ℕ → ℕ → Bytes → CallRow  -- a position, number, and type, name, first sector, count and length in one list
+  told : Given → ℕ → Bytes → CallRow  -- a position, and the reply in one list
+  holdsAt : Given → ℕ → ℕ → Bytes → CallRow  -- these bytes, from this offset of a sector on
+  sleeve : Given → Bytes → CallRow  -- what the listing program writes
 
 -- a report of 0 and 0 at this place
 abbrev pub place : ℕ → ℕ → ℕ → Bytes
@@ -131,9 +163,12 @@ place t s slot = t ∷ s ∷ slot ∷ zeros 6
 abbrev pub report : ℕ → ℕ → Bytes
 report n k = 0 ∷ 0 ∷ 255 ∷ n ∷ 0 ∷ 0 ∷ 0 ∷ k ∷ 0 ∷ []
 
--- what tell gives, in one list
-unfoldable pub fieldsOf : FileInformation → Bytes
-fieldsOf i = i .typeByte ∷ (i .nameBytes ++ (i .firstTrack ∷ i .firstSector ∷ i .sectorCount ∷ i .byteLength ∷ []))
+-- what tell gives, in one list: number and place, type, name, first sector, count, length
+unfoldable pub fieldsOf : TellReply → Bytes
+fieldsOf r =
+    let i = r .information in
+    r .answer .number ∷ r .answer .track ∷ r .answer .sector ∷ r .answer .slot
+    ∷ i .typeByte ∷ (i .nameBytes ++ (i .firstTrack ∷ i .firstSector ∷ i .sectorCount ∷ i .byteLength ∷ []))
 
 -- whether a row is as document 01 says
 unfoldable pub callHolds : CallRow → Bool
@@ -144,7 +179,9 @@ callHolds (writes s c n b) = let r = hostCall smallLayout (imageOf s) lentBlock 
 callHolds (badBlock s c k) =
     let r = hostCall smallLayout (imageOf s) (replicate k 0xEE) c in
     eqb (r .number) 16 && (equal (r .blockAfter) (replicate k 0xEE) && equal (r .imageAfter) (imageOf s))
-callHolds (told s p n f) = let r = tellReply (callTell smallLayout (imageOf s) p) in eqb (r .answer .number) n && equal (fieldsOf (r .information)) f
+callHolds (told s p f) = equal (fieldsOf (tellReply (callTell smallLayout (imageOf s) p))) f
+callHolds (holdsAt s n i bs) = equal (take (length bs) (drop (256 * n + i) (imageOf s))) bs
+callHolds (sleeve s text) = equal (sleeveOutput smallLayout (imageOf s)) text
 
 -- the rows that fail
 abbrev pub brokenCalls : List CallRow → List CallRow
@@ -157,10 +194,10 @@ longName = replicate 17 0x41
 abbrev pub paddedName : Bytes
 paddedName = 0x41 ∷ 0xA0 ∷ []
 
--- the check: numbers 0 to 8 with their places
+-- the check: numbers 0 to 8 with their places, in the first directory sector and in the second
 unfoldable pub checkRows : List CallRow
 checkRows =
-    quiet zeroBytes check 8 (place 19 255 255) []
+    quiet zeroBytes check 8 (place 18 255 255) []
     ∷ quiet freshDisk check 0 (report 0 0) []
     ∷ quiet oneFile check 0 (report 0 0) []
     ∷ quiet oneByteShort check 1 (report 0 0) []
@@ -181,6 +218,17 @@ checkRows =
     ∷ quiet mapBitWrong check 8 (place 19 255 255) []
     ∷ quiet bitPastTheLast check 8 (place 18 255 255) []
     ∷ quiet fullDirectory check 0 (report 0 0) []
+    ∷ quiet nineFiles check 0 (report 0 0) []
+    ∷ quiet farFile check 0 (report 0 0) []
+    ∷ quiet farEndsAnyhow check 0 (report 0 0) []
+    ∷ quiet farLinkTwice check 3 (place 18 2 255) []
+    ∷ quiet farLinkOff check 2 (place 18 2 255) []
+    ∷ quiet farType check 4 (place 18 2 8) []
+    ∷ quiet farName check 5 (place 18 2 8) []
+    ∷ quiet farSharedName check 6 (place 18 2 8) []
+    ∷ quiet farFirstLinkOff check 2 (place 18 2 8) []
+    ∷ quiet farMeets check 3 (place 18 2 8) []
+    ∷ quiet farCount check 7 (place 18 2 8) []
     ∷ []
 
 -- refusals of format, store and scratch, and of the block: 1, 9, 10, then the check's, then 11 to 16. A row that breaks several rules shows which number comes first
@@ -215,19 +263,35 @@ readRows =
     ∷ quiet twoFiles (read nameB (replicate 12 7)) 0 (report 10 1) (range 1 10 ++ (7 ∷ 7 ∷ []))
     ∷ []
 
--- format, store and scratch that are done, with what they report
+-- format, store and scratch that are done, with what they report, and the bytes of a directory that grows
 unfoldable pub writeRows : List CallRow
 writeRows =
     writes zeroBytes (format nameD 0x30 0x31) 0 (report 0 0)
     ∷ writes freshDisk (store nameA 1 []) 0 (report 0 1)
     ∷ writes freshDisk (store nameA 1 (zeros 255)) 0 (report 255 2)
     ∷ writes twoFiles (scratch nameB) 0 (report 10 1)
+    ∷ writes eightFiles (store nameA 2 sent) 0 (0 ∷ 0 ∷ 255 ∷ 44 ∷ 1 ∷ 0 ∷ 0 ∷ 2 ∷ 0 ∷ [])
+    ∷ holdsAt nineFiles 1 0 (18 ∷ 2 ∷ 0x81 ∷ 19 ∷ 0 ∷ [])
+    ∷ holdsAt nineFiles 2 0 (0 ∷ 255 ∷ 0x82 ∷ 19 ∷ 8 ∷ (nameA ++ (replicate 15 0xA0 ++ (zeros 9 ++ (2 ∷ 0 ∷ zeros 224)))))
+    ∷ holdsAt nineFiles 0 0x48 (zeros 8)
+    ∷ holdsAt nineFiles 11 0 (19 ∷ 9 ∷ 1 ∷ 2 ∷ [])
     ∷ []
 
 -- tell: a position, and all zero if refused
 unfoldable pub tellRows : List CallRow
 tellRows =
-    told twoFiles 1 0 (0x81 ∷ (nameB ++ (replicate 15 0xA0 ++ (19 ∷ 2 ∷ 1 ∷ 10 ∷ []))))
-    ∷ told twoFiles 2 13 (zeros 21)
-    ∷ told delEntry 0 4 (zeros 21)
+    told farFile 1 (0 ∷ 0 ∷ 0 ∷ 255 ∷ 0x81 ∷ (nameB ++ (replicate 15 0xA0 ++ (19 ∷ 2 ∷ 1 ∷ 10 ∷ []))))
+    ∷ told twoFiles 2 (13 ∷ 0 ∷ 0 ∷ 255 ∷ zeros 21)
+    ∷ told delEntry 0 (4 ∷ 18 ∷ 1 ∷ 0 ∷ zeros 21)
+    ∷ []
+
+-- what the listing program writes: count bytes as they stand, and refusals in two digits
+unfoldable pub sleeveRows : List CallRow
+sleeveRows =
+    sleeve oneFile (52 ∷ 52 ∷ 65 ∷ 48 ∷ 65 ∷ 48 ∷ 65 ∷ 48 ∷ 65 ∷ 48 ∷ 65 ∷ 48 ∷ 65 ∷ 48 ∷ 65 ∷ 48 ∷ 65 ∷ 48 ∷ 65 ∷ 48 ∷ 65 ∷ 48 ∷ 65 ∷ 48 ∷ 65 ∷ 48 ∷ 65 ∷ 48 ∷ 65 ∷ 48 ∷ 65 ∷ 48 ∷ 51 ∷ 48 ∷ 51 ∷ 49 ∷ 10 ∷ 56 ∷ 50 ∷ 49 ∷ 51 ∷ 48 ∷ 48 ∷ 52 ∷ 49 ∷ 65 ∷ 48 ∷ 65 ∷ 48 ∷ 65 ∷ 48 ∷ 65 ∷ 48 ∷ 65 ∷ 48 ∷ 65 ∷ 48 ∷ 65 ∷ 48 ∷ 65 ∷ 48 ∷ 65 ∷ 48 ∷ 65 ∷ 48 ∷ 65 ∷ 48 ∷ 65 ∷ 48 ∷ 65 ∷ 48 ∷ 65 ∷ 48 ∷ 65 ∷ 48 ∷ 48 ∷ 50 ∷ 48 ∷ 48 ∷ 10 ∷ 48 ∷ 48 ∷ 48 ∷ 56 ∷ 10 ∷ [])
+    ∷ sleeve farFile (52 ∷ 52 ∷ 65 ∷ 48 ∷ 65 ∷ 48 ∷ 65 ∷ 48 ∷ 65 ∷ 48 ∷ 65 ∷ 48 ∷ 65 ∷ 48 ∷ 65 ∷ 48 ∷ 65 ∷ 48 ∷ 65 ∷ 48 ∷ 65 ∷ 48 ∷ 65 ∷ 48 ∷ 65 ∷ 48 ∷ 65 ∷ 48 ∷ 65 ∷ 48 ∷ 65 ∷ 48 ∷ 51 ∷ 48 ∷ 51 ∷ 49 ∷ 10 ∷ 56 ∷ 50 ∷ 49 ∷ 51 ∷ 48 ∷ 48 ∷ 52 ∷ 49 ∷ 65 ∷ 48 ∷ 65 ∷ 48 ∷ 65 ∷ 48 ∷ 65 ∷ 48 ∷ 65 ∷ 48 ∷ 65 ∷ 48 ∷ 65 ∷ 48 ∷ 65 ∷ 48 ∷ 65 ∷ 48 ∷ 65 ∷ 48 ∷ 65 ∷ 48 ∷ 65 ∷ 48 ∷ 65 ∷ 48 ∷ 65 ∷ 48 ∷ 65 ∷ 48 ∷ 48 ∷ 50 ∷ 48 ∷ 48 ∷ 10 ∷ 56 ∷ 49 ∷ 49 ∷ 51 ∷ 48 ∷ 50 ∷ 52 ∷ 50 ∷ 65 ∷ 48 ∷ 65 ∷ 48 ∷ 65 ∷ 48 ∷ 65 ∷ 48 ∷ 65 ∷ 48 ∷ 65 ∷ 48 ∷ 65 ∷ 48 ∷ 65 ∷ 48 ∷ 65 ∷ 48 ∷ 65 ∷ 48 ∷ 65 ∷ 48 ∷ 65 ∷ 48 ∷ 65 ∷ 48 ∷ 65 ∷ 48 ∷ 65 ∷ 48 ∷ 48 ∷ 49 ∷ 48 ∷ 48 ∷ 10 ∷ 48 ∷ 48 ∷ 48 ∷ 55 ∷ 10 ∷ [])
+    ∷ sleeve countsOf255 (52 ∷ 52 ∷ 65 ∷ 48 ∷ 65 ∷ 48 ∷ 65 ∷ 48 ∷ 65 ∷ 48 ∷ 65 ∷ 48 ∷ 65 ∷ 48 ∷ 65 ∷ 48 ∷ 65 ∷ 48 ∷ 65 ∷ 48 ∷ 65 ∷ 48 ∷ 65 ∷ 48 ∷ 65 ∷ 48 ∷ 65 ∷ 48 ∷ 65 ∷ 48 ∷ 65 ∷ 48 ∷ 51 ∷ 48 ∷ 51 ∷ 49 ∷ 10 ∷ 56 ∷ 50 ∷ 49 ∷ 51 ∷ 48 ∷ 48 ∷ 52 ∷ 49 ∷ 65 ∷ 48 ∷ 65 ∷ 48 ∷ 65 ∷ 48 ∷ 65 ∷ 48 ∷ 65 ∷ 48 ∷ 65 ∷ 48 ∷ 65 ∷ 48 ∷ 65 ∷ 48 ∷ 65 ∷ 48 ∷ 65 ∷ 48 ∷ 65 ∷ 48 ∷ 65 ∷ 48 ∷ 65 ∷ 48 ∷ 65 ∷ 48 ∷ 65 ∷ 48 ∷ 48 ∷ 50 ∷ 48 ∷ 48 ∷ 10 ∷ 48 ∷ 50 ∷ 48 ∷ 54 ∷ 10 ∷ [])
+    ∷ sleeve oneByteShort (48 ∷ 49 ∷ 10 ∷ [])
+    ∷ sleeve farType (48 ∷ 52 ∷ 10 ∷ [])
+    ∷ sleeve directoryLinkTwice (48 ∷ 51 ∷ 10 ∷ [])
     ∷ []
