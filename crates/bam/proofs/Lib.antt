@@ -1,8 +1,1 @@
-pub mod BelowLaws
-pub mod ListLaws
-pub mod BitLaws
-pub mod ShapeLaws
-pub mod EntryLaws
-pub mod MarkLaws
-pub mod StoreLaws
-pub mod FollowLaws
+pub mod TrackLaws

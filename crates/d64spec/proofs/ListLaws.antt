@@ -1,11 +1,12 @@
--- Laws of `filter` and `count`.
-use Prim.Native.Nat.{ℕ, _+_, _<_}
+-- Laws of `filter` and `count`, and of a function along a range.
+use Prim.Native.Nat.{ℕ, zero, suc, _+_, _<_}
 use native.Mathlib.Omega.{arith}
-use mathlib.Core.Path.{_≡_, refl}
+use mathlib.Core.Path.{_≡_, refl, ap, _∙_}
 use mathlib.Core.Bool.{Bool, true, false, cond}
 use mathlib.Core.Logic.{∥∥₁-map}
-use mathlib.Core.List.{List, [], _∷_, _++_, Perm, List·Permᴰ, List·Permᴰ·nil, List·Permᴰ·cons, List·Permᴰ·swap, List·Permᴰ·trans, Permᴰ·refl}
-use Rattle.d64spec.specs.Lists.{count, filter}
+use mathlib.Core.List.{List, [], _∷_, _++_, map, Perm, List·Permᴰ, List·Permᴰ·nil, List·Permᴰ·cons, List·Permᴰ·swap, List·Permᴰ·trans, Permᴰ·refl}
+use lib.ListN.{getD}
+use Rattle.d64spec.specs.Lists.{count, filter, range}
 
 module _ {A : Type 0} where
   one-more : (c : Bool) (a : A) {l m : List A} → List·Permᴰ l m → List·Permᴰ (cond c (a ∷ l) l) (cond c (a ∷ m) m)
@@ -36,3 +37,9 @@ count-append n (x ∷ a) b = omega (arith, count-append n a b)
 -- what is not positive
 pub zero-of-none : (k : ℕ) → (0 < k → ⊥) → k ≡ 0
 zero-of-none k h = omega arith
+
+-- element i of a function along a range
+pub getD-map-range : {A : Type 0} (f : ℕ → A) (a n i : ℕ) (z : A) → i < n → getD (map f (range a n)) i z ≡ f (a + i)
+getD-map-range f a zero i z h = absurd (omega arith)
+getD-map-range f a (suc n) zero z h = ap f (omega arith)
+getD-map-range f a (suc n) (suc i) z h = getD-map-range f (suc a) n i z (omega arith) ∙ ap f (omega arith)

@@ -1,12 +1,12 @@
 -- Slots are numbered through the directory in link order, eight to a sector, empty ones counted, and from 0 to 143 (01, Answer numbers).
-use Prim.Native.Nat.{ℕ, zero, suc, _+_, _*_, _-_, _/_, _%_, _<_}
+use Prim.Native.Nat.{ℕ, suc, _+_, _*_, _-_, _/_, _%_, _<_}
 use native.Mathlib.Omega.{arith}
 use native.Mathlib.Decide.{decLe}
 use mathlib.Core.Path.{_≡_, refl, sym, ap, ap₂, _∙_}
-use mathlib.Core.List.{List, [], _∷_, _++_, map, List·Memᴰ, List·Memᴰ·head, List·Memᴰ·tail}
+use mathlib.Core.List.{List, [], _∷_, _++_, List·Memᴰ, List·Memᴰ·head, List·Memᴰ·tail}
 use lib.ListN.{length, getD, List·getD-append}
 use lib.Seq.{getD-append-add}
-use Rattle.d64spec.specs.Lists.{Bytes, range}
+use Rattle.d64spec.specs.Lists.{Bytes}
 use Rattle.d64spec.specs.Answers.{Address, done}
 use Rattle.d64spec.specs.Geometry.{Geometry, Valid, directoryStart, layout35, mapAddress, sectorNumber, sectorsOn}
 use Rattle.d64spec.specs.Image.{Disk, disk}
@@ -15,17 +15,13 @@ use Rattle.d64spec.specs.Directory.{Slot, directorySectors, slotIn, slot
 use Rattle.d64spec.specs.Check.{checkDirectory}
 use Rattle.d64spec.specs.Accepted.{Accepted, AcceptedDisk}
 use Rattle.d64spec.specs.Facts.{Numbered, slotsMost}
+use Rattle.d64spec.proofs.ListLaws.{getD-map-range}
 use Rattle.d64spec.proofs.WalkLaws.{Walked, walk-sound}
 use Rattle.d64spec.proofs.ScratchLaws.{claimCount-of}
 use Rattle.d64spec.proofs.ListingLaws.{directory-few, slots-length}
 use Rattle.d64spec.proofs.RunTheorem.{valid35}
 
 -- ---- lists
-
-getD-map-range : {A : Type 0} (f : ℕ → A) (a n i : ℕ) (z : A) → i < n → getD (map f (range a n)) i z ≡ f (a + i)
-getD-map-range f a zero i z h = absurd (omega arith)
-getD-map-range f a (suc n) zero z h = ap f (omega arith)
-getD-map-range f a (suc n) (suc i) z h = getD-map-range f (suc a) n i z (omega arith) ∙ ap f (omega arith)
 
 -- an element is the one at its place
 pub mem-at : {A : Type 0} {x : A} {l : List A} (z : A) → List·Memᴰ x l → (i : ℕ) × (i < length l) × (getD l i z ≡ x)

@@ -1,0 +1,5 @@
+pub mod BitChangeLaws
+pub mod EntryChangeLaws
+pub mod MapChangeLaws
+pub mod SectorLaws
+pub mod FollowLaws

@@ -1,0 +1,4 @@
+pub mod BelowLaws
+pub mod BitLaws
+pub mod ShapeLaws
+pub mod OnesLaws

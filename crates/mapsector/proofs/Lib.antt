@@ -1,0 +1,5 @@
+pub mod FillLaws
+pub mod JoinLaws
+pub mod MapShapeLaws
+pub mod LoadLaws
+pub mod SaveLaws
