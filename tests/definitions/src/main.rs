@@ -27,18 +27,25 @@ fn main() {
     println!("{} cases of {images} images from seed {seed}", rows.len());
 }
 
-/// The cases of so many images, each of a kind and a seed drawn anew.
+/// The cases of so many images, each of a kind and a seed drawn anew. The
+/// first two have no file and one file, so that a store and a scratch are
+/// among the cases.
 fn draw_rows(seed: u64, images: usize) -> Vec<Row> {
     let rng = &mut Rng::new(seed);
     let kinds = kinds();
     let mut rows = Vec::new();
     let mut taken = 0;
     while taken < images {
-        let (kind, at) = (rng.pick(&kinds), rng.draw() % 1_000_000);
+        let (kind, most) = match taken {
+            0 => ("fresh".to_string(), 0),
+            1 => ("few".to_string(), 1),
+            _ => (rng.pick(&kinds), rows::MOST_FILES),
+        };
+        let at = rng.draw() % 1_000_000;
         let Some(made) = generate(&kind, at) else {
             continue;
         };
-        if made.image.len() == IMAGE_BYTES && rows::is_small(&made.image) {
+        if made.image.len() == IMAGE_BYTES && rows::occupied(&made.image) <= most {
             rows.extend(rows::of_image(&kind, at, &made.image));
             taken += 1;
         }

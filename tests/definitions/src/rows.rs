@@ -20,10 +20,7 @@ const LENGTHS: [usize; 4] = [0, 254, 255, 1000];
 
 /// Images with more files than this are left out: the prover computes the
 /// owners anew for every bit of the map.
-const MOST_FILES: usize = 12;
-
-/// With more files than this no store and no scratch is computed.
-const MOST_FILES_WRITTEN: usize = 1;
+pub const MOST_FILES: usize = 8;
 
 /// One case: where it comes from, and its term.
 pub struct Row {
@@ -41,13 +38,8 @@ impl Row {
     }
 }
 
-/// Whether an image is cheap enough to compute on.
-pub fn is_small(image: &[u8]) -> bool {
-    occupied(image) <= MOST_FILES
-}
-
 /// The occupied slots of the sectors that the directory's links lead to.
-fn occupied(image: &[u8]) -> usize {
+pub fn occupied(image: &[u8]) -> usize {
     let mut sector = 1;
     let mut found = 0;
     for _ in 0..18 {
@@ -65,7 +57,7 @@ fn occupied(image: &[u8]) -> usize {
 }
 
 /// The cases of one image: its check and its listing, and where it is
-/// accepted a store and a scratch.
+/// accepted a store if it has no file, and a scratch if it has one.
 pub fn of_image(kind: &str, seed: u64, image: &[u8]) -> Vec<Row> {
     let answer = check(image);
     let mut rows = vec![
@@ -82,9 +74,11 @@ pub fn of_image(kind: &str, seed: u64, image: &[u8]) -> Vec<Row> {
             format!("{} {}", sectors(image), numbers(&sleeve_output(image))),
         ),
     ];
-    if answer.number == 0 && occupied(image) <= MOST_FILES_WRITTEN {
-        rows.extend(store_row(kind, seed, image));
-        rows.extend(scratch_row(kind, seed, image));
+    // with more files a write takes the prover more steps than it has
+    match occupied(image) {
+        0 if answer.number == 0 => rows.extend(store_row(kind, seed, image)),
+        1 if answer.number == 0 => rows.extend(scratch_row(kind, seed, image)),
+        _ => {}
     }
     rows
 }
@@ -116,10 +110,11 @@ fn store_row(kind: &str, seed: u64, image: &[u8]) -> Option<Row> {
         return None;
     }
     let rest = format!(
-        "{} {} {file_kind} {length} {}",
+        "{} {} {file_kind} {length} {} {}",
         disk(image),
         numbers(name),
-        disk(&after)
+        disk(&after),
+        changed(image, &after)
     );
     Some(row(kind, seed, "stores", rest))
 }
@@ -135,7 +130,13 @@ fn scratch_row(kind: &str, seed: u64, image: &[u8]) -> Option<Row> {
         kind,
         seed,
         "scratches",
-        format!("{} {} {}", disk(image), numbers(&name), disk(&after)),
+        format!(
+            "{} {} {} {}",
+            disk(image),
+            numbers(&name),
+            disk(&after),
+            changed(image, &after)
+        ),
     ))
 }
 
@@ -191,6 +192,19 @@ fn links(image: &[u8]) -> String {
         .map(|n| (n, image[256 * n], image[256 * n + 1]))
         .filter(|&(_, a, b)| (a, b) != (0, 0))
         .map(|(n, a, b)| format!("{n} ∷ {a} ∷ {b} ∷ "))
+        .collect();
+    format!("({text}[])")
+}
+
+/// The sectors off track 18 that differ, as number and runs of what stands
+/// there after the call.
+fn changed(before: &[u8], after: &[u8]) -> String {
+    let first = TRACK_18_OFFSET / 256;
+    let last = first + TRACK_18_BYTES / 256;
+    let text: String = (0..IMAGE_BYTES / 256)
+        .filter(|n| !(first..last).contains(n))
+        .filter(|n| before[256 * n..256 * n + 256] != after[256 * n..256 * n + 256])
+        .map(|n| format!("({n} ∷ {}) ∷ ", run_lengths(&after[256 * n..256 * n + 256])))
         .collect();
     format!("({text}[])")
 }
