@@ -50,6 +50,7 @@ pub mod OrderTheorem
 pub mod NumberLaws
 pub mod ExactTheorem
 pub mod OwnerTheorem
+pub mod OwnerExact
 pub mod SlotBounds
 pub mod PlaceLaws
 pub mod WidthTheorem

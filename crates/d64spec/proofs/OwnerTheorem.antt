@@ -21,11 +21,11 @@ use Rattle.d64spec.proofs.ListLaws.{count-append}
 use Rattle.d64spec.proofs.ScratchLaws.{claimCount-of}
 
 module _ (g : Geometry) (n : ℕ) where
-  count-file : (f : File) (fs : List File) → count n (fileClaims g (f ∷ fs)) ≡ count n (map (sectorNumber g) (f .sectors)) + count n (fileClaims g fs)
+  pub count-file : (f : File) (fs : List File) → count n (fileClaims g (f ∷ fs)) ≡ count n (map (sectorNumber g) (f .sectors)) + count n (fileClaims g fs)
   count-file f fs = count-append n (map (sectorNumber g) (f .sectors)) (fileClaims g fs)
 
   -- a claimed sector is that of a file
-  claimant : (fs : List File) → 0 < count n (fileClaims g fs) → (f : File) × List·Memᴰ f fs × Among g n (f .sectors)
+  pub claimant : (fs : List File) → 0 < count n (fileClaims g fs) → (f : File) × List·Memᴰ f fs × Among g n (f .sectors)
   claimant [] h = absurd (omega arith)
   claimant (f ∷ fs) h = elim (decLe 1 (count n (map (sectorNumber g) (f .sectors)))) [
     | yes k ↦ (f, List·Memᴰ·head refl, k)
@@ -94,7 +94,7 @@ marked-nobody g d a t s l h b = a .marks t l h .free s b
 
 -- ---- 35 tracks
 
-tracks35 : tracks layout35 ≡ 35
+pub tracks35 : tracks layout35 ≡ 35
 unfolding tracks layout35
 tracks35 = refl
 
