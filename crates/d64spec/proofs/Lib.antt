@@ -58,3 +58,4 @@ pub mod FormatTheorem
 pub mod ReadTheorem
 pub mod FormatStore
 pub mod RefusalTheorem
+pub mod GivenBack

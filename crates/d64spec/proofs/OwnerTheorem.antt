@@ -35,7 +35,7 @@ module _ (g : Geometry) (n : ℕ) where
   among-same : (f f′ : File) → f ≡ f′ → Among g n (f .sectors) → Among g n (f′ .sectors)
   among-same f f′ e h = rw e at h
 
-  claims-some : {f : File} (fs : List File) → List·Memᴰ f fs → Among g n (f .sectors) → 0 < count n (fileClaims g fs)
+  pub claims-some : {f : File} (fs : List File) → List·Memᴰ f fs → Among g n (f .sectors) → 0 < count n (fileClaims g fs)
   claims-some {f} (y ∷ fs) (List·Memᴰ·head e) h = omega (arith, count-file y fs, among-same f y e h)
   claims-some (y ∷ fs) (List·Memᴰ·tail m) h = omega (arith, count-file y fs, claims-some fs m h)
 
@@ -47,10 +47,10 @@ module _ (g : Geometry) (n : ℕ) where
   claimant-one (y ∷ fs) u (List·Memᴰ·tail m) h (List·Memᴰ·tail m′) h′ = claimant-one fs (omega (arith, count-file y fs)) m h m′ h′
 
 module _ (g : Geometry) (d : Disk) (n : ℕ) where
-  map-claims : Owns g d theMap n → indicator (eqb n (sectorNumber g mapAddress)) ≡ 1
+  pub map-claims : Owns g d theMap n → indicator (eqb n (sectorNumber g mapAddress)) ≡ 1
   map-claims h = rw (eq-eqb n (sectorNumber g mapAddress) h)
 
-  some-owner : (o : Owner) × Owns g d o n
+  pub some-owner : (o : Owner) × Owns g d o n
   some-owner = go (eqb n (sectorNumber g mapAddress)) refl
     where
       go : (b : Bool) → eqb n (sectorNumber g mapAddress) ≡ b → (o : Owner) × Owns g d o n
