@@ -87,7 +87,7 @@ module _ (g : Geometry) (img : Bytes) (q : Request) (n : ℕ) where
 
   -- a call that leaves the image gives back none
   same-image : (serve g img q .number ≡ 0 → after g img q ≡ img) → GivesBack g img q n → ⊥
-  same-image same b = let f : claimCount g (disk img) n ≡ 0 = rw (same (b .answered)) at (b .freed) in omega (arith, b .owned)
+  same-image same b = let z : claimCount g (disk (after g img q)) n ≡ claimCount g (disk img) n = ap (λ (x : Bytes). claimCount g (disk x) n) (same (b .answered)) in omega (arith, b .owned, b .freed)
 
   -- A CHECK GIVES BACK NONE
   pub check-gives-none : q .call ≡ check → GivesBack g img q n → ⊥
@@ -115,8 +115,8 @@ module _ (g : Geometry) (img : Bytes) (q : Request) (n : ℕ) where
         let k = leaves g img name kind bs (w .change) (w .attempted) (t .place) (t .start) (t .others) (t .found) (t .sectors) v a in
         let z : disk (after g img q) ≡ _ = ap disk (w .image ∙ ap (λ (x : Change). x .imageAfter) (store-change g img name kind bs (w .change) (w .attempted) (t .place) (t .start) (t .others) (t .found) (t .sectors)))
         ∙ after-disk g v img a _ (addedSectors (t .place) ++ (t .start ∷ t .others)) (k .prepared) in
-        let none = ap (λ (x : Disk). claimCount g x n) (sym z) ∙ b .freed in
-        omega (arith, b .owned, k .claims n)
+        let same = ap (λ (x : Disk). claimCount g x n) z in
+        omega (arith, b .owned, b .freed, k .claims n)
 
     -- ---- scratch
 
