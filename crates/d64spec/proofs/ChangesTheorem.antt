@@ -52,7 +52,7 @@ scratched-slot g v img a small o =
     }
 
 -- the file that a scratch finds is the one of that name
-scratch-change : (g : Geometry) (img : Bytes) → Accepted g img → (name : Bytes) (ch : Change) → callScratch g img name ≡ done ch → (f : File) → List·Memᴰ f (files g (disk img)) → nameOf (f .slot .bytes) ≡ name
+pub scratch-change : (g : Geometry) (img : Bytes) → Accepted g img → (name : Bytes) (ch : Change) → callScratch g img name ≡ done ch → (f : File) → List·Memᴰ f (files g (disk img)) → nameOf (f .slot .bytes) ≡ name
     → ch ≡ scratchChange g img f
 scratch-change g img a name ch e f m is =
     let h = scratch-done g img name ch e in
@@ -88,7 +88,7 @@ module _ (g : Geometry) (img name : Bytes) (kind : ℕ) (bs : Bytes) (ch : Chang
   store-size : sectorsNeeded (length bs) ≡ length (r ∷ l)
   store-size = sym (store-enough told) ∙ ap length takes
 
-  store-change : ch ≡ changed (image g (storedDisk g (disk img) place (r ∷ l) name kind bs)) (length bs) (sectorsNeeded (length bs))
+  pub store-change : ch ≡ changed (image g (storedDisk g (disk img) place (r ∷ l) name kind bs)) (length bs) (sectorsNeeded (length bs))
   store-change =
       sym (told .change)
       ∙ ap₂ (λ (x : SlotPlace) (y : List Address). changed (image g (storedDisk g (disk img) x y name kind bs)) (length bs) (sectorsNeeded (length bs))) (done-inj (sym (told .found) ∙ found)) takes
@@ -102,7 +102,7 @@ module _ (g : Geometry) (img name : Bytes) (kind : ℕ) (bs : Bytes) (ch : Chang
     abbrev e2 : Disk
     e2 = writeSlot g (writeChain g (r ∷ l) bs (disk img)) place (newEntry name kind r (length (r ∷ l)))
 
-    leaves : StoreLeaves g (disk img) e2 place (r ∷ l) (newEntry name kind r (length (r ∷ l))) (record { name = name; kind = kind; content = bs })
+    pub leaves : StoreLeaves g (disk img) e2 place (r ∷ l) (newEntry name kind r (length (r ∷ l))) (record { name = name; kind = kind; content = bs })
     leaves =
         stored g v img a name kind bs (told .asked) (told .kind-asked) (store-new told) r l (subst (Taken g (disk img)) takes (placement-taken g (disk img) (sectorsNeeded (length bs))))
         (sectors-fit (r ∷ l) (length bs) store-size) place (place-case g (disk img) place found)

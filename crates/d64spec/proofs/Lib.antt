@@ -50,6 +50,7 @@ pub mod OrderTheorem
 pub mod NumberLaws
 pub mod ExactTheorem
 pub mod OwnerTheorem
+pub mod OwnerExact
 pub mod SlotBounds
 pub mod PlaceLaws
 pub mod WidthTheorem
@@ -58,3 +59,4 @@ pub mod ReadTheorem
 pub mod FormatStore
 pub mod RefusalTheorem
 pub mod LinkTheorem
+pub mod GivenBack

@@ -21,11 +21,11 @@ use Rattle.d64spec.proofs.ListLaws.{count-append}
 use Rattle.d64spec.proofs.ScratchLaws.{claimCount-of}
 
 module _ (g : Geometry) (n : ℕ) where
-  count-file : (f : File) (fs : List File) → count n (fileClaims g (f ∷ fs)) ≡ count n (map (sectorNumber g) (f .sectors)) + count n (fileClaims g fs)
+  pub count-file : (f : File) (fs : List File) → count n (fileClaims g (f ∷ fs)) ≡ count n (map (sectorNumber g) (f .sectors)) + count n (fileClaims g fs)
   count-file f fs = count-append n (map (sectorNumber g) (f .sectors)) (fileClaims g fs)
 
   -- a claimed sector is that of a file
-  claimant : (fs : List File) → 0 < count n (fileClaims g fs) → (f : File) × List·Memᴰ f fs × Among g n (f .sectors)
+  pub claimant : (fs : List File) → 0 < count n (fileClaims g fs) → (f : File) × List·Memᴰ f fs × Among g n (f .sectors)
   claimant [] h = absurd (omega arith)
   claimant (f ∷ fs) h = elim (decLe 1 (count n (map (sectorNumber g) (f .sectors)))) [
     | yes k ↦ (f, List·Memᴰ·head refl, k)
@@ -35,7 +35,7 @@ module _ (g : Geometry) (n : ℕ) where
   among-same : (f f′ : File) → f ≡ f′ → Among g n (f .sectors) → Among g n (f′ .sectors)
   among-same f f′ e h = rw e at h
 
-  claims-some : {f : File} (fs : List File) → List·Memᴰ f fs → Among g n (f .sectors) → 0 < count n (fileClaims g fs)
+  pub claims-some : {f : File} (fs : List File) → List·Memᴰ f fs → Among g n (f .sectors) → 0 < count n (fileClaims g fs)
   claims-some {f} (y ∷ fs) (List·Memᴰ·head e) h = omega (arith, count-file y fs, among-same f y e h)
   claims-some (y ∷ fs) (List·Memᴰ·tail m) h = omega (arith, count-file y fs, claims-some fs m h)
 
@@ -47,10 +47,10 @@ module _ (g : Geometry) (n : ℕ) where
   claimant-one (y ∷ fs) u (List·Memᴰ·tail m) h (List·Memᴰ·tail m′) h′ = claimant-one fs (omega (arith, count-file y fs)) m h m′ h′
 
 module _ (g : Geometry) (d : Disk) (n : ℕ) where
-  map-claims : Owns g d theMap n → indicator (eqb n (sectorNumber g mapAddress)) ≡ 1
+  pub map-claims : Owns g d theMap n → indicator (eqb n (sectorNumber g mapAddress)) ≡ 1
   map-claims h = rw (eq-eqb n (sectorNumber g mapAddress) h)
 
-  some-owner : (o : Owner) × Owns g d o n
+  pub some-owner : (o : Owner) × Owns g d o n
   some-owner = go (eqb n (sectorNumber g mapAddress)) refl
     where
       go : (b : Bool) → eqb n (sectorNumber g mapAddress) ≡ b → (o : Owner) × Owns g d o n
@@ -94,7 +94,7 @@ marked-nobody g d a t s l h b = a .marks t l h .free s b
 
 -- ---- 35 tracks
 
-tracks35 : tracks layout35 ≡ 35
+pub tracks35 : tracks layout35 ≡ 35
 unfolding tracks layout35
 tracks35 = refl
 

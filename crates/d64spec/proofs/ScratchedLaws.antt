@@ -48,7 +48,7 @@ module _ (g : Geometry) (v : Valid g) (d : Disk) (w : Whole g d) (a : Sound g d)
   pub scratch-plainList : plainList g d3 ≡ filter (λ x. not (equal (nameOf (o .slot .bytes)) (x .name))) (plainList g d)
   scratch-plainList = rewrite-plainList g v d2 (prepared .whole) (prepared .sound) ∙ sym (ScratchLaws.kept-plainList g v d w a o)
 
-  claims3 : (n : ℕ) → claimCount g d3 n ≡ claimCount g d2 n
+  pub claims3 : (n : ℕ) → claimCount g d3 n ≡ claimCount g d2 n
   claims3 = rewrite-claims g v d2 (prepared .whole) (prepared .sound)
 
   claims2 : (n : ℕ) → claimCount g d2 n + count n (map (sectorNumber g) (f .sectors)) ≡ claimCount g d n

@@ -1,20 +1,20 @@
 -- What the theorems say that are not about one definition alone (01; demand 2): records that their statements name.
--- In order: refusals (proofs/RefusalTheorem); owners (OwnerTheorem); slots (SlotBounds); the answer block (WidthTheorem); a formatted disk (FormatTheorem); files, read and told (ReadTheorem).
+-- In order: refusals (proofs/RefusalTheorem); owners (OwnerTheorem, OwnerExact); slots (SlotBounds); the answer block (WidthTheorem); a formatted disk (FormatTheorem); files, read and told (ReadTheorem).
 use Prim.Native.Nat.{ℕ, _+_, _*_, _-_, _/_, _%_, _≤_, _<_}
 use mathlib.Core.Path.{_≡_}
 use mathlib.Core.Bool.{true}
 use mathlib.Core.Logic.{_⊎_, _↔_}
-use mathlib.Core.List.{List, [], _∷_, _++_, List·Memᴰ}
+use mathlib.Core.List.{List, [], _∷_, _++_, map, List·Memᴰ}
 use lib.ListN.{length, drop, getD}
-use Rattle.d64spec.specs.Lists.{Bytes, byte, part, splice, zeros}
+use Rattle.d64spec.specs.Lists.{All, Bytes, byte, nameCount, part, splice, zeros}
 use Rattle.d64spec.specs.Answers.{Address, Answer, address}
 use Rattle.d64spec.specs.Geometry.{Geometry, directoryStart, mapAddress, sectorNumber, sectorsOn, total, tracks}
 use Rattle.d64spec.specs.Image.{Disk, disk}
-use Rattle.d64spec.specs.Chain.{chainData}
-use Rattle.d64spec.specs.Directory.{File, Slot, entryByte, files, nameOf, padded, plainEntryOf, plainList}
-use Rattle.d64spec.specs.Owner.{Owner, Owns}
-use Rattle.d64spec.specs.Map.{expectedEntry, mapBit}
-use Rattle.d64spec.specs.Accepted.{Accepted}
+use Rattle.d64spec.specs.Chain.{Chain, chainData, directoryLink, to}
+use Rattle.d64spec.specs.Directory.{File, Slot, directorySectors, entryByte, files, nameOf, padded, plainEntryOf, plainList}
+use Rattle.d64spec.specs.Owner.{Owner, Owns, nobody}
+use Rattle.d64spec.specs.Map.{expectedEntry, mapBit, mapOnes}
+use Rattle.d64spec.specs.Accepted.{Accepted, ValidEntry}
 use Rattle.d64spec.specs.Reply.{Change, Reply, writable}
 use Rattle.d64spec.specs.Format.{freeAfterFormat}
 use Rattle.d64spec.specs.Read.{FileInformation}
@@ -38,6 +38,19 @@ pub record OneOwner (g : Geometry) (d : Disk) (n : ℕ) : Type 0 where
   pub owner : Owner
   pub owns : Owns g d owner n
   pub only : (o : Owner) → Owns g d o n → o ≡ owner
+
+-- DEMAND 2, IN ITS OWN WORDS: the published layout of so many tracks and sectors, with document 01's entry rules; each sector has exactly one owner; and the map
+-- marks exactly nobody's sectors free (01, The map: its bits, its counts, the bits past a track's last sector). No claim is counted here: proofs/OwnerExact
+pub record DemandTwo (g : Geometry) (trackTotal sectorTotal : ℕ) (img : Bytes) : Type 0 where
+  pub size : length img ≡ 256 * sectorTotal
+  pub directory : Chain g (directoryLink g) (disk img) (to directoryStart) (directorySectors g (disk img))
+  pub entry : All (ValidEntry g (disk img)) (files g (disk img))
+  pub names : (n : Bytes) → nameCount n (map (λ f. nameOf (f .slot .bytes)) (files g (disk img))) ≤ 1  -- no two files share a name
+  pub owner : (n : ℕ) → n < sectorTotal → OneOwner g (disk img) n
+  pub marks : (t s : ℕ) → 1 ≤ t → t ≤ trackTotal → s < sectorsOn g t
+      → (mapBit g (disk img (sectorNumber g mapAddress)) t s ≡ 1) ↔ Owns g (disk img) nobody (sectorNumber g (address t s))
+  pub counts : (t : ℕ) → 1 ≤ t → t ≤ trackTotal → byte (disk img (sectorNumber g mapAddress)) (g .mapAt t) ≡ mapOnes g (disk img (sectorNumber g mapAddress)) t
+  pub past : (t s : ℕ) → 1 ≤ t → t ≤ trackTotal → sectorsOn g t ≤ s → s < 24 → mapBit g (disk img (sectorNumber g mapAddress)) t s ≡ 0
 
 -- ---- slots
 
