@@ -57,3 +57,4 @@ pub mod FormatTheorem
 pub mod ReadTheorem
 pub mod FormatStore
 pub mod RefusalTheorem
+pub mod RoomLaws
