@@ -58,3 +58,4 @@ pub mod ReadTheorem
 pub mod FormatStore
 pub mod RefusalTheorem
 pub mod RoomLaws
+pub mod PlaceTheorem

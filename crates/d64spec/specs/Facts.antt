@@ -1,18 +1,18 @@
 -- What the theorems say that are not about one definition alone (01; demand 2): records that their statements name.
--- In order: refusals (proofs/RefusalTheorem); owners (OwnerTheorem); slots (SlotBounds); the answer block (WidthTheorem); a formatted disk (FormatTheorem); files, read and told (ReadTheorem).
+-- In order: refusals (proofs/RefusalTheorem); owners (OwnerTheorem); slots (SlotBounds); what a store takes (PlaceTheorem); the answer block (WidthTheorem); a formatted disk (FormatTheorem); files, read and told (ReadTheorem).
 use Prim.Native.Nat.{ℕ, _+_, _*_, _-_, _/_, _%_, _≤_, _<_}
 use mathlib.Core.Path.{_≡_}
-use mathlib.Core.Bool.{true}
+use mathlib.Core.Bool.{true, false}
 use mathlib.Core.Logic.{_⊎_, _↔_}
 use mathlib.Core.List.{List, [], _∷_, _++_, List·Memᴰ}
 use lib.ListN.{length, drop, getD}
-use Rattle.d64spec.specs.Lists.{Bytes, byte, part, splice, zeros}
+use Rattle.d64spec.specs.Lists.{All, Bytes, byte, filter, part, splice, zeros}
 use Rattle.d64spec.specs.Answers.{Address, Answer, address}
-use Rattle.d64spec.specs.Geometry.{Geometry, directoryStart, mapAddress, sectorNumber, sectorsOn, total, tracks}
+use Rattle.d64spec.specs.Geometry.{Geometry, allocationOrder, directoryStart, mapAddress, sectorNumber, sectorsOn, total, tracks}
 use Rattle.d64spec.specs.Image.{Disk, disk}
 use Rattle.d64spec.specs.Chain.{chainData}
-use Rattle.d64spec.specs.Directory.{File, Slot, entryByte, files, nameOf, padded, plainEntryOf, plainList}
-use Rattle.d64spec.specs.Owner.{Owner, Owns}
+use Rattle.d64spec.specs.Directory.{File, Slot, directorySectors, entryByte, files, isEmpty, nameOf, padded, plainEntryOf, plainList, slotsFrom}
+use Rattle.d64spec.specs.Owner.{Free, Owner, Owns, isFree}
 use Rattle.d64spec.specs.Map.{expectedEntry, mapBit}
 use Rattle.d64spec.specs.Accepted.{Accepted}
 use Rattle.d64spec.specs.Reply.{Change, Reply, writable}
@@ -51,6 +51,33 @@ pub record Numbered (g : Geometry) (d : Disk) (l : List Address) (i : ℕ) (s : 
 -- the slots that a directory can have: eight in each sector of track 18 but 18/0
 abbrev pub slotsMost : Geometry → ℕ
 slotsMost g = 8 * (sectorsOn g 18 - 1)
+
+-- ---- what a store takes
+
+-- the first empty slot (01, Store): empty, and no slot of the directory before it is
+pub record FirstEmptySlot (g : Geometry) (d : Disk) (s : Slot) : Type 0 where
+  pub front : List Slot
+  pub back : List Slot
+  pub whole : slotsFrom g d 0 (directorySectors g d) ≡ front ++ s ∷ back
+  pub empty : isEmpty (s .bytes) ≡ true
+  pub before : All (λ x. isEmpty (x .bytes) ≡ false) front
+
+-- the lowest free sector of track 18, where no slot of the directory is empty (01, Store)
+pub record LowestFree (g : Geometry) (d : Disk) (r : Address) : Type 0 where
+  pub full : (s : Slot) → List·Memᴰ s (slotsFrom g d 0 (directorySectors g d)) → isEmpty (s .bytes) ≡ false
+  pub sector : ℕ
+  pub isThat : r ≡ address 18 sector
+  pub onTrack : sector < sectorsOn g 18
+  pub free : Free g d (sectorNumber g (address 18 sector))
+  pub lower : (s : ℕ) → s < sector → Free g d (sectorNumber g (address 18 s)) → ⊥
+
+-- the first k free sectors in house order (01, Store): the order up to some place has exactly these free ones, so that none is passed over
+pub record FirstFree (g : Geometry) (d : Disk) (k : ℕ) (l : List Address) : Type 0 where
+  pub front : List Address
+  pub back : List Address
+  pub whole : allocationOrder g ≡ front ++ back
+  pub taken : l ≡ filter (isFree g d) front
+  pub many : length l ≡ k
 
 -- ---- the answer block
 
