@@ -59,3 +59,4 @@ pub mod FormatStore
 pub mod RefusalTheorem
 pub mod RoomLaws
 pub mod PlaceTheorem
+pub mod ListingTheorem

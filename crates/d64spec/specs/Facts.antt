@@ -1,5 +1,5 @@
 -- What the theorems say that are not about one definition alone (01; demand 2): records that their statements name.
--- In order: refusals (proofs/RefusalTheorem); owners (OwnerTheorem); slots (SlotBounds); what a store takes (PlaceTheorem); the answer block (WidthTheorem); a formatted disk (FormatTheorem); files, read and told (ReadTheorem).
+-- In order: refusals (proofs/RefusalTheorem); owners (OwnerTheorem); slots (SlotBounds); what a store takes (PlaceTheorem); the answer block (WidthTheorem); a formatted disk (FormatTheorem); files, read and told (ReadTheorem); the sleeve listing and its program (ListingTheorem).
 use Prim.Native.Nat.{ℕ, _+_, _*_, _-_, _/_, _%_, _≤_, _<_}
 use mathlib.Core.Path.{_≡_}
 use mathlib.Core.Bool.{true, false}
@@ -7,11 +7,11 @@ use mathlib.Core.Logic.{_⊎_, _↔_}
 use mathlib.Core.List.{List, [], _∷_, _++_, List·Memᴰ}
 use lib.ListN.{length, drop, getD}
 use Rattle.d64spec.specs.Lists.{All, Bytes, byte, filter, part, splice, zeros}
-use Rattle.d64spec.specs.Answers.{Address, Answer, address}
+use Rattle.d64spec.specs.Answers.{Address, Answer, Fault, address, answerOf}
 use Rattle.d64spec.specs.Geometry.{Geometry, allocationOrder, directoryStart, mapAddress, sectorNumber, sectorsOn, total, tracks}
 use Rattle.d64spec.specs.Image.{Disk, disk}
 use Rattle.d64spec.specs.Chain.{chainData}
-use Rattle.d64spec.specs.Directory.{File, Slot, directorySectors, entryByte, files, isEmpty, nameOf, padded, plainEntryOf, plainList, slotsFrom}
+use Rattle.d64spec.specs.Directory.{File, Slot, directorySectors, entryByte, files, isEmpty, nameOf, occupied, padded, plainEntryOf, plainList, slotsFrom}
 use Rattle.d64spec.specs.Owner.{Free, Owner, Owns, isFree}
 use Rattle.d64spec.specs.Map.{expectedEntry, mapBit}
 use Rattle.d64spec.specs.Accepted.{Accepted}
@@ -19,7 +19,9 @@ use Rattle.d64spec.specs.Reply.{Change, Reply, writable}
 use Rattle.d64spec.specs.Format.{freeAfterFormat}
 use Rattle.d64spec.specs.Read.{FileInformation}
 use Rattle.d64spec.specs.Store.{lastOf}
+use Rattle.d64spec.specs.Listing.{listingText, track18}
 use Rattle.d64spec.specs.Host.{HostReply}
+use Rattle.d64spec.specs.Order.{FirstFails, listingConditions}
 
 -- ---- refusals
 
@@ -178,3 +180,17 @@ pub record WasTold (g : Geometry) (img : Bytes) (position : ℕ) (i : FileInform
   pub first : file .sectors ≡ address (i .firstTrack) (i .firstSector) ∷ further
   pub sectorCount : i .sectorCount ≡ length (file .sectors)
   pub byteLength : i .byteLength ≡ length (chainData g (disk img) (file .sectors))
+
+-- ---- the sleeve listing and its program
+
+-- the text of a listing of track 18's bytes: its occupied slots, in order (01, Sleeve listing)
+abbrev pub textOf : Geometry → Bytes → Bytes
+textOf g b = listingText g (track18 g b) (occupied g (track18 g b))
+
+-- what the program prints where a listing of these bytes is refused: the two digits of the first fault's number, which is 2 to 6, and LF (01, Sleeve listing)
+pub record SleeveRefused (g : Geometry) (b out printed : Bytes) : Type 0 where
+  pub fault : Fault
+  pub first : FirstFails (listingConditions g b out) fault
+  pub low : 2 ≤ answerOf fault .number
+  pub high : answerOf fault .number ≤ 6
+  pub line : printed ≡ 0x30 ∷ (0x30 + answerOf fault .number) ∷ 0x0A ∷ []
