@@ -14,7 +14,7 @@ use borrow.Author.Tests.{eq-eqb, le-leb}
 use Rattle.d64spec.specs.Lists.{All, Bytes, equal, indicator, nameCount, splice}
 use Rattle.d64spec.specs.Answers.{Fault, answerOf, badKindArgument, directoryFull, diskFull, done, first, nameExists, notFound}
 use Rattle.d64spec.specs.Geometry.{Geometry, Valid, total}
-use Rattle.d64spec.specs.Image.{Disk, disk}
+use Rattle.d64spec.specs.Image.{disk}
 use Rattle.d64spec.specs.Chain.{chainData}
 use Rattle.d64spec.specs.Directory.{File, Slot, files, nameOf, occupied}
 use Rattle.d64spec.specs.Owner.{freeForDirectory, freeForFiles}
@@ -34,6 +34,7 @@ use Rattle.d64spec.proofs.ConditionLaws.{allHold-append, firstFails-app
 use Rattle.d64spec.proofs.FirstFault.{diskConditions-accepted}
 use Rattle.d64spec.proofs.NumberLaws.{Answers, Between, answers-imp, disk-answers, firstFails-answers, firstFails-past, listing-answers}
 use Rattle.d64spec.proofs.NamedLaws.{filesNamed-one, filesNamed-single, length-filesNamed, name-met}
+use Rattle.d64spec.proofs.RoomLaws.{noSlot-exact, some-slot}
 use Rattle.d64spec.proofs.OrderTheorem.{done-exactly, first-fault, listing-exactly, listing-some-fault, some-fault, tell-exactly}
 
 -- ---- files of a name
@@ -165,17 +166,6 @@ module _ (g : Geometry) (v : Valid g) (img : Bytes) where
 
 -- ---- a store and its room
 
--- no slot, exactly where there is neither an empty slot nor a free sector
-noSlot-exact : (g : Geometry) (d : Disk) → NoSlot g d ↔ (0 < length (emptySlots g d) + length (freeForDirectory g d) → ⊥)
-noSlot-exact g d = (
-  (λ n h. let a = ap length (n .slots) in let b = ap length (n .sectors) in omega arith),
-  (λ h. record { slots = none (emptySlots g d) (omega arith); sectors = none (freeForDirectory g d) (omega arith) }),
-)
-  where
-    none : {A : Type 0} (l : List A) → length l ≡ 0 → l ≡ []
-    none [] e = refl
-    none (x ∷ l) e = absurd (omega arith)
-
 module _ (g : Geometry) (v : Valid g) (img name : Bytes) (kind : ℕ) (bytes : Bytes) where
   -- what a store asks up to the check
   abbrev upToCheck : List Condition
@@ -213,20 +203,10 @@ module _ (g : Geometry) (v : Valid g) (img name : Bytes) (kind : ℕ) (bytes : B
   store-exact = Iff·trans (done-exactly g v img (store name kind bytes)) (
     (λ h. let w = allHold-append upToCheck (beforeRoom ++ asksRoom) .0 h in
         let u = allHold-append beforeRoom asksRoom .0 (w .1) in
-        record { admitted = admitted-exact .0 (w .0, u .0); slot = some-slot (u .1 .0); sectors = u .1 .1 .0 }),
+        record { admitted = admitted-exact .0 (w .0, u .0); slot = some-slot g (disk img) .1 (u .1 .0); sectors = u .1 .1 .0 }),
     (λ r. let a = admitted-exact .1 (r .admitted) in
-        allHold-append upToCheck (beforeRoom ++ asksRoom) .1 (a .0, allHold-append beforeRoom asksRoom .1 (a .1, (slot-some (r .slot), (r .sectors, tt))))),
+        allHold-append upToCheck (beforeRoom ++ asksRoom) .1 (a .0, allHold-append beforeRoom asksRoom .1 (a .1, (some-slot g (disk img) .0 (r .slot), (r .sectors, tt))))),
   )
-    where
-      some-slot : 0 < length (emptySlots g (disk img)) + length (freeForDirectory g (disk img)) → (0 < length (emptySlots g (disk img))) ⊎ (0 < length (freeForDirectory g (disk img)))
-      some-slot h = elim (decLe 1 (length (emptySlots g (disk img)))) [
-        | yes k ↦ inl k
-        | no k ↦ inr (omega arith)
-      ]
-
-      slot-some : (0 < length (emptySlots g (disk img))) ⊎ (0 < length (freeForDirectory g (disk img))) → 0 < length (emptySlots g (disk img)) + length (freeForDirectory g (disk img))
-      slot-some (inl h) = omega arith
-      slot-some (inr h) = omega arith
 
   -- a refusal with a number past 13 is one for room, and nothing before refuses
   room-exact : (f : Fault) → 13 < answerOf f .number → FirstFails (conditions g img (store name kind bytes)) f ↔ (Admitted g img name kind × FirstFails asksRoom f)
@@ -281,18 +261,12 @@ module _ (g : Geometry) (v : Valid g) (img name : Bytes) (kind : ℕ) (bytes : B
   store-15 = (
     (λ e. let w = refused-room (omega arith) in let r = by (w .0) (room-fault (w .0) (w .2)) (omega arith) in (w .1, r .0, r .1)),
     (λ h. let lacks = h .2 in ap (λ (r : Reply). r .answer .number)
-        (first-fault g v img (store name kind bytes) diskFull (room-exact diskFull (omega arith) .1 (h .0, inr (some-place (h .1), inl ((λ k. omega arith), refl)))))),
+        (first-fault g v img (store name kind bytes) diskFull (room-exact diskFull (omega arith) .1 (h .0, inr (some-slot g (disk img) .0 (h .1), inl ((λ k. omega arith), refl)))))),
   )
     where
       by : (f : Fault) → RoomFault f → answerOf f .number ≡ 15 → (NoSlot g (disk img) → ⊥) × (length (freeForFiles g (disk img)) < sectorsNeeded (length bytes))
       by f (slotLacks n z) e = absurd (let number : answerOf f .number ≡ 14 = rw z in omega arith)
       by f (sectorsLack n k z) e = (n, k)
-
-      some-place : (NoSlot g (disk img) → ⊥) → 0 < length (emptySlots g (disk img)) + length (freeForDirectory g (disk img))
-      some-place n = elim (decLe 1 (length (emptySlots g (disk img)) + length (freeForDirectory g (disk img)))) [
-        | yes k ↦ k
-        | no k ↦ absurd (n (noSlot-exact g (disk img) .1 k))
-      ]
 
 -- ---- the listing
 

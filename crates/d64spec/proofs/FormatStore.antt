@@ -1,10 +1,10 @@
 -- The longest file: on a formatted disk a store of 168,656 bytes is done, and one of 168,657 gives 15 (01, Examples).
-use Prim.Native.Nat.{ℕ, zero, suc, _+_, _/_, _<_}
+use Prim.Native.Nat.{ℕ}
 use native.Mathlib.Omega.{arith}
 use native.Mathlib.Bridge.{le-prop}
 use mathlib.Core.Path.{_≡_, refl, sym, ap, _∙_}
 use mathlib.Core.Bool.{true}
-use mathlib.Core.Logic.{inr, ∥∥₁-elim}
+use mathlib.Core.Logic.{∥∥₁-elim}
 use mathlib.Core.List.{List, [], _∷_, map, List·Memᴰ}
 use lib.ListN.{length}
 use Rattle.d64spec.specs.Lists.{Bytes}
@@ -13,16 +13,17 @@ use Rattle.d64spec.specs.Geometry.{Geometry, layout35}
 use Rattle.d64spec.specs.Image.{disk}
 use Rattle.d64spec.specs.Directory.{File, files, plainEntryOf, plainList}
 use Rattle.d64spec.specs.Rules.{IsKind, IsName}
-use Rattle.d64spec.specs.Owner.{freeForDirectory, freeForFiles}
+use Rattle.d64spec.specs.Owner.{freeForFiles}
 use Rattle.d64spec.specs.Reply.{writable}
 use Rattle.d64spec.specs.Format.{callFormat}
 use Rattle.d64spec.specs.Store.{sectorsNeeded}
 use Rattle.d64spec.specs.Call.{attempt, format, outputBuffer, perform, store}
-use Rattle.d64spec.specs.Exact.{Admitted, HasFile}
+use Rattle.d64spec.specs.Exact.{Admitted, HasFile, NoSlot}
 use Rattle.d64spec.proofs.RefusalLaws.{zero-change}
 use Rattle.d64spec.proofs.RuleLaws.{version-exact}
 use Rattle.d64spec.proofs.RunTheorem.{valid35}
 use Rattle.d64spec.proofs.FormatTheorem.{format-bytes35, format-free17, format-free664}
+use Rattle.d64spec.proofs.RoomLaws.{some-slot}
 use Rattle.d64spec.proofs.ExactTheorem.{store-exact, store-15}
 
 -- 254 bytes for each of 664 sectors need all of them, and one byte more needs one more
@@ -64,8 +65,8 @@ module _ (img name : Bytes) (id1 id2 : ℕ) (formatted : perform layout35 img (f
         absent = no-file layout35 after file (r .bare);
       }
 
-  slots : 0 < length (freeForDirectory layout35 (disk after))
-  slots = omega (arith, format-free17 img name id1 id2 (perform layout35 img (format name id1 id2) .change) format-is)
+  slots : NoSlot layout35 (disk after) → ⊥
+  slots = some-slot layout35 (disk after) .1 (omega (arith, format-free17 img name id1 id2 (perform layout35 img (format name id1 id2) .change) format-is))
 
   sectors : length (freeForFiles layout35 (disk after)) ≡ 664
   sectors = format-free664 img name id1 id2 (perform layout35 img (format name id1 id2) .change) format-is
@@ -74,10 +75,10 @@ module _ (img name : Bytes) (id1 id2 : ℕ) (formatted : perform layout35 img (f
   pub longest-file : length bytes ≡ 168656 → perform layout35 after (store file kind bytes) .answer .number ≡ 0
   longest-file e =
       let k : sectorsNeeded (length bytes) ≡ 664 = ap sectorsNeeded e ∙ needed-664 in
-      store-exact layout35 valid35 after file kind bytes .1 (record { admitted = admitted; slot = inr slots; sectors = omega (arith, sectors) })
+      store-exact layout35 valid35 after file kind bytes .1 (record { admitted = admitted; slot = slots; sectors = omega (arith, sectors) })
 
   -- ONE BYTE MORE GIVES 15
   pub one-byte-more : length bytes ≡ 168657 → perform layout35 after (store file kind bytes) .answer .number ≡ 15
   one-byte-more e =
       let k : sectorsNeeded (length bytes) ≡ 665 = ap sectorsNeeded e ∙ needed-665 in
-      store-15 layout35 valid35 after file kind bytes .1 (admitted, (λ n. let z = ap length (n .sectors) in let s = slots in omega arith), omega (arith, sectors))
+      store-15 layout35 valid35 after file kind bytes .1 (admitted, slots, omega (arith, sectors))

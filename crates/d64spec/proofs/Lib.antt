@@ -60,3 +60,6 @@ pub mod FormatStore
 pub mod RefusalTheorem
 pub mod LinkTheorem
 pub mod GivenBack
+pub mod RoomLaws
+pub mod PlaceTheorem
+pub mod ListingTheorem

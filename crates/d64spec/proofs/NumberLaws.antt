@@ -80,7 +80,7 @@ module _ (g : Geometry) (d : Disk) where
   map-answers [] = tt
   map-answers (t ∷ l) = ((λ f e. rw e (omega arith)), map-answers l)
 
-  directory-answers : (f : Fault) → asksDirectory g d .answers f → Between 2 3 f
+  pub directory-answers : (f : Fault) → asksDirectory g d .answers f → Between 2 3 f
   directory-answers f w = chain-answers g (directoryLink g) d (sectorNumber g mapAddress ∷ []) mapAddress 255 (to directoryStart) f w
 
   -- steps 2 to 4 of the check are refused with 2 to 8
@@ -94,7 +94,7 @@ module _ (g : Geometry) (d : Disk) where
             (answers-imp (λ f h. omega arith) (mapConditions g d (range 1 (tracks g))) (map-answers (range 1 (tracks g)))),
       )
 
-listing-slots-answers : (names : List Bytes) (l : List Slot) → Answers (Between 4 6) (listingSlots names l)
+pub listing-slots-answers : (names : List Bytes) (l : List Slot) → Answers (Between 4 6) (listingSlots names l)
 listing-slots-answers names [] = tt
 listing-slots-answers names (s ∷ l) = answers-append (Between 4 6) (entryConditions names s) (listingSlots (nameOf (s .bytes) ∷ names) l) (entry-answers names s) (listing-slots-answers (nameOf (s .bytes) ∷ names) l)
 

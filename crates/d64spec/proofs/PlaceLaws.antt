@@ -30,7 +30,7 @@ use Rattle.d64spec.proofs.SlotBounds.{mem-at, slots-checked, slots-numb
 -- ---- lists
 
 module _ {A : Type 0} (P : A → Type 0) where
-  all-of-mem : (l : List A) → ((x : A) → List·Memᴰ x l → P x) → All P l
+  pub all-of-mem : (l : List A) → ((x : A) → List·Memᴰ x l → P x) → All P l
   all-of-mem [] f = tt
   all-of-mem (x ∷ l) f = (f x (List·Memᴰ·head refl), all-of-mem l (λ y m. f y (List·Memᴰ·tail m)))
 

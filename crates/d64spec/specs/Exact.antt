@@ -2,18 +2,19 @@
 -- In order: format; read and tell; store and its room; scratch; the listing. The theorems: proofs/ExactTheorem. The same in document 01's order: specs/Order.
 use Prim.Native.Nat.{ℕ, _*_, _≤_, _<_}
 use mathlib.Core.Path.{_≡_}
-use mathlib.Core.Bool.{true}
+use mathlib.Core.Bool.{true, false}
 use mathlib.Core.Logic.{_⊎_}
-use mathlib.Core.List.{[], _∷_, map, List·Mem}
+use mathlib.Core.List.{[], _∷_, map, List·Mem, List·Memᴰ}
 use lib.ListN.{length}
 use Rattle.d64spec.specs.Lists.{Bytes, All, nameCount}
+use Rattle.d64spec.specs.Answers.{address}
 use Rattle.d64spec.specs.Geometry.{Geometry, sectorNumber, sectorsOn, total, mapAddress, directoryStart}
 use Rattle.d64spec.specs.Image.{Disk, disk}
 use Rattle.d64spec.specs.Chain.{to, directoryLink, chainData}
-use Rattle.d64spec.specs.Directory.{Slot, File, entryByte, validType, validName, nameOf, occupied, files}
-use Rattle.d64spec.specs.Owner.{freeForFiles, freeForDirectory}
+use Rattle.d64spec.specs.Directory.{Slot, File, entryByte, validType, validName, nameOf, isEmpty, slotsFrom, directorySectors, occupied, files}
+use Rattle.d64spec.specs.Owner.{Free, freeForFiles}
 use Rattle.d64spec.specs.Accepted.{Accepted}
-use Rattle.d64spec.specs.Store.{sectorsNeeded, emptySlots}
+use Rattle.d64spec.specs.Store.{sectorsNeeded}
 use Rattle.d64spec.specs.Listing.{track18, listingText}
 use Rattle.d64spec.specs.Order.{ClaimsOnce}
 use Rattle.d64spec.specs.Rules.{IsName, IsKind, MayWrite}
@@ -49,15 +50,15 @@ pub record Admitted (g : Geometry) (img name : Bytes) (kind : ℕ) : Type 0 wher
   pub unlocked : MayWrite g (disk img)
   pub absent : HasFile g img name → ⊥
 
--- 14: no empty slot, and no free sector on track 18 (01, Answer numbers)
+-- 14: no slot of the directory is empty, and no sector of track 18 is free (01, Answer numbers)
 pub record NoSlot (g : Geometry) (d : Disk) : Type 0 where
-  pub slots : emptySlots g d ≡ []
-  pub sectors : freeForDirectory g d ≡ []
+  pub slots : (s : Slot) → List·Memᴰ s (slotsFrom g d 0 (directorySectors g d)) → isEmpty (s .bytes) ≡ false
+  pub sectors : (s : ℕ) → s < sectorsOn g 18 → Free g d (sectorNumber g (address 18 s)) → ⊥
 
 -- a store is done: there is room for the entry and for the bytes (01, Store)
 pub record Storable (g : Geometry) (img name : Bytes) (kind : ℕ) (bytes : Bytes) : Type 0 where
   pub admitted : Admitted g img name kind
-  pub slot : (0 < length (emptySlots g (disk img))) ⊎ (0 < length (freeForDirectory g (disk img)))
+  pub slot : NoSlot g (disk img) → ⊥
   pub sectors : sectorsNeeded (length bytes) ≤ length (freeForFiles g (disk img))
 
 -- a scratch is done: the disk is writable, and the file is there (01, Scratch)

@@ -1,25 +1,27 @@
 -- What the theorems say that are not about one definition alone (01; demand 2): records that their statements name.
--- In order: refusals (proofs/RefusalTheorem); owners (OwnerTheorem, OwnerExact); slots (SlotBounds); the answer block (WidthTheorem); a formatted disk (FormatTheorem); files, read and told (ReadTheorem).
+-- In order: refusals (proofs/RefusalTheorem); owners (OwnerTheorem, OwnerExact); slots (SlotBounds); what a store takes (PlaceTheorem); the answer block (WidthTheorem); a formatted disk (FormatTheorem); files, read and told (ReadTheorem); the sleeve listing and its program (ListingTheorem).
 use Prim.Native.Nat.{ℕ, _+_, _*_, _-_, _/_, _%_, _≤_, _<_}
 use mathlib.Core.Path.{_≡_}
-use mathlib.Core.Bool.{true}
+use mathlib.Core.Bool.{true, false}
 use mathlib.Core.Logic.{_⊎_, _↔_}
 use mathlib.Core.List.{List, [], _∷_, _++_, map, List·Memᴰ}
 use lib.ListN.{length, drop, getD}
-use Rattle.d64spec.specs.Lists.{All, Bytes, byte, nameCount, part, splice, zeros}
-use Rattle.d64spec.specs.Answers.{Address, Answer, address}
-use Rattle.d64spec.specs.Geometry.{Geometry, directoryStart, mapAddress, sectorNumber, sectorsOn, total, tracks}
+use Rattle.d64spec.specs.Lists.{All, Bytes, byte, filter, nameCount, part, splice, zeros}
+use Rattle.d64spec.specs.Answers.{Address, Answer, Fault, address, answerOf}
+use Rattle.d64spec.specs.Geometry.{Geometry, allocationOrder, directoryStart, mapAddress, sectorNumber, sectorsOn, total, tracks}
 use Rattle.d64spec.specs.Image.{Disk, disk}
 use Rattle.d64spec.specs.Chain.{Chain, chainData, directoryLink, to}
-use Rattle.d64spec.specs.Directory.{File, Slot, directorySectors, entryByte, files, nameOf, padded, plainEntryOf, plainList}
-use Rattle.d64spec.specs.Owner.{Owner, Owns, nobody}
+use Rattle.d64spec.specs.Directory.{File, Slot, directorySectors, entryByte, files, isEmpty, nameOf, occupied, padded, plainEntryOf, plainList, slotsFrom}
+use Rattle.d64spec.specs.Owner.{Free, Owner, Owns, isFree, nobody}
 use Rattle.d64spec.specs.Map.{expectedEntry, mapBit, mapOnes}
 use Rattle.d64spec.specs.Accepted.{Accepted, ValidEntry}
 use Rattle.d64spec.specs.Reply.{Change, Reply, writable}
 use Rattle.d64spec.specs.Format.{freeAfterFormat}
 use Rattle.d64spec.specs.Read.{FileInformation}
 use Rattle.d64spec.specs.Store.{lastOf}
+use Rattle.d64spec.specs.Listing.{listingText, track18}
 use Rattle.d64spec.specs.Host.{HostReply}
+use Rattle.d64spec.specs.Order.{FirstFails, listingConditions}
 
 -- ---- refusals
 
@@ -64,6 +66,33 @@ pub record Numbered (g : Geometry) (d : Disk) (l : List Address) (i : ℕ) (s : 
 -- the slots that a directory can have: eight in each sector of track 18 but 18/0
 abbrev pub slotsMost : Geometry → ℕ
 slotsMost g = 8 * (sectorsOn g 18 - 1)
+
+-- ---- what a store takes
+
+-- the first empty slot (01, Store): empty, and no slot of the directory before it is
+pub record FirstEmptySlot (g : Geometry) (d : Disk) (s : Slot) : Type 0 where
+  pub front : List Slot
+  pub back : List Slot
+  pub whole : slotsFrom g d 0 (directorySectors g d) ≡ front ++ s ∷ back
+  pub empty : isEmpty (s .bytes) ≡ true
+  pub before : All (λ x. isEmpty (x .bytes) ≡ false) front
+
+-- the lowest free sector of track 18, where no slot of the directory is empty (01, Store)
+pub record LowestFree (g : Geometry) (d : Disk) (r : Address) : Type 0 where
+  pub full : (s : Slot) → List·Memᴰ s (slotsFrom g d 0 (directorySectors g d)) → isEmpty (s .bytes) ≡ false
+  pub sector : ℕ
+  pub isThat : r ≡ address 18 sector
+  pub onTrack : sector < sectorsOn g 18
+  pub free : Free g d (sectorNumber g (address 18 sector))
+  pub lower : (s : ℕ) → s < sector → Free g d (sectorNumber g (address 18 s)) → ⊥
+
+-- the first k free sectors in house order (01, Store): the order up to some place has exactly these free ones, so that none is passed over
+pub record FirstFree (g : Geometry) (d : Disk) (k : ℕ) (l : List Address) : Type 0 where
+  pub front : List Address
+  pub back : List Address
+  pub whole : allocationOrder g ≡ front ++ back
+  pub taken : l ≡ filter (isFree g d) front
+  pub many : length l ≡ k
 
 -- ---- the answer block
 
@@ -164,3 +193,17 @@ pub record WasTold (g : Geometry) (img : Bytes) (position : ℕ) (i : FileInform
   pub first : file .sectors ≡ address (i .firstTrack) (i .firstSector) ∷ further
   pub sectorCount : i .sectorCount ≡ length (file .sectors)
   pub byteLength : i .byteLength ≡ length (chainData g (disk img) (file .sectors))
+
+-- ---- the sleeve listing and its program
+
+-- the text of a listing of track 18's bytes: its occupied slots, in order (01, Sleeve listing)
+abbrev pub textOf : Geometry → Bytes → Bytes
+textOf g b = listingText g (track18 g b) (occupied g (track18 g b))
+
+-- what the program prints where a listing of these bytes is refused: the two digits of the first fault's number, which is 2 to 6, and LF (01, Sleeve listing)
+pub record SleeveRefused (g : Geometry) (b out printed : Bytes) : Type 0 where
+  pub fault : Fault
+  pub first : FirstFails (listingConditions g b out) fault
+  pub low : 2 ≤ answerOf fault .number
+  pub high : answerOf fault .number ≤ 6
+  pub line : printed ≡ 0x30 ∷ (0x30 + answerOf fault .number) ∷ 0x0A ∷ []
