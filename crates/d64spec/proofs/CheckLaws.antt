@@ -16,16 +16,11 @@ use Rattle.d64spec.specs.Directory.{File, Slot, countOf, directorySector
 use Rattle.d64spec.specs.Owner.{claimCount, claimList, claimsOf, fileClaims, isFree}
 use Rattle.d64spec.specs.Check.{DirectoryContents, checkDirectory, checkDisk, checkEntry, checkMap, checkSlot, checkSlots}
 use Rattle.d64spec.specs.Accepted.{AcceptedDisk, MarksFree, ValidEntry}
-use Rattle.d64spec.proofs.ListLaws.{count-append}
+use Rattle.d64spec.proofs.ListLaws.{count-append, equal-refl, eq-of-equal}
 use Rattle.d64spec.proofs.ResultLaws.{need-done, then-done, bind-done, done-inj, need-true}
 use Rattle.d64spec.proofs.BoundLaws.{OnDisk, linkTo-on, fileLink-on, directoryLink-on}
-use Rattle.d64spec.proofs.ReadLaws.{eq-of-equal}
 use Rattle.d64spec.proofs.MapLaws.{range-at, range-all, map-sound, map-complete}
 use Rattle.d64spec.proofs.WalkLaws.{Walked, walk-sound, walk-complete, chain-short, chain-met}
-
-pub equal-refl : (l : List ℕ) → equal l l ≡ true
-equal-refl [] = refl
-equal-refl (x ∷ l) = rw (eq-eqb x x refl) (equal-refl l)
 
 -- ---- the slots
 

@@ -14,7 +14,7 @@ use Rattle.d64spec.specs.Directory.{countOf, entryByte, isEmpty, kindOf,
 use Rattle.d64spec.specs.Rules.{NewEntryBytes}
 use Rattle.d64spec.specs.Reply.{validKind, validNameArgument}
 use Rattle.d64spec.specs.Store.{newEntry}
-use Rattle.d64spec.proofs.CheckLaws.{equal-refl}
+use Rattle.d64spec.proofs.ListLaws.{equal-refl}
 use Rattle.d64spec.proofs.MapLaws.{and-true, both-true}
 use Rattle.d64spec.proofs.SplitLaws.{filter-append}
 use Rattle.d64spec.proofs.FormatLaws.{padded-length, name-short}

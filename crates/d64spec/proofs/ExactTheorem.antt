@@ -28,8 +28,9 @@ use Rattle.d64spec.specs.Call.{check, format, perform, read, scratch, st
 use Rattle.d64spec.specs.Listing.{callListing, listingReply, track18}
 use Rattle.d64spec.specs.Order.{AllHold, Condition, FirstFails, asks, asksName, asksSize, asksVersion, conditions, diskConditions, listingConditions, listingSlots, tellConditions}
 use Rattle.d64spec.specs.Exact.{Admitted, Formattable, HasFile, Listable, ListingNumber, NoSlot, Readable, Scratchable, ShownEntry, Storable, Tellable}
-use Rattle.d64spec.proofs.ReadLaws.{eq-of-equal, first-kept}
-use Rattle.d64spec.proofs.CheckLaws.{disk-complete, equal-refl, name-one}
+use Rattle.d64spec.proofs.ListLaws.{equal-refl, eq-of-equal}
+use Rattle.d64spec.proofs.ReadLaws.{first-kept}
+use Rattle.d64spec.proofs.CheckLaws.{disk-complete, name-one}
 use Rattle.d64spec.proofs.ConditionLaws.{allHold-append, firstFails-append}
 use Rattle.d64spec.proofs.FirstFault.{diskConditions-accepted}
 use Rattle.d64spec.proofs.NumberLaws.{Answers, Between, answers-imp, disk-answers, firstFails-answers, firstFails-past, listing-answers}

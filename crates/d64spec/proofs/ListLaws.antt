@@ -1,12 +1,14 @@
--- Laws of `filter` and `count`, and of a function along a range.
+-- Laws of `filter`, `count` and `equal`, and of a function along a range.
 use Prim.Native.Nat.{ℕ, zero, suc, _+_, _<_}
 use native.Mathlib.Omega.{arith}
-use mathlib.Core.Path.{_≡_, refl, ap, _∙_}
-use mathlib.Core.Bool.{Bool, true, false, cond}
+use mathlib.Core.Path.{_≡_, refl, ap, _∙_, ap₂}
+use mathlib.Core.Bool.{Bool, true, false, cond, _&&_}
 use mathlib.Core.Logic.{∥∥₁-map}
 use mathlib.Core.List.{List, [], _∷_, _++_, map, Perm, List·Permᴰ, List·Permᴰ·nil, List·Permᴰ·cons, List·Permᴰ·swap, List·Permᴰ·trans, Permᴰ·refl}
 use lib.ListN.{getD}
-use Rattle.d64spec.specs.Lists.{count, filter, range}
+use Rattle.d64spec.specs.Lists.{count, filter, range, equal}
+use lib.Dec.{eqb}
+use borrow.Author.Tests.{eq-eqb, eqb-true}
 
 module _ {A : Type 0} where
   one-more : (c : Bool) (a : A) {l m : List A} → List·Permᴰ l m → List·Permᴰ (cond c (a ∷ l) l) (cond c (a ∷ m) m)
@@ -33,6 +35,24 @@ module _ {A : Type 0} (p : A → Bool) where
 pub count-append : (n : ℕ) (a b : List ℕ) → count n (a ++ b) ≡ count n a + count n b
 count-append n [] b = omega arith
 count-append n (x ∷ a) b = omega (arith, count-append n a b)
+
+-- ---- the test `equal` against equality
+
+pub equal-refl : (l : List ℕ) → equal l l ≡ true
+equal-refl [] = refl
+equal-refl (x ∷ l) = rw (eq-eqb x x refl) (equal-refl l)
+
+pub eq-of-equal : (l m : List ℕ) → equal l m ≡ true → l ≡ m
+eq-of-equal [] [] e = refl
+eq-of-equal [] (y ∷ m) e = absurd (let z : _≡_ {A = ℕ} 0 1 = cc in omega arith)
+eq-of-equal (x ∷ l) [] e = absurd (let z : _≡_ {A = ℕ} 0 1 = cc in omega arith)
+eq-of-equal (x ∷ l) (y ∷ m) e = go (eqb x y) refl (λ q. eq-of-equal l m q) e
+  where
+    go : (b : Bool) → eqb x y ≡ b → (equal l m ≡ true → l ≡ m) → (b && equal l m) ≡ true → _≡_ {A = List ℕ} (x ∷ l) (y ∷ m)
+    go true p k q = ap₂ (λ (h : ℕ) (t : List ℕ). h ∷ t) (eqb-true x y p) (k q)
+    go false p k q = absurd (let z : _≡_ {A = ℕ} 0 1 = cc in omega arith)
+
+-- ---- numbers
 
 -- what is not positive
 pub zero-of-none : (k : ℕ) → (0 < k → ⊥) → k ≡ 0

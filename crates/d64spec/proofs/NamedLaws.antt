@@ -12,8 +12,9 @@ use Rattle.d64spec.specs.Image.{Disk}
 use Rattle.d64spec.specs.Directory.{File, files}
 use Rattle.d64spec.specs.Accepted.{AcceptedDisk}
 use Rattle.d64spec.specs.Reply.{filesNamed}
+use Rattle.d64spec.proofs.ListLaws.{equal-refl}
 use Rattle.d64spec.proofs.ResultLaws.{refused≢done}
-use Rattle.d64spec.proofs.CheckLaws.{equal-refl, slotName}
+use Rattle.d64spec.proofs.CheckLaws.{slotName}
 
 -- a file of a name is counted among the names
 pub name-met : (n : Bytes) (fs : List File) (f : File) → List·Memᴰ f fs → slotName f ≡ n → 1 ≤ nameCount n (map slotName fs)

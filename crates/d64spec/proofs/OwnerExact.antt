@@ -21,7 +21,8 @@ use Rattle.d64spec.specs.Accepted.{Accepted, ValidEntry}
 use Rattle.d64spec.specs.Call.{check, perform}
 use Rattle.d64spec.specs.Facts.{DemandTwo, OneOwner}
 use Rattle.d64spec.proofs.BoundLaws.{claims-on}
-use Rattle.d64spec.proofs.CheckLaws.{equal-refl, one-le, slotName}
+use Rattle.d64spec.proofs.CheckLaws.{one-le, slotName}
+use Rattle.d64spec.proofs.ListLaws.{equal-refl}
 use Rattle.d64spec.proofs.ScratchLaws.{claimCount-of, of-count}
 use Rattle.d64spec.proofs.NamedLaws.{name-met}
 use Rattle.d64spec.proofs.RunTheorem.{sectors35, valid35}

@@ -1,12 +1,10 @@
 -- A check or a read that is done.
-use Prim.Native.Nat.{ℕ, _-_, _≤_}
+use Prim.Native.Nat.{_-_, _≤_}
 use native.Mathlib.Omega.{arith}
-use mathlib.Core.Path.{_≡_, refl, sym, ap, ap₂}
-use mathlib.Core.Bool.{Bool, true, false, cond, _&&_}
+use mathlib.Core.Path.{_≡_, refl, sym, ap}
+use mathlib.Core.Bool.{Bool, true, false, cond}
 use mathlib.Core.List.{List, [], _∷_, Perm·refl, List·Memᴰ, List·Memᴰ·head, List·Memᴰ·tail}
 use lib.ListN.{length}
-use lib.Dec.{eqb, leb}
-use borrow.Author.Tests.{eqb-true}
 use Rattle.d64spec.specs.Lists.{All, Bytes, equal, filter}
 use Rattle.d64spec.specs.Answers.{Fault, done, first, notFound}
 use Rattle.d64spec.specs.Geometry.{Geometry, Valid, total}
@@ -20,20 +18,11 @@ use Rattle.d64spec.specs.Read.{callRead}
 use Rattle.d64spec.specs.Call.{Call, callCheck, check, read}
 use Rattle.d64spec.specs.Host.{HostReply, answerBlock, hostReply, littleEndian}
 use Rattle.d64spec.specs.Run.{ReadReports, plainListAfter}
+use Rattle.d64spec.proofs.ListLaws.{eq-of-equal}
 use Rattle.d64spec.proofs.ResultLaws.{then-done, done-inj, refused≢done}
 use Rattle.d64spec.proofs.CallLaws.{read-done}
 use Rattle.d64spec.proofs.BoundLaws.{file-bound}
 use Rattle.d64spec.proofs.RunLaws.{StepHolds}
-
-pub eq-of-equal : (l m : List ℕ) → equal l m ≡ true → l ≡ m
-eq-of-equal [] [] e = refl
-eq-of-equal [] (y ∷ m) e = absurd (let z : _≡_ {A = ℕ} 0 1 = cc in omega arith)
-eq-of-equal (x ∷ l) [] e = absurd (let z : _≡_ {A = ℕ} 0 1 = cc in omega arith)
-eq-of-equal (x ∷ l) (y ∷ m) e = go (eqb x y) refl (λ q. eq-of-equal l m q) e
-  where
-    go : (b : Bool) → eqb x y ≡ b → (equal l m ≡ true → l ≡ m) → (b && equal l m) ≡ true → _≡_ {A = List ℕ} (x ∷ l) (y ∷ m)
-    go true p k q = ap₂ (λ (h : ℕ) (t : List ℕ). h ∷ t) (eqb-true x y p) (k q)
-    go false p k q = absurd (let z : _≡_ {A = ℕ} 0 1 = cc in omega arith)
 
 -- what holds of every element, of the first that is kept: with the test, and that it is an element
 pub record Kept {A : Type 0} (p : A → Bool) (P : A → Type 0) (l : List A) (x : A) : Type 0 where

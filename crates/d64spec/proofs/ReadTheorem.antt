@@ -19,10 +19,11 @@ use Rattle.d64spec.specs.Read.{FileInformation, callRead, callTell}
 use Rattle.d64spec.specs.Store.{lastOf}
 use Rattle.d64spec.specs.Call.{attempt, outputBuffer, perform, read}
 use Rattle.d64spec.specs.Facts.{FileLength, WasRead, WasTold}
+use Rattle.d64spec.proofs.ListLaws.{eq-of-equal}
 use Rattle.d64spec.proofs.ResultLaws.{need-done, then-done, bind-done, done-inj, refused≢done}
 use Rattle.d64spec.proofs.BoundLaws.{fileLink-on}
 use Rattle.d64spec.proofs.CallLaws.{read-done}
-use Rattle.d64spec.proofs.ReadLaws.{eq-of-equal, first-kept}
+use Rattle.d64spec.proofs.ReadLaws.{first-kept}
 use Rattle.d64spec.proofs.MapLaws.{and-true}
 use Rattle.d64spec.proofs.WalkLaws.{chain-on}
 use Rattle.d64spec.proofs.CheckLaws.{firstLink-on}

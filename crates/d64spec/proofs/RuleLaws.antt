@@ -9,9 +9,8 @@ use lib.ListN.{length, take, drop, replicate, length-append, length-replicate, l
 use lib.Seq.{take-at, drop-at}
 use lib.Dec.{eqb, ltb}
 use borrow.Author.Tests.{eq-eqb, ne-eqb, eqb-true, ltb-true, lt-ltb}
+use Rattle.d64spec.proofs.ListLaws.{equal-refl, eq-of-equal}
 use Rattle.d64spec.proofs.MapLaws.{and-true, both-true}
-use Rattle.d64spec.proofs.ReadLaws.{eq-of-equal}
-use Rattle.d64spec.proofs.CheckLaws.{equal-refl}
 use Rattle.d64spec.proofs.FormatLaws.{padded-length}
 use Rattle.d64spec.specs.Lists.{Bytes, byte, count, equal, filter, indicator, range}
 use Rattle.d64spec.specs.Answers.{plain}

@@ -18,8 +18,7 @@ use Rattle.d64spec.specs.Accepted.{ValidEntry}
 use Rattle.d64spec.specs.Store.{overwriteSlot}
 use Rattle.d64spec.specs.Scratch.{clearSectors}
 use Rattle.d64spec.specs.Changes.{InSlot}
-use Rattle.d64spec.proofs.ListLaws.{count-append, zero-of-none}
-use Rattle.d64spec.proofs.CheckLaws.{equal-refl}
+use Rattle.d64spec.proofs.ListLaws.{count-append, zero-of-none, equal-refl}
 use Rattle.d64spec.proofs.BoundLaws.{all-append, follow-on, fileLink-on, directoryLink-on, linkTo-on}
 use Rattle.d64spec.proofs.ChainLaws.{chain-frame}
 use Rattle.d64spec.proofs.FrameLaws.{Sound, Agree, all-of-count, all-map, same-directory, same-slots, same-files, same-valid-entries, same-plainList}

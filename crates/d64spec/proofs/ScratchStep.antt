@@ -15,8 +15,9 @@ use Rattle.d64spec.specs.Scratch.{callScratch, scratchedDisk}
 use Rattle.d64spec.specs.Call.{Call, scratch}
 use Rattle.d64spec.specs.Host.{HostReply, hostReply}
 use Rattle.d64spec.specs.Run.{ReadReports, plainListAfter}
+use Rattle.d64spec.proofs.ListLaws.{eq-of-equal}
 use Rattle.d64spec.proofs.CallLaws.{ScratchDone, scratch-done}
-use Rattle.d64spec.proofs.ReadLaws.{eq-of-equal, first-kept}
+use Rattle.d64spec.proofs.ReadLaws.{first-kept}
 use Rattle.d64spec.proofs.RunLaws.{StepHolds}
 use Rattle.d64spec.proofs.FrameLaws.{Sound}
 use Rattle.d64spec.proofs.ImageLaws.{Whole, disk-whole, image-size, image-disk}

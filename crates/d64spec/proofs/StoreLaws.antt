@@ -19,10 +19,9 @@ use Rattle.d64spec.specs.Accepted.{ValidEntry}
 use Rattle.d64spec.specs.Reply.{validKind, validNameArgument}
 use Rattle.d64spec.specs.Store.{SlotPlace, newEntry, writeChain}
 use Rattle.d64spec.specs.Changes.{DataWritten, EntryWrites, EntryWritten, addedSectors}
-use Rattle.d64spec.proofs.ListLaws.{count-append, zero-of-none}
+use Rattle.d64spec.proofs.ListLaws.{count-append, zero-of-none, eq-of-equal}
 use Rattle.d64spec.proofs.BoundLaws.{all-append, fileLink-on}
 use Rattle.d64spec.proofs.WalkLaws.{chain-met}
-use Rattle.d64spec.proofs.ReadLaws.{eq-of-equal}
 use Rattle.d64spec.proofs.FrameLaws.{Sound, Agree, same-files, same-valid-entries, same-plainList}
 use Rattle.d64spec.proofs.ImageLaws.{Whole}
 use Rattle.d64spec.proofs.SplitLaws.{filter-append, map-append, all-front, all-back}

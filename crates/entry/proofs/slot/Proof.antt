@@ -1,11 +1,18 @@
 -- `entry::slot` meets its contract: nothing past the sector's end, else 30 bytes from the slot's byte 02 on. Assumes nothing.
-use mathlib.Core.Path.{_∙_}
-use Prim.Native.Nat.{_+_, _*_}
+use mathlib.Core.Path.{_≡_, sym, ap, _∙_}
+use Prim.Native.Nat.{ℕ, _+_, _*_}
 use native.Mathlib.Omega.{arith}
+use lib.ListN.{take, drop}
+use lib.Seq.{drop-drop}
 use borrow.Author.Needs.{needs}
-use Rattle.entry.proofs.PartLaws.{part-past, part-slot}
+use Rattle.d64spec.specs.Lists.{Bytes, part}
+use Rattle.parts.proofs.PartLaws.{part-past}
 use Rattle.entry.proofs.slot.Statement.{statement}
 use Rattle.entry.proofs.slot.Tie as tie
+
+-- bytes 02 to 1F of slot j are 30 from 32 * j + 2 on
+part-slot : (s : Bytes) (j : ℕ) → take 30 (drop (32 * j + 2) s) ≡ part 0x02 0x1F (drop (32 * j) s)
+part-slot s j = sym (ap (take 30) (drop-drop 2 (32 * j) s))
 
 sub-result : tie.Need-sub-result
 sub-result c = search needs

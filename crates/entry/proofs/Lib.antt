@@ -1,4 +1,0 @@
-pub mod PartLaws
-pub mod EqualLaws
-pub mod PaddingLaws
-pub mod NameLaws

@@ -1,0 +1,126 @@
+-- Names and the field that holds one: the name rule by the first $A0, and when two names are equal (01, The directory).
+-- In order: a field against a name filled up; the name rule, case by case; the two comparisons where names keep the rule.
+-- A field is given as any list f that is a slot's bytes 05 to 14. Laws of the bytes alone: PaddingLaws. Assumes nothing.
+use mathlib.Core.Path.{_≡_, refl, sym, ap, ap₂, _∙_}
+use mathlib.Core.Bool.{Bool, true, false, _&&_, not, and-false}
+use mathlib.Core.List.{_++_}
+use Prim.Native.Nat.{ℕ, _+_, _-_, _≤_}
+use native.Mathlib.Omega.{arith}
+use lib.ListN.{length, take, drop, replicate, length-append, length-take, length-replicate, take-append-drop}
+use lib.Seq.{drop-append-seam}
+use lib.Dec.{eqb, ltb}
+use borrow.Author.Tests.{eq-eqb, ne-eqb, eqb-true}
+use Rattle.d64spec.specs.Lists.{Bytes, count, equal}
+use Rattle.d64spec.specs.Directory.{nameField, nameOf, padded, validName}
+use Rattle.d64spec.specs.Reply.{validNameArgument}
+use Rattle.names.specs.Names.{nameLength}
+use Rattle.d64spec.proofs.ListLaws.{eq-of-equal}
+use Rattle.parts.proofs.EqualLaws.{equal-iff, equal-lengths-differ, equal-append}
+use Rattle.names.proofs.PaddingLaws.{letters, count-letters, nameLength-append-padding, letters-append-padding, letters-of-padding, length-take-nameLength}
+
+-- ---- a field against a name filled up
+
+length-padded : (m : Bytes) → length (padded m) ≡ length m + (16 - length m)
+unfolding padded
+length-padded m = length-append m (replicate (16 - length m) 0xA0) ∙ ap (λ (n : ℕ). length m + n) (length-replicate {A = ℕ} (16 - length m) 0xA0)
+
+-- a field is its letters filled up exactly where only padding follows its first $A0
+equal-padded-letters : (f : Bytes) → equal f (padded (letters f)) ≡ equal (drop (nameLength f) f) (replicate (16 - nameLength f) 0xA0)
+unfolding padded
+equal-padded-letters f = equal-iff f (padded (letters f)) (drop (nameLength f) f) (replicate (16 - nameLength f) 0xA0) there back
+  where
+    there : f ≡ padded (letters f) → drop (nameLength f) f ≡ replicate (16 - nameLength f) 0xA0
+    there e =
+        let n : nameLength f ≡ length (letters f) = ap nameLength e ∙ nameLength-append-padding (letters f) (16 - length (letters f)) (count-letters f) in
+        rw n (ap (drop (length (letters f))) e ∙ drop-append-seam (letters f) (replicate (16 - length (letters f)) 0xA0))
+
+    back : drop (nameLength f) f ≡ replicate (16 - nameLength f) 0xA0 → f ≡ padded (letters f)
+    back e =
+        let kept : letters f ≡ take (nameLength f) f = letters-of-padding f (16 - nameLength f) e in
+        let n : length (letters f) ≡ nameLength f = ap length kept ∙ length-take-nameLength f in
+        sym (take-append-drop (nameLength f) f) ∙ ap₂ (λ (x y : Bytes). x ++ y) (sym kept) (e ∙ ap (λ (k : ℕ). replicate (16 - k) 0xA0) (sym n))
+
+module _ (b f : Bytes) (field : f ≡ nameField b) where
+  -- the name is compared first, then the padding
+  pub equal-padded-parts : (m : Bytes) → length m ≤ length f → {t : Bool} → t ≡ equal (take (length m) f) m
+      → equal (nameField b) (padded m) ≡ (t && equal (drop (length m) f) (replicate (16 - length m) 0xA0))
+  unfolding padded
+  equal-padded-parts m fits e =
+      ap (λ (x : Bytes). equal x (padded m)) (sym field)
+      ∙ equal-append f m (replicate (16 - length m) 0xA0) fits
+      ∙ ap (λ (t : Bool). t && equal (drop (length m) f) (replicate (16 - length m) 0xA0)) (sym e)
+
+  -- a field of other than 16 bytes, or a name of more
+  pub equal-padded-misfit : (m : Bytes) → (length f ≡ 16 → length m ≤ 16 → ⊥) → equal (nameField b) (padded m) ≡ false
+  equal-padded-misfit m misfit =
+      let short : length (nameField b) ≤ 16 = simp length-take (omega arith) in
+      equal-lengths-differ (nameField b) (padded m)
+      (λ e. let long = length-padded m in let same = ap length field in misfit (omega arith) (omega arith))
+
+-- ---- the name rule
+
+module _ (b f : Bytes) (field : f ≡ nameField b) where
+  pub validName-misfit : (length f ≡ 16 → ⊥) → validName b ≡ false
+  unfolding validName
+  validName-misfit misfit =
+      ap (λ (t : Bool). not (eqb (length (nameOf b)) 0) && t) (equal-padded-misfit b f field (nameOf b) (λ e h. misfit e)) ∙ and-false (not (eqb (length (nameOf b)) 0))
+
+  -- THE NAME RULE BY THE FIRST $A0: it is not the field's first byte, and only padding follows it
+  validName-nameLength : validName b ≡ (not (eqb (nameLength f) 0) && equal (drop (nameLength f) f) (replicate (16 - nameLength f) 0xA0))
+  unfolding validName nameOf
+  validName-nameLength =
+      ap (λ (x : Bytes). not (eqb (length (letters x)) 0) && equal x (padded (letters x))) (sym field)
+      ∙ ap (λ (t : Bool). not (eqb (length (letters f)) 0) && t) (equal-padded-letters f)
+      ∙ go (equal (drop (nameLength f) f) (replicate (16 - nameLength f) 0xA0)) refl
+    where
+      go : (t : Bool) → equal (drop (nameLength f) f) (replicate (16 - nameLength f) 0xA0) ≡ t → (not (eqb (length (letters f)) 0) && t) ≡ (not (eqb (nameLength f) 0) && t)
+      go true e =
+          let kept : letters f ≡ take (nameLength f) f = letters-of-padding f (16 - nameLength f) (eq-of-equal (drop (nameLength f) f) (replicate (16 - nameLength f) 0xA0) e) in
+          ap (λ (k : ℕ). not (eqb k 0) && true) (ap length kept ∙ length-take-nameLength f)
+      go false e = and-false (not (eqb (length (letters f)) 0)) ∙ sym (and-false (not (eqb (nameLength f) 0)))
+
+  -- n bytes stand before the first $A0: whether there are any decides
+  module _ (n : ℕ) (found : n ≡ nameLength f) where
+    by-test : {t : Bool} → eqb n 0 ≡ t → validName b ≡ (not t && equal (drop n f) (replicate (16 - n) 0xA0))
+    by-test e =
+        validName-nameLength ∙ ap (λ (k : ℕ). not (eqb k 0) && equal (drop k f) (replicate (16 - k) 0xA0)) (sym found)
+        ∙ ap (λ (t : Bool). not t && equal (drop n f) (replicate (16 - n) 0xA0)) e
+
+    pub validName-none : n ≡ 0 → validName b ≡ false
+    validName-none e = by-test (eq-eqb n 0 e)
+
+    pub validName-some : (n ≡ 0 → ⊥) → validName b ≡ equal (drop n f) (replicate (16 - n) 0xA0)
+    validName-some e = by-test (ne-eqb n 0 e)
+
+-- ---- the two comparisons, where names keep the rule
+
+right-of-and : (x y : Bool) → (x && y) ≡ true → y ≡ true
+right-of-and true y e = e
+right-of-and false y e = absurd (let z : _≡_ {A = ℕ} 0 1 = cc in omega arith)
+
+-- a name that keeps the rule stands in its field, filled up
+nameField-of-validName : (b : Bytes) → validName b ≡ true → nameField b ≡ padded (nameOf b)
+unfolding validName
+nameField-of-validName b valid =
+    eq-of-equal (nameField b) (padded (nameOf b)) (right-of-and (not (eqb (length (nameOf b)) 0)) (equal (nameField b) (padded (nameOf b))) valid)
+
+-- a name that a call takes has no $A0
+count-of-validNameArgument : (name : Bytes) → validNameArgument name ≡ true → count 0xA0 name ≡ 0
+unfolding validNameArgument
+count-of-validNameArgument name valid =
+    eqb-true (count 0xA0 name) 0
+    (right-of-and (ltb (length name) 17) (eqb (count 0xA0 name) 0) (right-of-and (ltb 0 (length name)) (ltb (length name) 17 && eqb (count 0xA0 name) 0) valid))
+
+-- TWO NAMES ARE EQUAL exactly where their fields are
+pub equal-nameField : (a b : Bytes) → validName a ≡ true → validName b ≡ true → equal (nameField a) (nameField b) ≡ equal (nameOf a) (nameOf b)
+unfolding nameOf
+equal-nameField a b valid-a valid-b =
+    equal-iff (nameField a) (nameField b) (nameOf a) (nameOf b) (λ e. ap letters e) (λ e. nameField-of-validName a valid-a ∙ ap padded e ∙ sym (nameField-of-validName b valid-b))
+
+-- A SLOT HAS THE NAME ASKED FOR exactly where its field is that name, filled up
+pub equal-nameField-padded : (b name : Bytes) → validName b ≡ true → validNameArgument name ≡ true → equal (nameField b) (padded name) ≡ equal name (nameOf b)
+unfolding nameOf padded
+equal-nameField-padded b name valid asked =
+    equal-iff (nameField b) (padded name) name (nameOf b)
+    (λ e. sym (ap letters e ∙ letters-append-padding name (16 - length name) (count-of-validNameArgument name asked)))
+    (λ e. nameField-of-validName b valid ∙ ap padded (sym e))

@@ -1,0 +1,115 @@
+-- Bytes and $A0, the padding of names: which bytes are not $A0, and where the first $A0 is (01, The directory).
+-- In order: the bytes that are not $A0; the first $A0; both where only padding follows it; the first $A0 from an index on.
+-- Not here: names and the field that holds one (NameLaws). Assumes nothing.
+use mathlib.Core.Path.{_≡_, refl, sym, ap, ap₂, _∙_}
+use mathlib.Core.Bool.{Bool, true, false, cond, not}
+use mathlib.Core.List.{[], _∷_, _++_, append-nil}
+use Prim.Native.Nat.{ℕ, zero, suc, _+_, _≤_, _<_}
+use native.Mathlib.Omega.{arith}
+use native.Mathlib.Numerals.{add-one}
+use lib.ListN.{length, getD, take, drop, replicate, take-append-drop, drop-of-length-le}
+use lib.Seq.{drop-cons, take-length, length-take-le}
+use lib.Dec.{eqb}
+use borrow.Author.Tests.{eq-eqb, ne-eqb, eqb-true, eqb-false}
+use Rattle.d64spec.specs.Lists.{Bytes, indicator, filter, count}
+use Rattle.names.specs.Names.{nameLength}
+
+-- ---- the bytes that are not $A0
+
+-- those bytes, in order: of a name field they are the name
+abbrev pub letters : Bytes → Bytes
+letters s = filter (λ c. not (eqb c 0xA0)) s
+
+letters-append : (a b : Bytes) → letters (a ++ b) ≡ letters a ++ letters b
+letters-append [] b = refl
+letters-append (c ∷ a) b = go (eqb c 0xA0) (letters-append a b)
+  where
+    go : (t : Bool) → letters (a ++ b) ≡ letters a ++ letters b
+        → cond (not t) (c ∷ letters (a ++ b)) (letters (a ++ b)) ≡ cond (not t) (c ∷ letters a) (letters a) ++ letters b
+    go true e = e
+    go false e = ap (λ (l : Bytes). c ∷ l) e
+
+letters-padding : (n : ℕ) → letters (replicate n 0xA0) ≡ []
+letters-padding zero = refl
+letters-padding (suc n) = letters-padding n
+
+-- a byte that is not $A0 adds nothing to their count
+count-letter : (c : ℕ) (l : Bytes) → eqb c 0xA0 ≡ false → count 0xA0 (c ∷ l) ≡ count 0xA0 l
+count-letter c l e = rw (ne-eqb 0xA0 c (λ z. eqb-false c 0xA0 e (sym z))) (omega arith)
+
+-- where $A0 is not counted, no byte is one
+letter-of-count : (c : ℕ) (l : Bytes) → count 0xA0 (c ∷ l) ≡ 0 → eqb c 0xA0 ≡ false
+letter-of-count c l h = ne-eqb c 0xA0 (λ e. let z : indicator (eqb 0xA0 c) ≡ 1 = rw (eq-eqb 0xA0 c (sym e)) in omega arith)
+
+pub count-letters : (s : Bytes) → count 0xA0 (letters s) ≡ 0
+count-letters [] = refl
+count-letters (c ∷ l) = go (eqb c 0xA0) refl (count-letters l)
+  where
+    go : (t : Bool) → eqb c 0xA0 ≡ t → count 0xA0 (letters l) ≡ 0 → count 0xA0 (cond (not t) (c ∷ letters l) (letters l)) ≡ 0
+    go true e h = h
+    go false e h = count-letter c (letters l) e ∙ h
+
+letters-of-count : (s : Bytes) → count 0xA0 s ≡ 0 → letters s ≡ s
+letters-of-count [] h = refl
+letters-of-count (c ∷ l) h = rw (letter-of-count c l h) (ap (λ (m : Bytes). c ∷ m) (letters-of-count l (omega arith)))
+
+-- ---- the first $A0
+
+pub nameLength-le : (s : Bytes) → nameLength s ≤ length s
+nameLength-le [] = omega arith
+nameLength-le (c ∷ l) = go (eqb c 0xA0) (nameLength-le l)
+  where
+    go : (t : Bool) → nameLength l ≤ length l → cond t 0 (suc (nameLength l)) ≤ suc (length l)
+    go true h = omega arith
+    go false h = omega arith
+
+-- no $A0 stands before it
+count-take-nameLength : (s : Bytes) → count 0xA0 (take (nameLength s) s) ≡ 0
+count-take-nameLength [] = refl
+count-take-nameLength (c ∷ l) = go (eqb c 0xA0) refl (count-take-nameLength l)
+  where
+    go : (t : Bool) → eqb c 0xA0 ≡ t → count 0xA0 (take (nameLength l) l) ≡ 0 → count 0xA0 (take (cond t 0 (suc (nameLength l))) (c ∷ l)) ≡ 0
+    go true e h = refl
+    go false e h = count-letter c (take (nameLength l) l) e ∙ h
+
+-- behind letters alone it is the padding's first
+pub nameLength-append-padding : (m : Bytes) (n : ℕ) → count 0xA0 m ≡ 0 → nameLength (m ++ replicate n 0xA0) ≡ length m
+nameLength-append-padding [] zero h = refl
+nameLength-append-padding [] (suc n) h = refl
+nameLength-append-padding (c ∷ m) n h = rw (letter-of-count c m h) (ap suc (nameLength-append-padding m n (omega arith)))
+
+-- it is found at no index exactly where $A0 is not counted
+pub nameLength-all : (s : Bytes) → eqb (nameLength s) (length s) ≡ eqb (count 0xA0 s) 0
+nameLength-all s = go (eqb (count 0xA0 s) 0) refl
+  where
+    go : (t : Bool) → eqb (count 0xA0 s) 0 ≡ t → eqb (nameLength s) (length s) ≡ t
+    go true e = eq-eqb (nameLength s) (length s) (rw append-nil at (nameLength-append-padding s 0 (eqb-true (count 0xA0 s) 0 e)))
+    go false e = ne-eqb (nameLength s) (length s) (λ z. eqb-false (count 0xA0 s) 0 e (rw (z, take-length s) at (count-take-nameLength s)))
+
+-- ---- where only padding follows
+
+-- padding adds no letter
+pub letters-append-padding : (m : Bytes) (n : ℕ) → count 0xA0 m ≡ 0 → letters (m ++ replicate n 0xA0) ≡ m
+letters-append-padding m n h =
+    letters-append m (replicate n 0xA0) ∙ ap₂ (λ (x y : Bytes). x ++ y) (letters-of-count m h) (letters-padding n) ∙ append-nil m
+
+-- where padding follows the first $A0, the letters are the bytes before it
+pub letters-of-padding : (f : Bytes) (n : ℕ) → drop (nameLength f) f ≡ replicate n 0xA0 → letters f ≡ take (nameLength f) f
+letters-of-padding f n e =
+    ap letters (sym (take-append-drop (nameLength f) f) ∙ ap (λ (l : Bytes). take (nameLength f) f ++ l) e)
+    ∙ letters-append-padding (take (nameLength f) f) n (count-take-nameLength f)
+
+pub length-take-nameLength : (f : Bytes) → length (take (nameLength f) f) ≡ nameLength f
+length-take-nameLength f = length-take-le (nameLength f) f (nameLength-le f)
+
+-- ---- from index i on
+
+module _ (s : Bytes) (i : ℕ) where
+  pub nameLength-drop-padding : i < length s → getD s i 0 ≡ 0xA0 → nameLength (drop i s) ≡ 0
+  nameLength-drop-padding h e = rw (drop-cons s i 0 h) (rw (eq-eqb (getD s i 0) 0xA0 e))
+
+  pub nameLength-drop-letter : i < length s → (getD s i 0 ≡ 0xA0 → ⊥) → nameLength (drop i s) ≡ suc (nameLength (drop (i + 1) s))
+  nameLength-drop-letter h e = rw add-one (rw (drop-cons s i 0 h) (rw (ne-eqb (getD s i 0) 0xA0 e)))
+
+  pub nameLength-drop-end : length s ≤ i → nameLength (drop i s) ≡ 0
+  nameLength-drop-end h = rw (drop-of-length-le s {i = i} h)

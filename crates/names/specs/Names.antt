@@ -1,0 +1,12 @@
+-- What the contracts of names cite beside document 01's own definitions (01, The directory).
+-- Not here: nameField, validName (d64spec, Directory), validNameArgument (d64spec, Reply). Laws: proofs/PaddingLaws, NameLaws.
+use Prim.Native.Nat.{ℕ, suc}
+use mathlib.Core.Bool.{cond}
+use mathlib.Core.List.{[], _∷_}
+use lib.Dec.{eqb}
+use Rattle.d64spec.specs.Lists.{Bytes}
+
+-- how many bytes stand before the first $A0: all of them, where there is none (01, The directory: a name, then only $A0)
+abbrev pub nameLength : Bytes → ℕ
+nameLength [] = 0
+nameLength (c ∷ l) = cond (eqb c 0xA0) 0 (suc (nameLength l))

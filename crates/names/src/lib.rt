@@ -1,0 +1,96 @@
+// Names: the field of a directory slot that holds one, and the name that a call asks for (01, The directory; Answer numbers, 9).
+// A slot is lent as its bytes 02 to 1F, so byte i of document 01 is at i - 2.
+// Every public function takes any slice: what it gives is the definition's value there.
+ghost use mathlib.Core.Path.{_≡_};
+ghost use Prim.Native.Nat.{_-_, _≤_};
+ghost use lib.ListN.{length, drop, replicate};
+ghost use Rattle.d64spec.specs.Lists.{equal};
+ghost use Rattle.d64spec.specs.Directory.{nameField, padded, validName};
+ghost use Rattle.d64spec.specs.Reply.{validNameArgument};
+ghost use Rattle.names.specs.Names.{nameLength};
+
+// What a name shorter than 16 bytes is filled up with.
+const PADDING: [u8; 16] = [0xA0; 16];
+
+// How many bytes of s stand before the first $A0.
+fn name_length(s: &[u8]) -> usize
+    ensures { λ r. ⌜ r ≡ nameLength (now (s .entry)) ⌝ }
+{
+    let mut i: usize = 0;
+    while i < s.len() {
+        if s[i] == 0xA0 {
+            return i;
+        }
+        i += 1;
+    }
+    i
+}
+
+// Whether only $A0 stand in a name field from its byte n on.
+fn padded_from(field: &[u8], n: usize) -> bool
+    requires { ⌜ (length (now field) ≡ 16) × (n ≤ 16) ⌝ }
+    ensures { λ r. ⌜ r ≡ equal (drop n (now (field .entry))) (replicate (16 - n) 0xA0) ⌝ }
+{
+    parts::equal_bytes(&field[n..], &PADDING[n..])
+}
+
+// The 16 bytes of a slot's name, 05 to 14: fewer where the slot is short.
+pub fn name_field(slot: &[u8]) -> &[u8]
+    ensures { λ r. ⌜ now r ≡ nameField (now (slot .entry)) ⌝ }
+{
+    parts::clipped(slot, 3, 16)
+}
+
+// Whether a slot's name keeps the rule: 1 to 16 bytes that are not $A0, then only $A0.
+pub fn valid_name(slot: &[u8]) -> bool
+    ensures { λ r. ⌜ r ≡ validName (now (slot .entry)) ⌝ }
+{
+    let field = name_field(slot);
+    if field.len() != 16 {
+        return false;
+    }
+    let letters = name_length(field);
+    if letters == 0 {
+        return false;
+    }
+    padded_from(field, letters)
+}
+
+// Whether two slots have the same name, where both names keep the rule: their name fields are then equal.
+pub fn same_name(a: &[u8], b: &[u8]) -> bool
+    ensures { λ r. ⌜ r ≡ equal (nameField (now (a .entry))) (nameField (now (b .entry))) ⌝ }
+{
+    parts::equal_bytes(name_field(a), name_field(b))
+}
+
+// Whether a slot has the name asked for, where both names keep the rule: its name field is then that name, filled up.
+pub fn has_name(slot: &[u8], name: &[u8]) -> bool
+    ensures { λ r. ⌜ r ≡ equal (nameField (now (slot .entry))) (padded (now (name .entry))) ⌝ }
+{
+    let field = name_field(slot);
+    let n = name.len();
+    if field.len() != 16 {
+        return false;
+    }
+    if 16 < n {
+        return false;
+    }
+    if !parts::equal_bytes(&field[..n], name) {
+        return false;
+    }
+    padded_from(field, n)
+}
+
+// Whether a call takes this name: 1 to 16 bytes, none of them $A0.
+pub fn valid_name_argument(name: &[u8]) -> bool
+    ensures { λ r. ⌜ r ≡ validNameArgument (now (name .entry)) ⌝ }
+{
+    let size = name.len();
+    if size == 0 {
+        return false;
+    }
+    if 16 < size {
+        return false;
+    }
+    name_length(name) == size
+}
