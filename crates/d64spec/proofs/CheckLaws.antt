@@ -70,7 +70,7 @@ module _ (g : Geometry) (d : Disk) where
       let z : h4 .0 ≡ l = done-inj (h5 .1) in
       let w : Walked g (fileLink g) d own (firstLink g d s) l = rw z at (walk-sound g (fileLink g) d (steps g) own (s .holder) (s .number) (firstLink g d s) (h4 .0) (h4 .1)) in
       record {
-        right = record { type = h .type; name = h .name; chain = w .chain; number = eqb-true _ _ (rw z at (h5 .0)) };
+        right = record { type = h .type; name = h .name; chain = w .chain; sectorCount = eqb-true _ _ (rw z at (h5 .0)) };
         new = h .new;
         once = w .once;
       }
@@ -119,7 +119,7 @@ module _ (g : Geometry) (d : Disk) where
       let short = chain-short g (fileLink g) d (fileLink-on g) (firstLink g d s) l (firstLink-on s) (r .chain) (λ m. omega (arith, o m)) in
       rw (entry-complete names s (record { type = r .type; name = r .name; new = e }))
       (rw (walk-complete g (fileLink g) d (steps g) own (s .holder) (s .number) (firstLink g d s) l (r .chain) o (omega arith))
-      (rw (eq-eqb (countOf (s .bytes)) (length l) (r .number))))
+      (rw (eq-eqb (countOf (s .bytes)) (length l) (r .sectorCount))))
 
   slots-complete : (own : List ℕ) (names : List Bytes) (ss : List Slot) → All (ValidEntry g d) (map (fileOf g d) ss)
       → ((m : ℕ) → count m (fileClaims g (map (fileOf g d) ss)) + count m own ≤ 1)

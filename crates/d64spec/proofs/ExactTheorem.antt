@@ -25,7 +25,7 @@ use Rattle.d64spec.specs.Reply.{Reply, filesNamed, validNameArgument}
 use Rattle.d64spec.specs.Read.{callRead, callTell, tellReply}
 use Rattle.d64spec.specs.Store.{emptySlots, sectorsNeeded}
 use Rattle.d64spec.specs.Call.{check, format, perform, read, scratch, store}
-use Rattle.d64spec.specs.Listing.{callListing, listingReply, track18}
+use Rattle.d64spec.specs.Listing.{callListing, listingReply, diskOfTrack18}
 use Rattle.d64spec.specs.Order.{AllHold, Condition, FirstFails, asks, asksName, asksSize, asksVersion, conditions, diskConditions, listingConditions, listingSlots, tellConditions}
 use Rattle.d64spec.specs.Exact.{Admitted, Formattable, HasFile, Listable, ListingNumber, NoSlot, Readable, Scratchable, ShownEntry, Storable, Tellable}
 use Rattle.d64spec.proofs.ListLaws.{equal-refl, eq-of-equal}
@@ -126,8 +126,8 @@ module _ (g : Geometry) (v : Valid g) (img : Bytes) where
   unfolding conditions
   scratch-exact name = Iff·trans (done-exactly g v img (scratch name)) (
     (λ h. let w = asked-after _ (h .0) (h .1 .1) in
-        record { accepted = w .0; nameValid = h .1 .0; unlocked = w .1 .0; found = hasFile-exact g img name .1 (w .1 .1 .0) }),
-    (λ r. (r .accepted .size, (r .nameValid, after-asked _ (r .accepted) (r .unlocked, (hasFile-exact g img name .0 (r .found), tt))))),
+        record { accepted = w .0; nameValid = h .1 .0; mayWrite = w .1 .0; found = hasFile-exact g img name .1 (w .1 .1 .0) }),
+    (λ r. (r .accepted .size, (r .nameValid, after-asked _ (r .accepted) (r .mayWrite, (hasFile-exact g img name .0 (r .found), tt))))),
   )
 
   -- the bytes of the only file of a name, said of the file that is there
@@ -189,12 +189,12 @@ module _ (g : Geometry) (v : Valid g) (img name : Bytes) (kind : ℕ) (bytes : B
       accepted = record { size = h .0 .0; content = diskConditions-accepted g v (disk img) .0 (h .0 .1 .1 .1) };
       nameValid = h .0 .1 .0;
       kindValid = h .0 .1 .1 .0;
-      unlocked = h .1 .0;
+      mayWrite = h .1 .0;
       absent = absent-exact g img name .1 (h .1 .1 .0);
     }),
     (λ a. (
       (a .accepted .size, (a .nameValid, (a .kindValid, diskConditions-accepted g v (disk img) .1 (a .accepted .content)))),
-      (a .unlocked, (absent-exact g img name .0 (a .absent), tt)),
+      (a .mayWrite, (absent-exact g img name .0 (a .absent), tt)),
     )),
   )
 
@@ -289,15 +289,15 @@ shown-exact names (s ∷ l) u = (
 pub listing-exact : (g : Geometry) → Valid g → (b out : Bytes) → (listingReply out (callListing g b out) .answer .number ≡ 0) ↔ Listable g b out
 unfolding listingConditions
 listing-exact g v b out = Iff·trans (listing-exactly g v b out) (
-  (λ h. let w = allHold-append (listingSlots [] (occupied g (track18 g b))) _ .0 (h .1 .1) in
-      let shown = shown-exact [] (occupied g (track18 g b)) (λ n. omega arith) .0 (w .0) in
+  (λ h. let w = allHold-append (listingSlots [] (occupied g (diskOfTrack18 g b))) _ .0 (h .1 .1) in
+      let shown = shown-exact [] (occupied g (diskOfTrack18 g b)) (λ n. omega arith) .0 (w .0) in
       record { size = h .0; directory = h .1 .0; entry = shown .0; names = λ n. omega (arith, shown .1 n); fits = w .1 .0 }),
   (λ r. (
     r .size,
     (
       r .directory,
-      allHold-append (listingSlots [] (occupied g (track18 g b))) _ .1
-          (shown-exact [] (occupied g (track18 g b)) (λ n. omega arith) .1 (r .entry, λ n. omega (arith, r .names n)), (r .fits, tt)),
+      allHold-append (listingSlots [] (occupied g (diskOfTrack18 g b))) _ .1
+          (shown-exact [] (occupied g (diskOfTrack18 g b)) (λ n. omega arith) .1 (r .entry, λ n. omega (arith, r .names n)), (r .fits, tt)),
     ),
   )),
 )

@@ -16,7 +16,7 @@ use Rattle.d64spec.specs.Read.{callRead, callTell, noInformation, tellRe
 use Rattle.d64spec.specs.Store.{callStore, emptySlots, growDirectory, lastOf, newEntry, overwriteSlot, placement, sectorsNeeded, slotPlaceFor, storedDisk, writeSlot}
 use Rattle.d64spec.specs.Scratch.{callScratch, scratchedDisk}
 use Rattle.d64spec.specs.Call.{attempt, callCheck, outputBuffer, perform}
-use Rattle.d64spec.specs.Listing.{callListing, digit, freeTotal, headFrame, line, listingOutput, listingText, refusalLine, sleeveOutput, slotFrame, track18, track18Of}
+use Rattle.d64spec.specs.Listing.{callListing, digit, freeTotal, headFrame, line, listingOutput, listingText, refusalLine, sleeveOutput, slotFrame, diskOfTrack18, bytesOfTrack18}
 use Rattle.d64spec.specs.Host.{answerBlock, hostCall}
 use Rattle.d64spec.specs.Examples.{broken, brokenSteps, brokenZones, content, contentsOf, diskAt, exampleSteps, formatted, grown, holds, houseTracks, isDone, lastSector, scratchedAgain, stepHolds, storedOnce, table, trackBytes, withFile, zoneHolds, zones}
 use Rattle.d64spec.specs.Trial.{afterCall, brokenCalls, callHolds, checkRows, entryOn19, fieldsOf, freshImage, imageFar, imageOf, imageWithA, imageWithAB, imageWithEight, orderRows, readRows, sent, sleeveRows, smallLayout, tellRows, withEnds, writeRows}
@@ -38,7 +38,7 @@ order-holds = refl
 
 -- THE OTHER EXAMPLES HOLD: format, store, scratch, a directory that grows, and the whole listing
 pub steps-hold : brokenSteps exampleSteps ≡ []
-unfolding table holds lastSector content formatted withFile storedOnce scratchedAgain grown trackBytes diskAt isDone contentsOf stepHolds exampleSteps sectorNumber onDisk layout35 firstOn sectorsOn total tracks mapOnes mapBit sectorsNeeded allocationOrder allocationTracks ascending descending sectorsOfTrack lastOf put formattedDisk formattedMap formatHeader freeAfterFormat padded expectedEntry expectedBit bitmapByte rewriteMap claimCount claimList claimsOf directorySectors files occupied fileOf slotIn slotsIn firstLink linkTo fileLink directoryLink decodeFileLink decodeDirectoryLink freeForFiles freeForDirectory emptySlots slotPlaceFor first placement storedDisk writeSlot overwriteSlot growDirectory newEntry scratchedDisk checkDisk checkDirectory checkSlot checkEntry entryCorrect wrongBits validType validName nameOf callListing listingOutput listingText headFrame slotFrame line digit freeTotal track18 disk refusalLine
+unfolding table holds lastSector content formatted withFile storedOnce scratchedAgain grown trackBytes diskAt isDone contentsOf stepHolds exampleSteps sectorNumber onDisk layout35 firstOn sectorsOn total tracks mapOnes mapBit sectorsNeeded allocationOrder allocationTracks ascending descending sectorsOfTrack lastOf put formattedDisk formattedMap formatHeader freeAfterFormat padded expectedEntry expectedBit bitmapByte rewriteMap claimCount claimList claimsOf directorySectors files occupied fileOf slotIn slotsIn firstLink linkTo fileLink directoryLink decodeFileLink decodeDirectoryLink freeForFiles freeForDirectory emptySlots slotPlaceFor first placement storedDisk writeSlot overwriteSlot growDirectory newEntry scratchedDisk checkDisk checkDirectory checkSlot checkEntry entryCorrect wrongBits validType validName nameOf callListing listingOutput listingText headFrame slotFrame line digit freeTotal diskOfTrack18 disk refusalLine
 steps-hold = refl
 
 -- the calls on a small disk, by subject
@@ -52,7 +52,7 @@ pub record CallsHold : Type 0 where
 
 -- EVERY ANSWER NUMBER, in its order and with its place, on a small disk
 pub calls-hold : CallsHold
-unfolding checkRows orderRows readRows writeRows tellRows sleeveRows imageWithEight imageFar sleeveOutput track18Of listingOutput callListing listingText headFrame slotFrame line digit freeTotal track18 refusalLine callHolds imageOf freshImage imageWithA imageWithAB afterCall entryOn19 withEnds sent smallLayout fieldsOf hostCall perform reply attempt outputBuffer answerBlock callCheck callFormat callRead callStore callScratch callTell tellReply noInformation checkImage rightSize validNameArgument validKind writable filesNamed image disk put first sectorNumber onDisk firstOn sectorsOn total tracks mapOnes mapBit sectorsNeeded allocationOrder allocationTracks ascending descending sectorsOfTrack lastOf formattedDisk formattedMap formatHeader freeAfterFormat padded expectedEntry expectedBit bitmapByte rewriteMap claimCount claimList claimsOf directorySectors files occupied fileOf slotIn slotsIn firstLink linkTo fileLink directoryLink decodeFileLink decodeDirectoryLink freeForFiles freeForDirectory emptySlots slotPlaceFor placement storedDisk writeSlot overwriteSlot growDirectory newEntry scratchedDisk checkDisk checkDirectory checkSlot checkEntry entryCorrect wrongBits validType validName nameOf
+unfolding checkRows orderRows readRows writeRows tellRows sleeveRows imageWithEight imageFar sleeveOutput bytesOfTrack18 listingOutput callListing listingText headFrame slotFrame line digit freeTotal diskOfTrack18 refusalLine callHolds imageOf freshImage imageWithA imageWithAB afterCall entryOn19 withEnds sent smallLayout fieldsOf hostCall perform reply attempt outputBuffer answerBlock callCheck callFormat callRead callStore callScratch callTell tellReply noInformation checkImage rightSize validNameArgument validKind writable filesNamed image disk put first sectorNumber onDisk firstOn sectorsOn total tracks mapOnes mapBit sectorsNeeded allocationOrder allocationTracks ascending descending sectorsOfTrack lastOf formattedDisk formattedMap formatHeader freeAfterFormat padded expectedEntry expectedBit bitmapByte rewriteMap claimCount claimList claimsOf directorySectors files occupied fileOf slotIn slotsIn firstLink linkTo fileLink directoryLink decodeFileLink decodeDirectoryLink freeForFiles freeForDirectory emptySlots slotPlaceFor placement storedDisk writeSlot overwriteSlot growDirectory newEntry scratchedDisk checkDisk checkDirectory checkSlot checkEntry entryCorrect wrongBits validType validName nameOf
 calls-hold = record {
   checks = refl;
   refusals = refl;

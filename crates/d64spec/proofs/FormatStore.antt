@@ -61,7 +61,7 @@ module _ (img name : Bytes) (id1 id2 : ℕ) (formatted : perform layout35 img (f
         accepted = r .accepted;
         nameValid = is-name;
         kindValid = is-kind;
-        unlocked = version-exact layout35 (disk after) .0 (r .writable);
+        mayWrite = version-exact layout35 (disk after) .0 (r .writable);
         absent = no-file layout35 after file (r .bare);
       }
 

@@ -75,7 +75,7 @@ module _ (g : Geometry) (d e : Disk) where
     type = r .type;
     name = r .name;
     chain = chain-frame g (fileLink g) d e (firstLink g d (f .slot)) (f .sectors) (all-of-count g (λ n. fileLink g (d n) ≡ fileLink g (e n)) (f .sectors) (λ n h. ap (fileLink g) (a n h))) (r .chain);
-    number = r .number;
+    sectorCount = r .sectorCount;
   }
 
   pub same-valid-entries : (fs : List File) → Agree (fileClaims g fs) → All (ValidEntry g d) fs → All (ValidEntry g e) fs

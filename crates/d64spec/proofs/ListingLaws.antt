@@ -14,7 +14,7 @@ use Rattle.d64spec.specs.Image.{Disk}
 use Rattle.d64spec.specs.Chain.{Chain, Link, bad, decodeDirectoryLink, directoryLink, ends, linkTo, steps, to, walk}
 use Rattle.d64spec.specs.Directory.{Slot, isEmpty, occupiedIn, slotsFrom, slotsIn}
 use Rattle.d64spec.specs.Check.{checkDirectory}
-use Rattle.d64spec.specs.Listing.{Listed, callListing, digit, freeTotal, headFrame, line, listSlots, listingText, slotFrame, track18}
+use Rattle.d64spec.specs.Listing.{Listed, callListing, digit, freeTotal, headFrame, line, listSlots, listingText, slotFrame, diskOfTrack18}
 use Rattle.d64spec.proofs.ResultLaws.{need-done, then-done, bind-done, done-inj}
 use Rattle.d64spec.proofs.PigeonholeLaws.{pigeon}
 use Rattle.d64spec.proofs.WalkLaws.{Walked, walk-sound}
@@ -145,7 +145,7 @@ longest g = 42 + 344 * (sectorsOn g 18 - 1)
 module _ (g : Geometry) (v : Valid g) (b : Bytes) where
   -- track 18's sectors
   abbrev d : Disk
-  d = track18 g b
+  d = diskOfTrack18 g b
 
   -- the occupied slots of these directory sectors
   abbrev slots : List Address → List Slot
@@ -190,10 +190,10 @@ listing-fits g v b out h e = subst (Refusals Not16) e never refl
     never : Refusals Not16 (callListing g b out)
     never =
         need-outcome Not16 (λ x. Unit {0}) (eqb (length b) (256 * sectorsOn g 18)) wrongSize _ (never-16 1 refl (omega arith))
-        (λ s. bind-outcome Not16 (λ x. Unit {0}) (walk g (directoryLink g) (track18 g b) (steps g) (sectorNumber g mapAddress ∷ []) mapAddress 255 (to directoryStart)) _
-        (walk-refusals Not16 g (directoryLink g) (directoryLink-on g) (track18 g b) 255 (λ r o. (never-16 2 refl (omega arith), never-16 3 refl (omega arith))) (steps g) (sectorNumber g mapAddress ∷ []) mapAddress (to directoryStart) (map-on g (v .directory)) (v .directory))
+        (λ s. bind-outcome Not16 (λ x. Unit {0}) (walk g (directoryLink g) (diskOfTrack18 g b) (steps g) (sectorNumber g mapAddress ∷ []) mapAddress 255 (to directoryStart)) _
+        (walk-refusals Not16 g (directoryLink g) (directoryLink-on g) (diskOfTrack18 g b) 255 (λ r o. (never-16 2 refl (omega arith), never-16 3 refl (omega arith))) (steps g) (sectorNumber g mapAddress ∷ []) mapAddress (to directoryStart) (map-on g (v .directory)) (v .directory))
         (λ ds e. then-outcome Not16 (λ x. Unit {0}) (listSlots [] (slots g v b ds)) _ (listSlots-refusals Not16 [] (slots g v b ds) (entries-16 (slots g v b ds)))
-        (λ x e′. rw (le-leb (length (listingText g (track18 g b) (slots g v b ds))) (length out) (omega (arith, text-bound g v b ds e))) tt)))
+        (λ x e′. rw (le-leb (length (listingText g (diskOfTrack18 g b) (slots g v b ds))) (length out) (omega (arith, text-bound g v b ds e))) tt)))
 
 -- ---- 35 tracks
 

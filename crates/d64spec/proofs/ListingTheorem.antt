@@ -17,7 +17,7 @@ use Rattle.d64spec.specs.Image.{disk}
 use Rattle.d64spec.specs.Directory.{occupied, occupiedIn}
 use Rattle.d64spec.specs.Check.{checkDirectory, rightSize}
 use Rattle.d64spec.specs.Read.{FileInformation, callTell, tellReply}
-use Rattle.d64spec.specs.Listing.{Listed, callListing, digit, listSlots, listingOutput, listingReply, listingText, refusalLine, sleeveOutput, track18, track18Of}
+use Rattle.d64spec.specs.Listing.{Listed, callListing, digit, listSlots, listingOutput, listingReply, listingText, refusalLine, sleeveOutput, diskOfTrack18, bytesOfTrack18}
 use Rattle.d64spec.specs.Order.{FirstFails, asks, asksDirectory, listingConditions, listingSlots}
 use Rattle.d64spec.specs.Exact.{Listable}
 use Rattle.d64spec.specs.Facts.{SleeveRefused, textOf}
@@ -43,13 +43,13 @@ module _ (g : Geometry) (v : Valid g) (b out : Bytes) where
   unfolding callListing occupied
   listing-done l e =
       let h1 = need-done (eqb (length b) (256 * sectorsOn g 18)) wrongSize _ l e in
-      let h2 = bind-done (checkDirectory g (track18 g b)) _ l (h1 .1) in
-      let walked = directory-walked g v (track18 g b) (h2 .0) (h2 .1) in
-      let h3 = then-done (listSlots [] (occupiedIn g (track18 g b) (h2 .0))) _ l (h2 .2) in
-      let h4 = need-done (leb (length (listingText g (track18 g b) (occupiedIn g (track18 g b) (h2 .0)))) (length out)) wrongBuffer _ l (h3 .2) in
+      let h2 = bind-done (checkDirectory g (diskOfTrack18 g b)) _ l (h1 .1) in
+      let walked = directory-walked g v (diskOfTrack18 g b) (h2 .0) (h2 .1) in
+      let h3 = then-done (listSlots [] (occupiedIn g (diskOfTrack18 g b) (h2 .0))) _ l (h2 .2) in
+      let h4 = need-done (leb (length (listingText g (diskOfTrack18 g b) (occupiedIn g (diskOfTrack18 g b) (h2 .0)))) (length out)) wrongBuffer _ l (h3 .2) in
       let z = done-inj (h4 .1) in (
-        ap (λ (x : Listed). x .outputAfter) (sym z) ∙ ap (λ (ds : List Address). splice out 0 (listingText g (track18 g b) (occupiedIn g (track18 g b) ds))) walked,
-        ap (λ (x : Listed). x .reportedLength) (sym z) ∙ ap (λ (ds : List Address). length (listingText g (track18 g b) (occupiedIn g (track18 g b) ds))) walked,
+        ap (λ (x : Listed). x .outputAfter) (sym z) ∙ ap (λ (ds : List Address). splice out 0 (listingText g (diskOfTrack18 g b) (occupiedIn g (diskOfTrack18 g b) ds))) walked,
+        ap (λ (x : Listed). x .reportedLength) (sym z) ∙ ap (λ (ds : List Address). length (listingText g (diskOfTrack18 g b) (occupiedIn g (diskOfTrack18 g b) ds))) walked,
       )
 
   -- it answers 0
@@ -74,8 +74,8 @@ module _ (g : Geometry) (v : Valid g) (b out : Bytes) where
       let fits : f ≡ wrongBuffer → ⊥ = λ e. long (decided-listing g v b out .whenRefused wrongBuffer .1 (rw e at h)) in
       elim h [
         | inl k ↦ absurd (k .0 size)
-        | inr k ↦ elim (firstFails-append (asksDirectory g (track18 g b) ∷ listingSlots [] (occupied g (track18 g b))) (asks (length (textOf g b) ≤ length out) wrongBuffer ∷ []) f .0 (k .1)) [
-          | inl w ↦ firstFails-answers (Between 2 6) (asksDirectory g (track18 g b) ∷ listingSlots [] (occupied g (track18 g b))) f shown w
+        | inr k ↦ elim (firstFails-append (asksDirectory g (diskOfTrack18 g b) ∷ listingSlots [] (occupied g (diskOfTrack18 g b))) (asks (length (textOf g b) ≤ length out) wrongBuffer ∷ []) f .0 (k .1)) [
+          | inl w ↦ firstFails-answers (Between 2 6) (asksDirectory g (diskOfTrack18 g b) ∷ listingSlots [] (occupied g (diskOfTrack18 g b))) f shown w
           | inr w ↦ elim (w .1) [
             | inl u ↦ absurd (fits (u .1))
             | inr u ↦ absurd (u .1)
@@ -83,10 +83,10 @@ module _ (g : Geometry) (v : Valid g) (b out : Bytes) where
         ]
       ]
     where
-      shown : Answers (Between 2 6) (asksDirectory g (track18 g b) ∷ listingSlots [] (occupied g (track18 g b)))
+      shown : Answers (Between 2 6) (asksDirectory g (diskOfTrack18 g b) ∷ listingSlots [] (occupied g (diskOfTrack18 g b)))
       shown = (
-        (λ f w. let r = directory-answers g (track18 g b) f w in omega arith),
-        answers-imp (λ f r. omega arith) (listingSlots [] (occupied g (track18 g b))) (listing-slots-answers [] (occupied g (track18 g b))),
+        (λ f w. let r = directory-answers g (diskOfTrack18 g b) f w in omega arith),
+        answers-imp (λ f r. omega arith) (listingSlots [] (occupied g (diskOfTrack18 g b))) (listing-slots-answers [] (occupied g (diskOfTrack18 g b))),
       )
 
 -- a number below 10 in two digits
@@ -120,8 +120,8 @@ part-of-front (suc a) m (suc n) [] h = refl
 part-of-front (suc a) m (suc n) (x ∷ l) h = part-of-front a m n l (omega arith)
 
 -- its i-th sector is the image's
-pub track18-sector : (g : Geometry) (img : Bytes) (i : ℕ) → i < sectorsOn g 18 → disk (track18Of g img) i ≡ disk img (sectorNumber g mapAddress + i)
-unfolding disk track18Of
+pub track18-sector : (g : Geometry) (img : Bytes) (i : ℕ) → i < sectorsOn g 18 → disk (bytesOfTrack18 g img) i ≡ disk img (sectorNumber g mapAddress + i)
+unfolding disk bytesOfTrack18
 track18-sector g img i h =
     let offset : 256 * sectorNumber g mapAddress + 256 * i ≡ 256 * (sectorNumber g mapAddress + i) = omega arith in
     part-of-front (256 * i) 256 (256 * sectorsOn g 18) (drop (256 * sectorNumber g mapAddress) img) (omega arith)
@@ -129,8 +129,8 @@ track18-sector g img i h =
     ∙ ap (λ (k : ℕ). take 256 (drop k img)) offset
 
 -- and under its own number it is that sector
-pub track18-own : (g : Geometry) (img : Bytes) (n : ℕ) → sectorNumber g mapAddress ≤ n → n < sectorNumber g mapAddress + sectorsOn g 18 → track18 g (track18Of g img) n ≡ disk img n
-unfolding track18
+pub track18-own : (g : Geometry) (img : Bytes) (n : ℕ) → sectorNumber g mapAddress ≤ n → n < sectorNumber g mapAddress + sectorsOn g 18 → diskOfTrack18 g (bytesOfTrack18 g img) n ≡ disk img n
+unfolding diskOfTrack18
 track18-own g img n low high =
     let same : sectorNumber g mapAddress + (n - sectorNumber g mapAddress) ≡ n = omega arith in
     track18-sector g img (n - sectorNumber g mapAddress) (omega arith) ∙ ap (disk img) same
@@ -151,8 +151,8 @@ sectors35 = refl
 
 module _ (input : Bytes) where
   -- TRACK 18 of an image: 4,864 bytes
-  pub track18-length : length input ≡ 174848 → length (track18Of layout35 input) ≡ 4864
-  unfolding track18Of
+  pub track18-length : length input ≡ 174848 → length (bytesOfTrack18 layout35 input) ≡ 4864
+  unfolding bytesOfTrack18
   track18-length e =
       omega (
         arith,
@@ -163,11 +163,11 @@ module _ (input : Bytes) where
       )
 
   -- the sectors 357 to 375
-  pub track18-sectors : (i : ℕ) → i < 19 → disk (track18Of layout35 input) i ≡ disk input (357 + i)
+  pub track18-sectors : (i : ℕ) → i < 19 → disk (bytesOfTrack18 layout35 input) i ≡ disk input (357 + i)
   track18-sectors i h = track18-sector layout35 input i (omega (arith, sectors35)) ∙ ap (λ (n : ℕ). disk input (n + i)) first35
 
 -- what the program prints of an image of the right size
-sleeve-right : (g : Geometry) (input : Bytes) → length input ≡ 256 * total g → sleeveOutput g input ≡ listingOutput (callListing g (track18Of g input) (zeros 6234))
+sleeve-right : (g : Geometry) (input : Bytes) → length input ≡ 256 * total g → sleeveOutput g input ≡ listingOutput (callListing g (bytesOfTrack18 g input) (zeros 6234))
 unfolding sleeveOutput rightSize
 sleeve-right g input e = rw (eq-eqb (length input) (256 * total g) e)
 
@@ -178,11 +178,11 @@ module _ (input : Bytes) where
   sleeve-size h = rw (ne-eqb (length input) (256 * total layout35) (λ e. h (e ∙ size35)))
 
   -- GIVEN AN IMAGE WHOSE TRACK 18 CAN BE LISTED: exactly the listing
-  pub sleeve-text : length input ≡ 174848 → Listable layout35 (track18Of layout35 input) (zeros 6234) → sleeveOutput layout35 input ≡ textOf layout35 (track18Of layout35 input)
-  sleeve-text e h = sleeve-right layout35 input (e ∙ sym size35) ∙ printed-text layout35 valid35 (track18Of layout35 input) (zeros 6234) h
+  pub sleeve-text : length input ≡ 174848 → Listable layout35 (bytesOfTrack18 layout35 input) (zeros 6234) → sleeveOutput layout35 input ≡ textOf layout35 (bytesOfTrack18 layout35 input)
+  sleeve-text e h = sleeve-right layout35 input (e ∙ sym size35) ∙ printed-text layout35 valid35 (bytesOfTrack18 layout35 input) (zeros 6234) h
 
   -- GIVEN ANY OTHER IMAGE: the number of the first fault that track 18 shows
-  pub sleeve-refused : length input ≡ 174848 → (Listable layout35 (track18Of layout35 input) (zeros 6234) → ⊥) → SleeveRefused layout35 (track18Of layout35 input) (zeros 6234) (sleeveOutput layout35 input)
+  pub sleeve-refused : length input ≡ 174848 → (Listable layout35 (bytesOfTrack18 layout35 input) (zeros 6234) → ⊥) → SleeveRefused layout35 (bytesOfTrack18 layout35 input) (zeros 6234) (sleeveOutput layout35 input)
   sleeve-refused e h =
-      subst (SleeveRefused layout35 (track18Of layout35 input) (zeros 6234)) (sym (sleeve-right layout35 input (e ∙ sym size35)))
-      (printed-refusal layout35 valid35 (track18Of layout35 input) (zeros 6234) (omega (arith, track18-length input e, sectors35)) (buffer-6234 (track18Of layout35 input) (zeros 6234) (le-of-eq (sym (length-replicate {A = ℕ} 6234 0)))) h)
+      subst (SleeveRefused layout35 (bytesOfTrack18 layout35 input) (zeros 6234)) (sym (sleeve-right layout35 input (e ∙ sym size35)))
+      (printed-refusal layout35 valid35 (bytesOfTrack18 layout35 input) (zeros 6234) (omega (arith, track18-length input e, sectors35)) (buffer-6234 (bytesOfTrack18 layout35 input) (zeros 6234) (le-of-eq (sym (length-replicate {A = ℕ} 6234 0)))) h)

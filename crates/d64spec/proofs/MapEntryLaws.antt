@@ -83,7 +83,7 @@ module _ (g : Geometry) (v : Valid g) (d e : Disk) (t : ℕ)
   unfolding mapOnes
   same-entry zero h =
       let z : g .mapAt t + 0 ≡ g .mapAt t = omega arith in
-      ap (byte m) z ∙ p .number ∙ sum-same (mapBit g m t) (mapBit g m′ t) 0 (sectorsOn g t) (λ i l u. same-bit i (omega (arith, v .small t))) ∙ sym (q .number) ∙ ap (byte m′) (sym z)
+      ap (byte m) z ∙ p .freeCount ∙ sum-same (mapBit g m t) (mapBit g m′ t) 0 (sectorsOn g t) (λ i l u. same-bit i (omega (arith, v .small t))) ∙ sym (q .freeCount) ∙ ap (byte m′) (sym z)
   same-entry (suc i) h =
       let z : g .mapAt t + suc i ≡ g .mapAt t + 1 + i = omega arith in
       ap (byte m) z ∙ same-bitmap i (omega arith) ∙ ap (byte m′) (sym z)

@@ -95,7 +95,7 @@ module _ (g : Geometry) (v : Valid g) (d : Disk) (u : (n : ℕ) → claimCount g
       let bit : (s : ℕ) → s < 24 → mapBit g m t s ≡ expectedBit g (isFree g d) t s
       = λ s l. eqb-true (mapBit g m t s) (expectedBit g (isFree g d) t s) (not-false _ (range-at (λ s. not (eqb (mapBit g m t s) (expectedBit g (isFree g d) t s)) ≡ false) 0 24 all s (omega arith) (omega arith))) in
       record {
-        number = eqb-true _ _ (h .1);
+        freeCount = eqb-true _ _ (h .1);
         free = λ s l. mark-of-sum t s (rw (bit s (omega (arith, v .small t))) (in-bit t s l));
         past = λ s l l′. bit s l′ ∙ past-bit t s l;
       }
@@ -111,7 +111,7 @@ module _ (g : Geometry) (v : Valid g) (d : Disk) (u : (n : ℕ) → claimCount g
       let none : length (wrongBits g (isFree g d) m t) ≡ 0
       = none-filter (λ s. not (eqb (mapBit g m t s) (expectedBit g (isFree g d) t s))) (range 0 24)
       (range-all (λ s. not (eqb (mapBit g m t s) (expectedBit g (isFree g d) t s)) ≡ false) 0 24 (λ s l l′. ap not (eq-eqb (mapBit g m t s) (expectedBit g (isFree g d) t s) (bit s (omega arith))))) in
-      both-true (eq-eqb (length (wrongBits g (isFree g d) m t)) 0 none) (eq-eqb (byte m (g .mapAt t)) (mapOnes g m t) (r .number))
+      both-true (eq-eqb (length (wrongBits g (isFree g d) m t)) 0 none) (eq-eqb (byte m (g .mapAt t)) (mapOnes g m t) (r .freeCount))
 
   -- ---- all tracks
 

@@ -151,7 +151,7 @@ module _ (g : Geometry) (v : Valid g) (d : Disk) (w : Whole g d) (s : Sound g d)
       let m : Bytes = rewriteMap g d (sectorNumber g mapAddress) in
       let k = rewrite-holds t l h in
       record {
-        number = holds-ones g v (isFree g d) m t k;
+        freeCount = holds-ones g v (isFree g d) m t k;
         free = λ s b. mark-of-sum g v (rewriteMap g d) s-once′ t s (rw (holds-bit g v (isFree g d) m t k s (omega (arith, v .small t)), rewrite-claims (sectorNumber g (address t s))) (in-bit g v d (s-once) t s b));
         past = λ s b b′. holds-bit g v (isFree g d) m t k s b′ ∙ past-bit g v d s-once t s b;
       }

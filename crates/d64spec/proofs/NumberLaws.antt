@@ -12,7 +12,7 @@ use Rattle.d64spec.specs.Geometry.{Geometry, directoryStart, mapAddress,
 use Rattle.d64spec.specs.Image.{Disk}
 use Rattle.d64spec.specs.Chain.{Link, directoryLink, fileLink, to}
 use Rattle.d64spec.specs.Directory.{Slot, countOf, directorySectors, fileOf, firstLink, nameOf, occupied}
-use Rattle.d64spec.specs.Listing.{listingText, track18}
+use Rattle.d64spec.specs.Listing.{listingText, diskOfTrack18}
 use Rattle.d64spec.specs.Order.{AllHold, ChainFault, Condition, FirstFails, asks, asksChain, asksDirectory, diskConditions, entryConditions, listingConditions, listingSlots, mapConditions, slotConditions, slotsConditions}
 use Rattle.d64spec.specs.Exact.{ListingNumber}
 use Rattle.d64spec.proofs.ConditionLaws.{firstFails-append}
@@ -104,9 +104,9 @@ unfolding listingConditions
 listing-answers g b out = (
   (λ f e. rw e (inl refl)),
   (
-    (λ f w. let h = directory-answers g (track18 g b) f w in inr (inl (omega arith))),
-    answers-append (λ f. ListingNumber (answerOf f .number)) (listingSlots [] (occupied g (track18 g b))) (asks (length (listingText g (track18 g b) (occupied g (track18 g b))) ≤ length out) wrongBuffer ∷ [])
-        (answers-imp (λ f h. inr (inl (omega arith))) (listingSlots [] (occupied g (track18 g b))) (listing-slots-answers [] (occupied g (track18 g b))))
+    (λ f w. let h = directory-answers g (diskOfTrack18 g b) f w in inr (inl (omega arith))),
+    answers-append (λ f. ListingNumber (answerOf f .number)) (listingSlots [] (occupied g (diskOfTrack18 g b))) (asks (length (listingText g (diskOfTrack18 g b) (occupied g (diskOfTrack18 g b))) ≤ length out) wrongBuffer ∷ [])
+        (answers-imp (λ f h. inr (inl (omega arith))) (listingSlots [] (occupied g (diskOfTrack18 g b))) (listing-slots-answers [] (occupied g (diskOfTrack18 g b))))
         ((λ f e. rw e (inr (inr refl))), tt),
   ),
 )

@@ -24,7 +24,7 @@ use Rattle.d64spec.specs.Read.{FileInformation, callRead, callTell, noIn
 use Rattle.d64spec.specs.Store.{SlotPlace, callStore, emptySlots, inEmptySlot, inNewSector, sectorsNeeded, slotPlaceFor}
 use Rattle.d64spec.specs.Scratch.{callScratch}
 use Rattle.d64spec.specs.Call.{Call, attempt, callCheck, check, format, outputBuffer, perform, read, scratch, store}
-use Rattle.d64spec.specs.Listing.{Listed, callListing, listSlots, listingReply, listingText, track18}
+use Rattle.d64spec.specs.Listing.{Listed, callListing, listSlots, listingReply, listingText, diskOfTrack18}
 use Rattle.d64spec.specs.Order.{AllHold, Condition, FirstFails, asks, asksFile, asksName, asksOutput, asksSize, asksVersion, conditions, diskConditions, listingConditions, listingSlots, tellConditions}
 use Rattle.d64spec.proofs.ConditionLaws.{Decided, decided-bind, decided-bind-done, decided-need, decided-one, decided-then, decided-then-done, done≢refused, eqb-exact, leb-exact}
 use Rattle.d64spec.proofs.NamedLaws.{filesNamed-single}
@@ -205,16 +205,16 @@ module _ (g : Geometry) (v : Valid g) (img : Bytes) where
 
 module _ (g : Geometry) (v : Valid g) (b out : Bytes) where
   -- the slots of a listing, then its text
-  decided-text : (ss : List Slot) (y : Listed) → Decided (listSlots [] ss >> (need (leb (length (listingText g (track18 g b) ss)) (length out)) wrongBuffer >> done y))
-      (listingSlots [] ss ++ (asks (length (listingText g (track18 g b) ss) ≤ length out) wrongBuffer ∷ []))
-  decided-text ss y = decided-then (decided-list-slots [] ss) (λ h. decided-then-done (decided-need _ wrongBuffer _ (leb-exact (length (listingText g (track18 g b) ss)) (length out))) y)
+  decided-text : (ss : List Slot) (y : Listed) → Decided (listSlots [] ss >> (need (leb (length (listingText g (diskOfTrack18 g b) ss)) (length out)) wrongBuffer >> done y))
+      (listingSlots [] ss ++ (asks (length (listingText g (diskOfTrack18 g b) ss) ≤ length out) wrongBuffer ∷ []))
+  decided-text ss y = decided-then (decided-list-slots [] ss) (λ h. decided-then-done (decided-need _ wrongBuffer _ (leb-exact (length (listingText g (diskOfTrack18 g b) ss)) (length out))) y)
 
   -- THE ORDER OF A LISTING
   pub decided-listing : Decided (callListing g b out) (listingConditions g b out)
   unfolding callListing listingConditions occupied
   decided-listing =
       decided-then (decided-need _ wrongSize _ (eqb-exact (length b) (256 * sectorsOn g 18))) (λ h.
-      decided-bind (decided-directory g v (track18 g b)) (λ ds e h. rw (directory-walked g v (track18 g b) ds e) (decided-text (occupied g (track18 g b)) _)))
+      decided-bind (decided-directory g v (diskOfTrack18 g b)) (λ ds e h. rw (directory-walked g v (diskOfTrack18 g b) ds e) (decided-text (occupied g (diskOfTrack18 g b)) _)))
 
   -- the same of a listing
   pub listing-exactly : (listingReply out (callListing g b out) .answer .number ≡ 0) ↔ AllHold (listingConditions g b out)

@@ -193,6 +193,6 @@ module _ (g : Geometry) (v : Valid g) (img : Bytes) where
         nameBytes = ap (λ (x : FileInformation). x .nameBytes) (sym z) ∙ valid-name (f .slot .bytes) (y .name);
         further = s .0;
         first = s .1 ∙ ap (λ (x : FileInformation). address (x .firstTrack) (x .firstSector) ∷ s .0) z;
-        sectorCount = ap (λ (x : FileInformation). x .sectorCount) (sym z) ∙ y .number;
+        sectorCount = ap (λ (x : FileInformation). x .sectorCount) (sym z) ∙ y .sectorCount;
         byteLength = ap (λ (x : FileInformation). x .byteLength) (sym z);
       }

@@ -41,8 +41,8 @@ name-argument-exact n = (
       let a = and-true (ltb 0 (length n)) (ltb (length n) 17 && eqb (count 0xA0 n) 0) e in
       let b = and-true (ltb (length n) 17) (eqb (count 0xA0 n) 0) (a .1) in
       let l : length n < 17 = ltb-true (length n) 17 (b .0) in
-      record { some = ltb-true 0 (length n) (a .0); short = omega arith; plain = eqb-true (count 0xA0 n) 0 (b .1) }),
-  (λ h. both-true (lt-ltb 0 (length n) (h .some)) (both-true (lt-ltb (length n) 17 (let s = h .short in omega arith)) (eq-eqb (count 0xA0 n) 0 (h .plain)))),
+      record { some = ltb-true 0 (length n) (a .0); short = omega arith; noPadding = eqb-true (count 0xA0 n) 0 (b .1) }),
+  (λ h. both-true (lt-ltb 0 (length n) (h .some)) (both-true (lt-ltb (length n) 17 (let s = h .short in omega arith)) (eq-eqb (count 0xA0 n) 0 (h .noPadding)))),
 )
 
 -- either test of two
@@ -96,7 +96,7 @@ name-exact b = (
       let h = and-true (not (eqb (length (nameOf b)) 0)) (equal (nameField b) (padded (nameOf b))) e in
       let z : nameField b ≡ padded (nameOf b) = eq-of-equal (nameField b) (padded (nameOf b)) (h .1) in
       record {
-        name = record { some = some-of (length (nameOf b)) (h .0); short = short-of (nameOf b) (ap length (sym z)); plain = name-plain b };
+        name = record { some = some-of (length (nameOf b)) (h .0); short = short-of (nameOf b) (ap length (sym z)); noPadding = name-plain b };
         padding = z;
       }),
   (λ h. both-true (ap not (ne-eqb (length (nameOf b)) 0 (λ z. let s = h .name .some in omega arith))) (rw (h .padding) (equal-refl (padded (nameOf b))))),

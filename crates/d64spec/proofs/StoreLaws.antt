@@ -156,7 +156,7 @@ module _ (g : Geometry) (v : Valid g) (d : Disk) (a : Sound g d) (r : Address) (
     type = ap (λ (x : Bytes). validType (entryByte x 0x02)) (e .bytes) ∙ entry-type name kind r (length refs) asked kind-asked;
     name = ap validName (e .bytes) ∙ entry-name-right name kind r (length refs) asked kind-asked;
     chain = rw start2 chain2;
-    number = ap countOf (e .bytes) ∙ entry-count name kind r (length refs) asked kind-asked;
+    sectorCount = ap countOf (e .bytes) ∙ entry-count name kind r (length refs) asked kind-asked;
   }
 
   f-name : nameOf (s .bytes) ≡ name

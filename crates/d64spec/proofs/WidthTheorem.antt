@@ -22,7 +22,7 @@ use Rattle.d64spec.specs.Read.{callRead, callTell, tellReply}
 use Rattle.d64spec.specs.Store.{SlotPlace, callStore, emptySlots, inEmptySlot, inNewSector, placement, sectorsNeeded, slotPlaceFor}
 use Rattle.d64spec.specs.Scratch.{callScratch}
 use Rattle.d64spec.specs.Call.{Call, attempt, callCheck, check, format, outputBuffer, perform, read, scratch, store}
-use Rattle.d64spec.specs.Listing.{callListing, listSlots, listingReply, listingText, track18}
+use Rattle.d64spec.specs.Listing.{callListing, listSlots, listingReply, listingText, diskOfTrack18}
 use Rattle.d64spec.specs.Host.{answerBlock, hostCall}
 use Rattle.d64spec.specs.Facts.{AnswerFits, GivesBackReply, ReplyFits}
 use Rattle.d64spec.proofs.PigeonholeLaws.{pigeon}
@@ -180,10 +180,10 @@ module _ (g : Geometry) (v : Valid g) (few : tracks g < 256) where
   listing-answer-fits b out =
       answer-fits (λ x. listingReply out x .answer) (callListing g b out) (λ f p. p) (λ l. plain-fits 0 (omega arith))
       (need-outcome FaultFits (λ x. Unit {0}) (eqb (length b) (256 * sectorsOn g 18)) wrongSize _ (plain-fits 1 (omega arith))
-      (λ s. bind-outcome FaultFits (λ x. Unit {0}) (checkDirectory g (track18 g b)) _ (checkDirectory-fits g v few (track18 g b))
-      (λ ds e. then-outcome FaultFits (λ x. Unit {0}) (listSlots [] (occupiedIn g (track18 g b) ds)) _
-      (listSlots-refusals FaultFits [] (occupiedIn g (track18 g b) ds) (all-map (entry-fits g v few) (occupiedIn g (track18 g b) ds) (slots-fit g v few (track18 g b) ds e)))
-      (λ x e′. need-outcome FaultFits (λ x. Unit {0}) (leb (length (listingText g (track18 g b) (occupiedIn g (track18 g b) ds))) (length out)) wrongBuffer _ (plain-fits 16 (omega arith)) (λ r. tt)))))
+      (λ s. bind-outcome FaultFits (λ x. Unit {0}) (checkDirectory g (diskOfTrack18 g b)) _ (checkDirectory-fits g v few (diskOfTrack18 g b))
+      (λ ds e. then-outcome FaultFits (λ x. Unit {0}) (listSlots [] (occupiedIn g (diskOfTrack18 g b) ds)) _
+      (listSlots-refusals FaultFits [] (occupiedIn g (diskOfTrack18 g b) ds) (all-map (entry-fits g v few) (occupiedIn g (diskOfTrack18 g b) ds) (slots-fit g v few (diskOfTrack18 g b) ds e)))
+      (λ x e′. need-outcome FaultFits (λ x. Unit {0}) (leb (length (listingText g (diskOfTrack18 g b) (occupiedIn g (diskOfTrack18 g b) ds))) (length out)) wrongBuffer _ (plain-fits 16 (omega arith)) (λ r. tt)))))
 
 -- ---- the block
 

@@ -20,11 +20,11 @@ pub record ValidEntry (g : Geometry) (d : Disk) (f : File) : Type 0 where
   pub type : validType (entryByte (f .slot .bytes) 0x02) ≡ true
   pub name : validName (f .slot .bytes) ≡ true
   pub chain : Chain g (fileLink g) d (firstLink g d (f .slot)) (f .sectors)
-  pub number : countOf (f .slot .bytes) ≡ length (f .sectors)
+  pub sectorCount : countOf (f .slot .bytes) ≡ length (f .sectors)
 
 -- a track's map entry marks exactly nobody's sectors free: its count, its own bits, the bits past its last sector (01, The map)
 pub record MarksFree (g : Geometry) (d : Disk) (t : ℕ) : Type 0 where
-  pub number : byte (d (sectorNumber g mapAddress)) (g .mapAt t) ≡ mapOnes g (d (sectorNumber g mapAddress)) t
+  pub freeCount : byte (d (sectorNumber g mapAddress)) (g .mapAt t) ≡ mapOnes g (d (sectorNumber g mapAddress)) t
   pub free : (s : ℕ) → s < sectorsOn g t → (mapBit g (d (sectorNumber g mapAddress)) t s ≡ 1) ↔ Free g d (sectorNumber g (address t s))
   pub past : (s : ℕ) → sectorsOn g t ≤ s → s < 24 → mapBit g (d (sectorNumber g mapAddress)) t s ≡ 0
 

@@ -15,7 +15,7 @@ use Rattle.d64spec.specs.Directory.{Slot, File, entryByte, validType, va
 use Rattle.d64spec.specs.Owner.{Free, freeForFiles}
 use Rattle.d64spec.specs.Accepted.{Accepted}
 use Rattle.d64spec.specs.Store.{sectorsNeeded}
-use Rattle.d64spec.specs.Listing.{track18, listingText}
+use Rattle.d64spec.specs.Listing.{diskOfTrack18, listingText}
 use Rattle.d64spec.specs.Order.{ClaimsOnce}
 use Rattle.d64spec.specs.Rules.{IsName, IsKind, MayWrite}
 
@@ -47,7 +47,7 @@ pub record Admitted (g : Geometry) (img name : Bytes) (kind : ℕ) : Type 0 wher
   pub accepted : Accepted g img
   pub nameValid : IsName name
   pub kindValid : IsKind kind
-  pub unlocked : MayWrite g (disk img)
+  pub mayWrite : MayWrite g (disk img)
   pub absent : HasFile g img name → ⊥
 
 -- 14: no slot of the directory is empty, and no sector of track 18 is free (01, Answer numbers)
@@ -65,7 +65,7 @@ pub record Storable (g : Geometry) (img name : Bytes) (kind : ℕ) (bytes : Byte
 pub record Scratchable (g : Geometry) (img name : Bytes) : Type 0 where
   pub accepted : Accepted g img
   pub nameValid : IsName name
-  pub unlocked : MayWrite g (disk img)
+  pub mayWrite : MayWrite g (disk img)
   pub found : HasFile g img name
 
 -- what track 18 shows of an entry (01, The directory): kind and flags, and the name
@@ -76,10 +76,10 @@ pub record ShownEntry (s : Slot) : Type 0 where
 -- a listing is done: track 18's size, the directory's links, the entries, and a buffer with room (01, Sleeve listing)
 pub record Listable (g : Geometry) (b out : Bytes) : Type 0 where
   pub size : length b ≡ 256 * sectorsOn g 18
-  pub directory : ClaimsOnce g (directoryLink g) (track18 g b) (sectorNumber g mapAddress ∷ []) (to directoryStart)
-  pub entry : All ShownEntry (occupied g (track18 g b))
-  pub names : (n : Bytes) → nameCount n (map (λ s. nameOf (s .bytes)) (occupied g (track18 g b))) ≤ 1  -- no two files share a name
-  pub fits : length (listingText g (track18 g b) (occupied g (track18 g b))) ≤ length out
+  pub directory : ClaimsOnce g (directoryLink g) (diskOfTrack18 g b) (sectorNumber g mapAddress ∷ []) (to directoryStart)
+  pub entry : All ShownEntry (occupied g (diskOfTrack18 g b))
+  pub names : (n : Bytes) → nameCount n (map (λ s. nameOf (s .bytes)) (occupied g (diskOfTrack18 g b))) ≤ 1  -- no two files share a name
+  pub fits : length (listingText g (diskOfTrack18 g b) (occupied g (diskOfTrack18 g b))) ≤ length out
 
 -- the numbers of a listing's refusals: 1, what track 18 shows (2, 3 from directory links; 4, 5, 6), and 16 (01, Sleeve listing)
 abbrev pub ListingNumber : ℕ → Type 0

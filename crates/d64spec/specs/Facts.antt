@@ -19,7 +19,7 @@ use Rattle.d64spec.specs.Reply.{Change, Reply, writable}
 use Rattle.d64spec.specs.Format.{freeAfterFormat}
 use Rattle.d64spec.specs.Read.{FileInformation}
 use Rattle.d64spec.specs.Store.{lastOf}
-use Rattle.d64spec.specs.Listing.{listingText, track18}
+use Rattle.d64spec.specs.Listing.{listingText, diskOfTrack18}
 use Rattle.d64spec.specs.Host.{HostReply}
 use Rattle.d64spec.specs.Order.{FirstFails, listingConditions}
 
@@ -198,7 +198,7 @@ pub record WasTold (g : Geometry) (img : Bytes) (position : ℕ) (i : FileInform
 
 -- the text of a listing of track 18's bytes: its occupied slots, in order (01, Sleeve listing)
 abbrev pub textOf : Geometry → Bytes → Bytes
-textOf g b = listingText g (track18 g b) (occupied g (track18 g b))
+textOf g b = listingText g (diskOfTrack18 g b) (occupied g (diskOfTrack18 g b))
 
 -- what the program prints where a listing of these bytes is refused: the two digits of the first fault's number, which is 2 to 6, and LF (01, Sleeve listing)
 pub record SleeveRefused (g : Geometry) (b out printed : Bytes) : Type 0 where

@@ -1,5 +1,5 @@
--- An image is a list of bytes; a disk is its sectors by number (01, Tracks and sectors). Every definition above this module
--- reads an image by `disk` alone, so that chains, owners and room never speak of offsets.
+-- An image is a list of bytes; a disk is its sectors by number (01, Tracks and sectors). But for the size (specs/Check) and track 18 alone
+-- (specs/Listing), the modules after this one read an image by `disk` only, so that chains, owners and room never speak of offsets.
 use Prim.Native.Nat.{ℕ, _*_}
 use mathlib.Core.Bool.{cond}
 use mathlib.Core.List.{List, map}

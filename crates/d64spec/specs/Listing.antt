@@ -13,8 +13,8 @@ use Rattle.d64spec.specs.Directory.{Slot, nameOf, fromByte0, occupiedIn}
 use Rattle.d64spec.specs.Check.{checkEntry, checkDirectory, rightSize}
 
 -- track 18's sectors under their own numbers
-unfoldable pub track18 : Geometry → Bytes → Disk
-track18 g b n = disk b (n - sectorNumber g mapAddress)
+unfoldable pub diskOfTrack18 : Geometry → Bytes → Disk
+diskOfTrack18 g b n = disk b (n - sectorNumber g mapAddress)
 
 -- the faults of slots that track 18 shows, slot by slot
 abbrev pub listSlots : List Bytes → List Slot → Result (Unit {0})
@@ -61,10 +61,10 @@ pub record Listed : Type 0 where
 unfoldable pub callListing : Geometry → Bytes → Bytes → Result Listed
 callListing g b out = do
   need (eqb (length b) (256 * sectorsOn g 18)) wrongSize
-  ds ← checkDirectory g (track18 g b)
-  let ss = occupiedIn g (track18 g b) ds
+  ds ← checkDirectory g (diskOfTrack18 g b)
+  let ss = occupiedIn g (diskOfTrack18 g b) ds
   listSlots [] ss
-  let text = listingText g (track18 g b) ss
+  let text = listingText g (diskOfTrack18 g b) ss
   need (leb (length text) (length out)) wrongBuffer
   done (record { outputAfter = splice out 0 text; reportedLength = length text })
 
@@ -81,8 +81,8 @@ listingReply out (done l) = record { answer = plain 0; listed = l }
 -- ---- the program
 
 -- the bytes of track 18
-unfoldable pub track18Of : Geometry → Bytes → Bytes
-track18Of g img = take (256 * sectorsOn g 18) (drop (256 * sectorNumber g mapAddress) img)
+unfoldable pub bytesOfTrack18 : Geometry → Bytes → Bytes
+bytesOfTrack18 g img = take (256 * sectorsOn g 18) (drop (256 * sectorNumber g mapAddress) img)
 
 -- a refusal: one line of two digits
 unfoldable pub refusalLine : ℕ → Bytes
@@ -96,4 +96,4 @@ listingOutput (done l) = take (l .reportedLength) (l .outputAfter)
 -- what the program writes, given its standard input: 6,234 bytes of buffer always suffice (proofs/ListingLaws)
 unfoldable pub sleeveOutput : Geometry → Bytes → Bytes
 sleeveOutput g input =
-    cond (rightSize g input) (listingOutput (callListing g (track18Of g input) (zeros 6234))) (refusalLine (answerOf wrongSize .number))
+    cond (rightSize g input) (listingOutput (callListing g (bytesOfTrack18 g input) (zeros 6234))) (refusalLine (answerOf wrongSize .number))

@@ -19,7 +19,7 @@ use Rattle.d64spec.specs.Rules.{IsName, IsKind, MayWrite}
 use Rattle.d64spec.specs.Reply.{filesNamed}
 use Rattle.d64spec.specs.Store.{sectorsNeeded, emptySlots, lastOf}
 use Rattle.d64spec.specs.Call.{Call, check, format, read, store, scratch}
-use Rattle.d64spec.specs.Listing.{track18, listingText}
+use Rattle.d64spec.specs.Listing.{diskOfTrack18, listingText}
 
 -- ---- conditions
 
@@ -167,6 +167,6 @@ listingSlots names (s ∷ l) = entryConditions names s ++ listingSlots (nameOf (
 unfoldable pub listingConditions : Geometry → Bytes → Bytes → List Condition
 listingConditions g b out =
     asks (length b ≡ 256 * sectorsOn g 18) wrongSize
-    ∷ asksDirectory g (track18 g b)
-    ∷ (listingSlots [] (occupied g (track18 g b))
-    ++ (asks (length (listingText g (track18 g b) (occupied g (track18 g b))) ≤ length out) wrongBuffer ∷ []))
+    ∷ asksDirectory g (diskOfTrack18 g b)
+    ∷ (listingSlots [] (occupied g (diskOfTrack18 g b))
+    ++ (asks (length (listingText g (diskOfTrack18 g b) (occupied g (diskOfTrack18 g b))) ≤ length out) wrongBuffer ∷ []))

@@ -15,7 +15,7 @@ use Rattle.d64spec.specs.Directory.{entryByte, fromByte0, countOf}
 pub record IsName (n : Bytes) : Type 0 where
   pub some : 1 ≤ length n
   pub short : length n ≤ 16
-  pub plain : count 0xA0 n ≡ 0
+  pub noPadding : count 0xA0 n ≡ 0
 
 -- a name field: a name, then only $A0 up to 16 bytes (01, The directory)
 pub record HoldsName (field n : Bytes) : Type 0 where

@@ -76,9 +76,8 @@ pub data Given : Type 0 where
   eightFiles : Given  -- all slots of 18/1 in use, and 18/2 free
   nineFiles : Given  -- and A in 18/2
   fullDirectory : Given  -- eight files, one of them in 18/2
-  fullDisk : Given
   farFile : Given  -- A in 18/1, and B, SEQ, ten bytes in 19/2, in slot 8, the first of 18/2
-  farEndsAnyhow farLinkTwice farLinkOff farType farName farSharedName farFirstLinkOff farMeets farCount : Given
+  farLinkTwice farLinkOff farType farName farSharedName farFirstLinkOff farMeets farCount : Given
   countsOf255 : Given  -- count bytes of tracks without sectors
 
 -- the formatted image
@@ -132,7 +131,6 @@ imageOf eightFiles = imageWithEight
 imageOf nineFiles = afterCall imageWithEight (store nameA 2 sent)
 imageOf fullDirectory = patch18 0 0x48 (zeros 4) (patch18 0 0x4C (3 ∷ 1 ∷ 3 ∷ 0 ∷ []) (patch18 2 0x00 (0 ∷ 1 ∷ []) (patch18 1 0x03 (18 ∷ 2 ∷ []) (relink 0 0 0 imageWithEight))))
 imageOf farFile = imageFar
-imageOf farEndsAnyhow = patch18 2 0x00 (0 ∷ 1 ∷ []) imageFar
 imageOf farLinkTwice = patch18 2 0x00 (18 ∷ 1 ∷ []) imageFar
 imageOf farLinkOff = patch18 2 0x00 (18 ∷ 3 ∷ []) imageFar
 imageOf farType = patch18 2 0x02 (0x40 ∷ []) imageFar
@@ -142,7 +140,6 @@ imageOf farFirstLinkOff = patch18 2 0x03 (20 ∷ 0 ∷ []) imageFar
 imageOf farMeets = patch18 2 0x03 (19 ∷ 1 ∷ []) imageFar
 imageOf farCount = patch18 2 0x1F (1 ∷ []) imageFar
 imageOf countsOf255 = patch18 0 0x04 (255 ∷ 0 ∷ 0 ∷ 0 ∷ 255 ∷ []) imageWithA
-imageOf fullDisk = afterCall freshImage (store nameA 3 (zeros 2540))
 
 -- ---- rows
 
@@ -217,10 +214,6 @@ checkRows =
     ∷ quiet mapCountWrong check 8 (place 19 255 255) []
     ∷ quiet mapBitWrong check 8 (place 19 255 255) []
     ∷ quiet bitPastTheLast check 8 (place 18 255 255) []
-    ∷ quiet fullDirectory check 0 (report 0 0) []
-    ∷ quiet nineFiles check 0 (report 0 0) []
-    ∷ quiet farFile check 0 (report 0 0) []
-    ∷ quiet farEndsAnyhow check 0 (report 0 0) []
     ∷ quiet farLinkTwice check 3 (place 18 2 255) []
     ∷ quiet farLinkOff check 2 (place 18 2 255) []
     ∷ quiet farType check 4 (place 18 2 8) []
@@ -246,7 +239,6 @@ orderRows =
     ∷ quiet oneFile (scratch nameB) 13 (report 0 0) []
     ∷ quiet fullDirectory (store nameA 1 (zeros 2541)) 14 (report 0 0) []
     ∷ quiet freshDisk (store nameA 1 (zeros 2541)) 15 (report 0 0) []
-    ∷ quiet fullDisk (store nameB 1 []) 15 (report 0 0) []
     ∷ badBlock oneByteShort check 8
     ∷ badBlock oneFile (scratch nameA) 10
     ∷ []
