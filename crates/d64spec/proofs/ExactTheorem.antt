@@ -17,15 +17,15 @@ use Rattle.d64spec.specs.Geometry.{Geometry, Valid, total}
 use Rattle.d64spec.specs.Image.{disk}
 use Rattle.d64spec.specs.Chain.{chainData}
 use Rattle.d64spec.specs.Directory.{File, Slot, files, nameOf, occupied}
+use Rattle.d64spec.specs.Rules.{IsKind}
 use Rattle.d64spec.specs.Owner.{freeForDirectory, freeForFiles}
 use Rattle.d64spec.specs.Check.{rightSize}
-use Rattle.d64spec.specs.Rules.{IsKind}
 use Rattle.d64spec.specs.Accepted.{Accepted}
 use Rattle.d64spec.specs.Reply.{Reply, filesNamed, validNameArgument}
 use Rattle.d64spec.specs.Read.{callRead, callTell, tellReply}
 use Rattle.d64spec.specs.Store.{emptySlots, sectorsNeeded}
 use Rattle.d64spec.specs.Call.{check, format, perform, read, scratch, store}
-use Rattle.d64spec.specs.Listing.{callListing, listingReply, diskOfTrack18}
+use Rattle.d64spec.specs.Listing.{callListing, diskOfTrack18, listingReply}
 use Rattle.d64spec.specs.Order.{AllHold, Condition, FirstFails, asks, asksName, asksSize, asksVersion, conditions, diskConditions, listingConditions, listingSlots, tellConditions}
 use Rattle.d64spec.specs.Exact.{Admitted, Formattable, HasFile, Listable, ListingNumber, NoSlot, Readable, Scratchable, ShownEntry, Storable, Tellable}
 use Rattle.d64spec.proofs.ListLaws.{equal-refl, eq-of-equal}

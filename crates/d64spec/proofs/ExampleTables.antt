@@ -16,7 +16,7 @@ use Rattle.d64spec.specs.Read.{callRead, callTell, noInformation, tellRe
 use Rattle.d64spec.specs.Store.{callStore, emptySlots, growDirectory, lastOf, newEntry, overwriteSlot, placement, sectorsNeeded, slotPlaceFor, storedDisk, writeSlot}
 use Rattle.d64spec.specs.Scratch.{callScratch, scratchedDisk}
 use Rattle.d64spec.specs.Call.{attempt, callCheck, outputBuffer, perform}
-use Rattle.d64spec.specs.Listing.{callListing, digit, freeTotal, headFrame, line, listingOutput, listingText, refusalLine, sleeveOutput, slotFrame, diskOfTrack18, bytesOfTrack18}
+use Rattle.d64spec.specs.Listing.{bytesOfTrack18, callListing, digit, diskOfTrack18, freeTotal, headFrame, line, listingOutput, listingText, refusalLine, sleeveOutput, slotFrame}
 use Rattle.d64spec.specs.Host.{answerBlock, hostCall}
 use Rattle.d64spec.specs.Examples.{broken, brokenSteps, brokenZones, content, contentsOf, diskAt, exampleSteps, formatted, grown, holds, houseTracks, isDone, lastSector, scratchedAgain, stepHolds, storedOnce, table, trackBytes, withFile, zoneHolds, zones}
 use Rattle.d64spec.specs.Trial.{afterCall, brokenCalls, callHolds, checkRows, entryOn19, fieldsOf, freshImage, imageFar, imageOf, imageWithA, imageWithAB, imageWithEight, orderRows, readRows, sent, sleeveRows, smallLayout, tellRows, withEnds, writeRows}

@@ -22,10 +22,10 @@ use Rattle.d64spec.specs.Accepted.{Accepted}
 use Rattle.d64spec.specs.Reply.{Change}
 use Rattle.d64spec.specs.Store.{storedDisk}
 use Rattle.d64spec.specs.Scratch.{scratchedDisk}
-use Rattle.d64spec.specs.Changes.{addedSectors}
 use Rattle.d64spec.specs.Call.{Call, attempt, callCheck, check, format, outputBuffer, perform, read, scratch, store}
 use Rattle.d64spec.specs.Host.{HostReply}
 use Rattle.d64spec.specs.Run.{GivesBack, Request, after, serve}
+use Rattle.d64spec.specs.Changes.{addedSectors}
 use Rattle.d64spec.proofs.ResultLaws.{done-inj, then-done}
 use Rattle.d64spec.proofs.CallLaws.{format-done, read-done}
 use Rattle.d64spec.proofs.RefusalLaws.{zero-change}

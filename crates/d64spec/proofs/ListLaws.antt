@@ -6,7 +6,7 @@ use mathlib.Core.Bool.{Bool, true, false, cond, _&&_}
 use mathlib.Core.Logic.{∥∥₁-map}
 use mathlib.Core.List.{List, [], _∷_, _++_, map, Perm, List·Permᴰ, List·Permᴰ·nil, List·Permᴰ·cons, List·Permᴰ·swap, List·Permᴰ·trans, Permᴰ·refl}
 use lib.ListN.{getD}
-use Rattle.d64spec.specs.Lists.{count, filter, range, equal}
+use Rattle.d64spec.specs.Lists.{count, equal, filter, range}
 use lib.Dec.{eqb}
 use borrow.Author.Tests.{eq-eqb, eqb-true}
 

@@ -8,13 +8,13 @@ use lib.ListN.{length, take, drop, length-append, length-take, length-map}
 use lib.Dec.{eqb, ltb, leb}
 use borrow.Author.Tests.{eq-eqb, ne-eqb, eqb-true, eqb-false, le-leb, ltb-true}
 use Rattle.d64spec.specs.Lists.{All, Bytes, byte, count, filter, indicator, join}
-use Rattle.d64spec.specs.Answers.{Address, Fault, answerOf, address, done, refused, wrongBuffer, wrongSize}
+use Rattle.d64spec.specs.Answers.{Address, Fault, address, answerOf, done, refused, wrongBuffer, wrongSize}
 use Rattle.d64spec.specs.Geometry.{Geometry, Valid, directoryStart, firstOn, layout35, mapAddress, onDisk, sectorNumber, sectorsOn}
 use Rattle.d64spec.specs.Image.{Disk}
 use Rattle.d64spec.specs.Chain.{Chain, Link, bad, decodeDirectoryLink, directoryLink, ends, linkTo, steps, to, walk}
 use Rattle.d64spec.specs.Directory.{Slot, isEmpty, occupiedIn, slotsFrom, slotsIn}
 use Rattle.d64spec.specs.Check.{checkDirectory}
-use Rattle.d64spec.specs.Listing.{Listed, callListing, digit, freeTotal, headFrame, line, listSlots, listingText, slotFrame, diskOfTrack18}
+use Rattle.d64spec.specs.Listing.{Listed, callListing, digit, diskOfTrack18, freeTotal, headFrame, line, listSlots, listingText, slotFrame}
 use Rattle.d64spec.proofs.ResultLaws.{need-done, then-done, bind-done, done-inj}
 use Rattle.d64spec.proofs.PigeonholeLaws.{pigeon}
 use Rattle.d64spec.proofs.WalkLaws.{Walked, walk-sound}

@@ -11,16 +11,16 @@ use lib.Seq.{drop-drop, take-append-seam, take-take}
 use lib.Dec.{eqb, leb}
 use borrow.Author.Tests.{eq-eqb, lt-ltb, ne-eqb}
 use Rattle.d64spec.specs.Lists.{Bytes, splice, zeros}
-use Rattle.d64spec.specs.Answers.{Address, Fault, answerOf, done, plain, refused, wrongBuffer, wrongSize}
+use Rattle.d64spec.specs.Answers.{Address, Fault, answerOf, done, refused, unplaced, wrongBuffer, wrongSize}
 use Rattle.d64spec.specs.Geometry.{Geometry, Valid, firstOn, layout35, mapAddress, sectorNumber, sectorsOn, total}
 use Rattle.d64spec.specs.Image.{disk}
 use Rattle.d64spec.specs.Directory.{occupied, occupiedIn}
 use Rattle.d64spec.specs.Check.{checkDirectory, rightSize}
 use Rattle.d64spec.specs.Read.{FileInformation, callTell, tellReply}
-use Rattle.d64spec.specs.Listing.{Listed, callListing, digit, listSlots, listingOutput, listingReply, listingText, refusalLine, sleeveOutput, diskOfTrack18, bytesOfTrack18}
+use Rattle.d64spec.specs.Listing.{Listed, bytesOfTrack18, callListing, digit, diskOfTrack18, listSlots, listingOutput, listingReply, listingText, refusalLine, sleeveOutput}
 use Rattle.d64spec.specs.Order.{FirstFails, asks, asksDirectory, listingConditions, listingSlots}
-use Rattle.d64spec.specs.Exact.{Listable}
 use Rattle.d64spec.specs.Facts.{SleeveRefused, textOf}
+use Rattle.d64spec.specs.Exact.{Listable}
 use Rattle.d64spec.proofs.ResultLaws.{need-done, then-done, bind-done, done-inj}
 use Rattle.d64spec.proofs.ConditionLaws.{firstFails-append}
 use Rattle.d64spec.proofs.NumberLaws.{Answers, Between, answers-imp, directory-answers, firstFails-answers, listing-slots-answers}
@@ -33,7 +33,7 @@ use Rattle.d64spec.proofs.ListingLaws.{buffer-6234}
 -- ---- a tell and a listing
 
 -- A TELL THAT IS DONE answers 0 with what it has told
-pub tell-reply : (g : Geometry) (img : Bytes) (position : ℕ) (i : FileInformation) → callTell g img position ≡ done i → tellReply (callTell g img position) ≡ record { answer = plain 0; information = i }
+pub tell-reply : (g : Geometry) (img : Bytes) (position : ℕ) (i : FileInformation) → callTell g img position ≡ done i → tellReply (callTell g img position) ≡ record { answer = unplaced 0; information = i }
 unfolding tellReply
 tell-reply g img position i e = ap tellReply e
 
@@ -53,7 +53,7 @@ module _ (g : Geometry) (v : Valid g) (b out : Bytes) where
       )
 
   -- it answers 0
-  pub listing-reply : (l : Listed) → callListing g b out ≡ done l → listingReply out (callListing g b out) ≡ record { answer = plain 0; listed = l }
+  pub listing-reply : (l : Listed) → callListing g b out ≡ done l → listingReply out (callListing g b out) ≡ record { answer = unplaced 0; listed = l }
   unfolding listingReply
   listing-reply l e = ap (listingReply out) e
 

@@ -12,7 +12,7 @@ use Rattle.d64spec.specs.Geometry.{Geometry, directoryStart, mapAddress,
 use Rattle.d64spec.specs.Image.{Disk}
 use Rattle.d64spec.specs.Chain.{Link, directoryLink, fileLink, to}
 use Rattle.d64spec.specs.Directory.{Slot, countOf, directorySectors, fileOf, firstLink, nameOf, occupied}
-use Rattle.d64spec.specs.Listing.{listingText, diskOfTrack18}
+use Rattle.d64spec.specs.Listing.{diskOfTrack18, listingText}
 use Rattle.d64spec.specs.Order.{AllHold, ChainFault, Condition, FirstFails, asks, asksChain, asksDirectory, diskConditions, entryConditions, listingConditions, listingSlots, mapConditions, slotConditions, slotsConditions}
 use Rattle.d64spec.specs.Exact.{ListingNumber}
 use Rattle.d64spec.proofs.ConditionLaws.{firstFails-append}

@@ -14,8 +14,8 @@ use Rattle.d64spec.specs.Geometry.{Geometry, Valid, sectorsOn, total}
 use Rattle.d64spec.specs.Image.{Disk, disk}
 use Rattle.d64spec.specs.Chain.{chainData}
 use Rattle.d64spec.specs.Directory.{File, Slot, files, occupied}
-use Rattle.d64spec.specs.Owner.{freeForDirectory, freeForFiles}
 use Rattle.d64spec.specs.Rules.{IsKind, IsName, MayWrite}
+use Rattle.d64spec.specs.Owner.{freeForDirectory, freeForFiles}
 use Rattle.d64spec.specs.Check.{checkDisk, checkImage, rightSize}
 use Rattle.d64spec.specs.Accepted.{AcceptedDisk}
 use Rattle.d64spec.specs.Reply.{Change, filesNamed, reply, unchanged, validKind, validNameArgument, writable}
@@ -24,7 +24,7 @@ use Rattle.d64spec.specs.Read.{FileInformation, callRead, callTell, noIn
 use Rattle.d64spec.specs.Store.{SlotPlace, callStore, emptySlots, inEmptySlot, inNewSector, sectorsNeeded, slotPlaceFor}
 use Rattle.d64spec.specs.Scratch.{callScratch}
 use Rattle.d64spec.specs.Call.{Call, attempt, callCheck, check, format, outputBuffer, perform, read, scratch, store}
-use Rattle.d64spec.specs.Listing.{Listed, callListing, listSlots, listingReply, listingText, diskOfTrack18}
+use Rattle.d64spec.specs.Listing.{Listed, callListing, diskOfTrack18, listSlots, listingReply, listingText}
 use Rattle.d64spec.specs.Order.{AllHold, Condition, FirstFails, asks, asksFile, asksName, asksOutput, asksSize, asksVersion, conditions, diskConditions, listingConditions, listingSlots, tellConditions}
 use Rattle.d64spec.proofs.ConditionLaws.{Decided, decided-bind, decided-bind-done, decided-need, decided-one, decided-then, decided-then-done, done≢refused, eqb-exact, leb-exact}
 use Rattle.d64spec.proofs.NamedLaws.{filesNamed-single}

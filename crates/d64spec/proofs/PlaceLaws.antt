@@ -9,7 +9,7 @@ use lib.ListN.{length, getD, List·getD-eq-default}
 use lib.Dec.{eqb}
 use borrow.Author.Tests.{ltb-true, lt-ltb}
 use Rattle.d64spec.specs.Lists.{All, Bytes, count, range}
-use Rattle.d64spec.specs.Answers.{Address, Fault, answerOf, done, placed, plain, wrongCount, wrongMapEntry}
+use Rattle.d64spec.specs.Answers.{Address, Fault, answerOf, done, placed, unplaced, wrongCount, wrongMapEntry}
 use Rattle.d64spec.specs.Geometry.{Geometry, Valid, directoryStart, mapAddress, onDisk, sectorNumber, sectorsOn, tracks}
 use Rattle.d64spec.specs.Image.{Disk}
 use Rattle.d64spec.specs.Chain.{directoryLink, fileLink, steps, to, walk}
@@ -46,7 +46,7 @@ abbrev pub FaultFits : Fault → Type 0
 FaultFits f = AnswerFits (answerOf f)
 
 -- an answer without a place
-pub plain-fits : (n : ℕ) → n ≤ 16 → AnswerFits (plain n)
+pub plain-fits : (n : ℕ) → n ≤ 16 → AnswerFits (unplaced n)
 plain-fits n h = record { number = h; track = omega arith; sector = omega arith; slot = omega arith }
 
 -- a track that has a sector is one of the tracks

@@ -188,7 +188,7 @@ module _ (g : Geometry) (v : Valid g) (img : Bytes) where
         file = f;
         back = p .back;
         whole = p .whole;
-        place = p .place;
+        before = p .place;
         typeByte = ap (λ (x : FileInformation). x .typeByte) (sym z);
         nameBytes = ap (λ (x : FileInformation). x .nameBytes) (sym z) ∙ valid-name (f .slot .bytes) (y .name);
         further = s .0;

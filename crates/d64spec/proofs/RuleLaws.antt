@@ -13,7 +13,6 @@ use Rattle.d64spec.proofs.ListLaws.{equal-refl, eq-of-equal}
 use Rattle.d64spec.proofs.MapLaws.{and-true, both-true}
 use Rattle.d64spec.proofs.FormatLaws.{padded-length}
 use Rattle.d64spec.specs.Lists.{Bytes, byte, count, equal, filter, indicator, range}
-use Rattle.d64spec.specs.Answers.{plain}
 use Rattle.d64spec.specs.Geometry.{Geometry, mapAddress, sectorNumber}
 use Rattle.d64spec.specs.Image.{Disk}
 use Rattle.d64spec.specs.Directory.{isEmpty, kindOf, nameField, nameOf, padded, validName, validType}

@@ -22,7 +22,7 @@ use Rattle.d64spec.specs.Read.{callRead, callTell, tellReply}
 use Rattle.d64spec.specs.Store.{SlotPlace, callStore, emptySlots, inEmptySlot, inNewSector, placement, sectorsNeeded, slotPlaceFor}
 use Rattle.d64spec.specs.Scratch.{callScratch}
 use Rattle.d64spec.specs.Call.{Call, attempt, callCheck, check, format, outputBuffer, perform, read, scratch, store}
-use Rattle.d64spec.specs.Listing.{callListing, listSlots, listingReply, listingText, diskOfTrack18}
+use Rattle.d64spec.specs.Listing.{callListing, diskOfTrack18, listSlots, listingReply, listingText}
 use Rattle.d64spec.specs.Host.{answerBlock, hostCall}
 use Rattle.d64spec.specs.Facts.{AnswerFits, GivesBackReply, ReplyFits}
 use Rattle.d64spec.proofs.PigeonholeLaws.{pigeon}

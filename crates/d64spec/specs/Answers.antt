@@ -34,8 +34,8 @@ pub record Answer : Type 0 where
   pub slot : ℕ
 
 -- an answer without a place: 0, 0, 255
-abbrev pub plain : ℕ → Answer
-plain n = record { number = n; track = 0; sector = 0; slot = 255 }
+abbrev pub unplaced : ℕ → Answer
+unplaced n = record { number = n; track = 0; sector = 0; slot = 255 }
 
 -- an answer that names a sector and a slot
 abbrev pub placed : ℕ → Address → ℕ → Answer
@@ -43,7 +43,7 @@ placed n r s = record { number = n; track = r .track; sector = r .sector; slot =
 
 -- THE NUMBERS: document 01's number and place of each refusal; nothing else in this project gives one a number
 abbrev pub answerOf : Fault → Answer
-answerOf wrongSize = plain 1
+answerOf wrongSize = unplaced 1
 answerOf (badLink r s) = placed 2 r s
 answerOf (alreadyOwned r s) = placed 3 r s
 answerOf (badType r s) = placed 4 r s
@@ -51,14 +51,14 @@ answerOf (badName r s) = placed 5 r s
 answerOf (duplicateName r s) = placed 6 r s
 answerOf (wrongCount r s) = placed 7 r s
 answerOf (wrongMapEntry t) = placed 8 (address t 255) 255
-answerOf badNameArgument = plain 9
-answerOf badKindArgument = plain 10
-answerOf writeForbidden = plain 11
-answerOf nameExists = plain 12
-answerOf notFound = plain 13
-answerOf directoryFull = plain 14
-answerOf diskFull = plain 15
-answerOf wrongBuffer = plain 16
+answerOf badNameArgument = unplaced 9
+answerOf badKindArgument = unplaced 10
+answerOf writeForbidden = unplaced 11
+answerOf nameExists = unplaced 12
+answerOf notFound = unplaced 13
+answerOf directoryFull = unplaced 14
+answerOf diskFull = unplaced 15
+answerOf wrongBuffer = unplaced 16
 
 -- a refusal, or what a step gives
 pub data Result (A : Type 0) : Type 0 where

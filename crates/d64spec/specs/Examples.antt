@@ -24,8 +24,8 @@ use Rattle.d64spec.specs.Listing.{callListing, listingOutput}
 
 -- one of them
 pub data Example : Type 0 where
-  place : Address → ℕ → ℕ → Example  -- an address, its sector number, the first byte of the sector
-  lastPlace : Address → Example  -- the last sector of the disk
+  sectorAt : Address → ℕ → ℕ → Example  -- an address, its sector number, the first byte of the sector
+  lastSectorAt : Address → Example  -- the last sector of the disk
   offDisk : Address → Example  -- no sector of the disk
   mapEntry : ℕ → Bytes → ℕ → List ℕ → Example  -- a track, its map entry, the free sectors it counts, the sectors it marks used
   stored : ℕ → ℕ → ℕ → Example  -- a length, the sectors it needs, the last one's n as it is written
@@ -42,8 +42,8 @@ lastSector n =
 
 -- whether a row is as document 01 says
 unfoldable pub holds : Example → Bool
-holds (place r n b) = onDisk layout35 r && (eqb (sectorNumber layout35 r) n && eqb (256 * n) b)
-holds (lastPlace r) = onDisk layout35 r && eqb (sectorNumber layout35 r + 1) (total layout35)
+holds (sectorAt r n b) = onDisk layout35 r && (eqb (sectorNumber layout35 r) n && eqb (256 * n) b)
+holds (lastSectorAt r) = onDisk layout35 r && eqb (sectorNumber layout35 r + 1) (total layout35)
 holds (offDisk r) = not (onDisk layout35 r)
 holds (mapEntry t e n used) =
     eqb (byte e 0) n && (eqb (mapOnes layout35 (entryAlone t e) t) n
@@ -57,7 +57,7 @@ broken l = filter (λ e. not (holds e)) l
 -- document 01's examples marked P
 unfoldable pub table : List Example
 table =
-    place (address 1 0) 0 0 ∷ place (address 17 0) 336 86016 ∷ place (address 18 0) 357 91392 ∷ place (address 35 16) 682 174592 ∷ lastPlace (address 35 16)
+    sectorAt (address 1 0) 0 0 ∷ sectorAt (address 17 0) 336 86016 ∷ sectorAt (address 18 0) 357 91392 ∷ sectorAt (address 35 16) 682 174592 ∷ lastSectorAt (address 35 16)
     ∷ offDisk (address 0 0) ∷ offDisk (address 36 0) ∷ offDisk (address 1 21) ∷ offDisk (address 18 19) ∷ offDisk (address 35 17)
     ∷ mapEntry 1 (0x12 ∷ 0xFF ∷ 0xF9 ∷ 0x17 ∷ []) 18 (9 ∷ 10 ∷ 19 ∷ [])
     ∷ stored 0 1 1 ∷ stored 254 1 255 ∷ stored 255 2 2

@@ -155,15 +155,15 @@ pub record Formatted (g : Geometry) (name : Bytes) (id1 id2 : ℕ) (img : Bytes)
 -- ---- files, read and told
 
 -- n of a file: the second byte of its last sector (01, Chains). A file has a sector, so that `lastOf` gives one of its own
-abbrev pub lastByte : Geometry → Disk → File → ℕ
-lastByte g d f = byte (d (sectorNumber g (lastOf (f .slot .holder) (f .sectors)))) 1
+abbrev pub lastUsed : Geometry → Disk → File → ℕ
+lastUsed g d f = byte (d (sectorNumber g (lastOf (f .slot .holder) (f .sectors)))) 1
 
 -- a file of k sectors holds 254(k-1) + n-1 bytes, n being 1 to 255 (01, Chains)
 pub record FileLength (g : Geometry) (d : Disk) (f : File) : Type 0 where
   pub some : 1 ≤ length (f .sectors)
-  pub low : 1 ≤ lastByte g d f
-  pub high : lastByte g d f ≤ 255
-  pub bytes : length (chainData g d (f .sectors)) ≡ 254 * (length (f .sectors) - 1) + lastByte g d f - 1
+  pub low : 1 ≤ lastUsed g d f
+  pub high : lastUsed g d f ≤ 255
+  pub bytes : length (chainData g d (f .sectors)) ≡ 254 * (length (f .sectors) - 1) + lastUsed g d f - 1
 
 -- what a read that is done has read: the one file of that name, whole (01, Read)
 pub record WasRead (g : Geometry) (img name out : Bytes) (ch : Change) : Type 0 where
@@ -186,7 +186,7 @@ pub record WasTold (g : Geometry) (img : Bytes) (position : ℕ) (i : FileInform
   pub file : File
   pub back : List File
   pub whole : files g (disk img) ≡ front ++ file ∷ back
-  pub place : length front ≡ position
+  pub before : length front ≡ position
   pub typeByte : i .typeByte ≡ entryByte (file .slot .bytes) 0x02
   pub nameBytes : i .nameBytes ≡ padded (nameOf (file .slot .bytes))
   pub further : List Address

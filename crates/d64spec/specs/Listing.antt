@@ -6,7 +6,7 @@ use mathlib.Core.List.{List, [], _∷_, _++_, map}
 use lib.ListN.{length, take, drop}
 use lib.Dec.{eqb, leb, ltb}
 use Rattle.d64spec.specs.Lists.{Bytes, byte, part, filter, range, splice, sum, join, zeros}
-use Rattle.d64spec.specs.Answers.{Answer, plain, answerOf, wrongSize, wrongBuffer, Result, refused, done, _>>=_, _>>_, need}
+use Rattle.d64spec.specs.Answers.{Answer, unplaced, answerOf, wrongSize, wrongBuffer, Result, refused, done, _>>=_, _>>_, need}
 use Rattle.d64spec.specs.Geometry.{Geometry, sectorNumber, mapAddress, sectorsOn, tracks}
 use Rattle.d64spec.specs.Image.{Disk, disk}
 use Rattle.d64spec.specs.Directory.{Slot, nameOf, fromByte0, occupiedIn}
@@ -76,7 +76,7 @@ pub record ListingReply : Type 0 where
 -- a refusal leaves the buffer and reports length 0
 unfoldable pub listingReply : Bytes → Result Listed → ListingReply
 listingReply out (refused f) = record { answer = answerOf f; listed = record { outputAfter = out; reportedLength = 0 } }
-listingReply out (done l) = record { answer = plain 0; listed = l }
+listingReply out (done l) = record { answer = unplaced 0; listed = l }
 
 -- ---- the program
 

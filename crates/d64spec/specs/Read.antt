@@ -3,7 +3,7 @@ use Prim.Native.Nat.{ℕ}
 use lib.ListN.{length, drop}
 use lib.Dec.{leb}
 use Rattle.d64spec.specs.Lists.{Bytes, splice, zeros}
-use Rattle.d64spec.specs.Answers.{Answer, plain, answerOf, wrongSize, badNameArgument, notFound, wrongBuffer, Result, refused, done, _>>=_, _>>_, need, first}
+use Rattle.d64spec.specs.Answers.{Answer, unplaced, answerOf, wrongSize, badNameArgument, notFound, wrongBuffer, Result, refused, done, _>>=_, _>>_, need, first}
 use Rattle.d64spec.specs.Geometry.{Geometry}
 use Rattle.d64spec.specs.Image.{disk}
 use Rattle.d64spec.specs.Chain.{chainData}
@@ -57,4 +57,4 @@ noInformation = record { typeByte = 0; nameBytes = zeros 16; firstTrack = 0; fir
 -- the reply to a tell
 unfoldable pub tellReply : Result FileInformation → TellReply
 tellReply (refused f) = record { answer = answerOf f; information = noInformation }
-tellReply (done i) = record { answer = plain 0; information = i }
+tellReply (done i) = record { answer = unplaced 0; information = i }

@@ -6,7 +6,7 @@ use mathlib.Core.List.{List, []}
 use lib.ListN.{length}
 use lib.Dec.{eqb, ltb}
 use Rattle.d64spec.specs.Lists.{Bytes, byte, filter, count, equal}
-use Rattle.d64spec.specs.Answers.{Answer, plain, answerOf, Result, refused, done}
+use Rattle.d64spec.specs.Answers.{Answer, unplaced, answerOf, Result, refused, done}
 use Rattle.d64spec.specs.Geometry.{Geometry, sectorNumber, mapAddress}
 use Rattle.d64spec.specs.Image.{Disk}
 use Rattle.d64spec.specs.Directory.{File, nameOf}
@@ -50,4 +50,4 @@ changed img n k = record { imageAfter = img; outputAfter = []; reportedLength = 
 -- the reply to a call that was lent this image and this output
 unfoldable pub reply : Bytes → Bytes → Result Change → Reply
 reply img out (refused f) = record { answer = answerOf f; change = unchanged img out }
-reply img out (done c) = record { answer = plain 0; change = c }
+reply img out (done c) = record { answer = unplaced 0; change = c }

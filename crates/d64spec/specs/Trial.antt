@@ -153,8 +153,8 @@ pub data CallRow : Type 0 where
   sleeve : Given → Bytes → CallRow  -- what the listing program writes
 
 -- a report of 0 and 0 at this place
-abbrev pub place : ℕ → ℕ → ℕ → Bytes
-place t s slot = t ∷ s ∷ slot ∷ zeros 6
+abbrev pub faultAt : ℕ → ℕ → ℕ → Bytes
+faultAt t s slot = t ∷ s ∷ slot ∷ zeros 6
 
 -- a report without a place
 abbrev pub report : ℕ → ℕ → Bytes
@@ -194,34 +194,34 @@ paddedName = 0x41 ∷ 0xA0 ∷ []
 -- the check: numbers 0 to 8 with their places, in the first directory sector and in the second
 unfoldable pub checkRows : List CallRow
 checkRows =
-    quiet zeroBytes check 8 (place 18 255 255) []
+    quiet zeroBytes check 8 (faultAt 18 255 255) []
     ∷ quiet freshDisk check 0 (report 0 0) []
     ∷ quiet oneFile check 0 (report 0 0) []
     ∷ quiet oneByteShort check 1 (report 0 0) []
-    ∷ quiet lastLink0000 check 2 (place 19 1 0) []
-    ∷ quiet linkOffDisk check 2 (place 19 0 0) []
-    ∷ quiet firstLinkTrack0 check 2 (place 18 1 0) []
-    ∷ quiet directoryLinkToMap check 2 (place 18 1 255) []
-    ∷ quiet directoryLinkTrack19 check 2 (place 18 1 255) []
-    ∷ quiet linkToMap check 3 (place 19 0 0) []
-    ∷ quiet linkToItself check 3 (place 19 1 0) []
-    ∷ quiet chainsMeet check 3 (place 18 1 1) []
-    ∷ quiet directoryLinkTwice check 3 (place 18 1 255) []
-    ∷ quiet delEntry check 4 (place 18 1 0) []
-    ∷ quiet emptyName check 5 (place 18 1 0) []
-    ∷ quiet sharedName check 6 (place 18 1 1) []
-    ∷ quiet countOfThree check 7 (place 18 1 0) []
-    ∷ quiet mapCountWrong check 8 (place 19 255 255) []
-    ∷ quiet mapBitWrong check 8 (place 19 255 255) []
-    ∷ quiet bitPastTheLast check 8 (place 18 255 255) []
-    ∷ quiet farLinkTwice check 3 (place 18 2 255) []
-    ∷ quiet farLinkOff check 2 (place 18 2 255) []
-    ∷ quiet farType check 4 (place 18 2 8) []
-    ∷ quiet farName check 5 (place 18 2 8) []
-    ∷ quiet farSharedName check 6 (place 18 2 8) []
-    ∷ quiet farFirstLinkOff check 2 (place 18 2 8) []
-    ∷ quiet farMeets check 3 (place 18 2 8) []
-    ∷ quiet farCount check 7 (place 18 2 8) []
+    ∷ quiet lastLink0000 check 2 (faultAt 19 1 0) []
+    ∷ quiet linkOffDisk check 2 (faultAt 19 0 0) []
+    ∷ quiet firstLinkTrack0 check 2 (faultAt 18 1 0) []
+    ∷ quiet directoryLinkToMap check 2 (faultAt 18 1 255) []
+    ∷ quiet directoryLinkTrack19 check 2 (faultAt 18 1 255) []
+    ∷ quiet linkToMap check 3 (faultAt 19 0 0) []
+    ∷ quiet linkToItself check 3 (faultAt 19 1 0) []
+    ∷ quiet chainsMeet check 3 (faultAt 18 1 1) []
+    ∷ quiet directoryLinkTwice check 3 (faultAt 18 1 255) []
+    ∷ quiet delEntry check 4 (faultAt 18 1 0) []
+    ∷ quiet emptyName check 5 (faultAt 18 1 0) []
+    ∷ quiet sharedName check 6 (faultAt 18 1 1) []
+    ∷ quiet countOfThree check 7 (faultAt 18 1 0) []
+    ∷ quiet mapCountWrong check 8 (faultAt 19 255 255) []
+    ∷ quiet mapBitWrong check 8 (faultAt 19 255 255) []
+    ∷ quiet bitPastTheLast check 8 (faultAt 18 255 255) []
+    ∷ quiet farLinkTwice check 3 (faultAt 18 2 255) []
+    ∷ quiet farLinkOff check 2 (faultAt 18 2 255) []
+    ∷ quiet farType check 4 (faultAt 18 2 8) []
+    ∷ quiet farName check 5 (faultAt 18 2 8) []
+    ∷ quiet farSharedName check 6 (faultAt 18 2 8) []
+    ∷ quiet farFirstLinkOff check 2 (faultAt 18 2 8) []
+    ∷ quiet farMeets check 3 (faultAt 18 2 8) []
+    ∷ quiet farCount check 7 (faultAt 18 2 8) []
     ∷ []
 
 -- refusals of format, store and scratch, and of the block: 1, 9, 10, then the check's, then 11 to 16. A row that breaks several rules shows which number comes first
@@ -232,7 +232,7 @@ orderRows =
     ∷ quiet delEntry (scratch paddedName) 9 (report 0 0) []
     ∷ quiet delEntry (store nameC 4 sent) 10 (report 0 0) []
     ∷ quiet delEntry (store [] 4 sent) 9 (report 0 0) []
-    ∷ quiet delEntry (store nameC 1 sent) 4 (place 18 1 0) []
+    ∷ quiet delEntry (store nameC 1 sent) 4 (faultAt 18 1 0) []
     ∷ quiet version42 (store nameA 1 sent) 11 (report 0 0) []
     ∷ quiet version42 (scratch nameB) 11 (report 0 0) []
     ∷ quiet oneFile (store nameA 1 sent) 12 (report 0 0) []
