@@ -21,7 +21,7 @@ use Rattle.d64spec.specs.Changes.{MapFollows}
 use Rattle.d64spec.proofs.BoundLaws.{sectorNumber-lt, map-on}
 use Rattle.d64spec.proofs.MapLaws.{in-bit, mark-of-sum, past-bit}
 use Rattle.d64spec.proofs.SpliceLaws.{length-splice, splice-before, splice-in, splice-after, part-of-bytes}
-use Rattle.d64spec.proofs.FrameLaws.{Sound, Agree, frame-plainList, frame-claims, frame-sound}
+use Rattle.d64spec.proofs.FrameLaws.{Sound, Agree, frame-files, frame-plainList, frame-claims, frame-sound}
 use Rattle.d64spec.proofs.ImageLaws.{Whole, put-same, put-other, put-whole}
 
 -- bit k of a byte that is put together of eight bits
@@ -125,6 +125,9 @@ module _ (g : Geometry) (v : Valid g) (d : Disk) (w : Whole g d) (s : Sound g d)
   rewrite-whole =
       put-whole g d (sectorNumber g mapAddress) (withEntries g (isFree g d) (d (sectorNumber g mapAddress)) (range 1 (tracks g))) w map-below
       (written-length g v (isFree g d) (d (sectorNumber g mapAddress)) (w .full (sectorNumber g mapAddress) map-below) 1 (tracks g) (omega arith) (omega arith))
+
+  pub rewrite-files : files g (rewriteMap g d) ≡ files g d
+  rewrite-files = frame-files g d (rewriteMap g d) map-apart
 
   pub rewrite-plainList : plainList g (rewriteMap g d) ≡ plainList g d
   rewrite-plainList = frame-plainList g d (rewriteMap g d) map-apart

@@ -22,13 +22,13 @@ use Rattle.d64spec.specs.Facts.{FileLength, WasRead, WasTold}
 use Rattle.d64spec.proofs.ListLaws.{eq-of-equal}
 use Rattle.d64spec.proofs.ResultLaws.{need-done, then-done, bind-done, done-inj, refused≢done}
 use Rattle.d64spec.proofs.BoundLaws.{fileLink-on}
+use Rattle.d64spec.proofs.RuleLaws.{name-exact}
 use Rattle.d64spec.proofs.CallLaws.{read-done}
 use Rattle.d64spec.proofs.ReadLaws.{first-kept}
-use Rattle.d64spec.proofs.MapLaws.{and-true}
 use Rattle.d64spec.proofs.WalkLaws.{chain-on}
 use Rattle.d64spec.proofs.CheckLaws.{firstLink-on}
 use Rattle.d64spec.proofs.ImageLaws.{disk-whole}
-use Rattle.d64spec.proofs.SplitLaws.{all-mem}
+use Rattle.d64spec.proofs.SplitLaws.{mem-mid, all-mem}
 use Rattle.d64spec.proofs.NamedLaws.{filesNamed-one}
 use Rattle.d64spec.proofs.RefusalLaws.{zero-change}
 use Rattle.d64spec.proofs.OtherBytes.{byte-small}
@@ -159,13 +159,9 @@ module _ {A : Type 0} where
       let r = first-at f n l x e in
       record { front = y ∷ r .front; back = r .back; whole = ap (λ (z : List A). y ∷ z) (r .whole); place = ap suc (r .place) }
 
-mem-mid : {A : Type 0} (a : List A) (x : A) (b : List A) → List·Memᴰ x (a ++ x ∷ b)
-mem-mid [] x b = List·Memᴰ·head refl
-mem-mid (y ∷ a) x b = List·Memᴰ·tail (mem-mid a x b)
-
 valid-name : (b : Bytes) → validName b ≡ true → nameField b ≡ padded (nameOf b)
-unfolding validName
-valid-name b e = eq-of-equal (nameField b) (padded (nameOf b)) (and-true (not (eqb (length (nameOf b)) 0)) (equal (nameField b) (padded (nameOf b))) e .1)
+unfolding padded
+valid-name b e = name-exact b .0 e .padding
 
 module _ (g : Geometry) (v : Valid g) (img : Bytes) where
   -- WHAT IS TOLD: the file at the position, counted from 0 among the occupied slots

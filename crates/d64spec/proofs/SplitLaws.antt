@@ -79,3 +79,8 @@ map-range {B} f h a (suc n) e = ap₂ (λ (x : B) (l : List B). x ∷ l) (e a (o
 pub map-map : {A B C : Type 0} (f : B → C) (h : A → B) (l : List A) → map f (map h l) ≡ map (λ x. f (h x)) l
 map-map f h [] = refl
 map-map {C = C} f h (x ∷ l) = ap (λ (z : List C). f (h x) ∷ z) (map-map f h l)
+
+-- an element stands where a list is put together around it
+pub mem-mid : {A : Type 0} (a : List A) (x : A) (b : List A) → List·Memᴰ x (a ++ x ∷ b)
+mem-mid [] x b = List·Memᴰ·head refl
+mem-mid (y ∷ a) x b = List·Memᴰ·tail (mem-mid a x b)

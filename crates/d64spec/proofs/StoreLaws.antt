@@ -3,7 +3,7 @@ use Prim.Native.Nat.{ℕ, _+_, _≤_, _<_}
 use native.Mathlib.Omega.{arith}
 use mathlib.Core.Path.{_≡_, refl, sym, ap, ap₂, _∙_}
 use mathlib.Core.Bool.{Bool, true, false, cond, not}
-use mathlib.Core.List.{List, _∷_, _++_, map, Perm, perm-middle}
+use mathlib.Core.List.{List, _∷_, _++_, map, Perm, perm-middle, List·Memᴰ}
 use lib.ListN.{length}
 use lib.Dec.{eqb}
 use borrow.Author.Tests.{eq-eqb}
@@ -24,8 +24,8 @@ use Rattle.d64spec.proofs.BoundLaws.{all-append, fileLink-on}
 use Rattle.d64spec.proofs.WalkLaws.{chain-met}
 use Rattle.d64spec.proofs.FrameLaws.{Sound, Agree, same-files, same-valid-entries, same-plainList}
 use Rattle.d64spec.proofs.ImageLaws.{Whole}
-use Rattle.d64spec.proofs.SplitLaws.{filter-append, map-append, all-front, all-back}
-use Rattle.d64spec.proofs.MapWriteLaws.{rewrite-plainList, rewrite-claims, rewrite-other}
+use Rattle.d64spec.proofs.SplitLaws.{filter-append, map-append, all-front, all-back, mem-mid}
+use Rattle.d64spec.proofs.MapWriteLaws.{rewrite-plainList, rewrite-claims, rewrite-other, rewrite-files}
 use Rattle.d64spec.proofs.MapBytes.{Prepared}
 use Rattle.d64spec.proofs.ScratchLaws.{isOccupied, claimCount-of, claims-apart, names-apart}
 use Rattle.d64spec.proofs.WriteChainLaws.{Fits, link-is, writeChain-other, writeChain-written, written-agree, written-chain, written-data}
@@ -55,6 +55,12 @@ pub record StoreLeaves (g : Geometry) (d d2 : Disk) (place : SlotPlace) (l : Lis
   pub kept : (n : ℕ) → claimCount g (rewriteMap g d2) n ≡ 0 → rewriteMap g d2 n ≡ d n
   pub laid : DataWritten g (rewriteMap g d2) l (x .content)
   pub entry : EntryWritten g d (rewriteMap g d2) place bs
+  -- the file is there, under its name, in these sectors, with these bytes
+  pub file : File
+  pub there : List·Memᴰ file (files g (rewriteMap g d2))
+  pub named : nameOf (file .slot .bytes) ≡ x .name
+  pub sectors : file .sectors ≡ l
+  pub content : chainData g (rewriteMap g d2) l ≡ x .content
   pub rest : (n i : ℕ) → (Among g n l → ⊥) → (EntryWrites g d place n i → ⊥) → byte (d2 n) i ≡ byte (d n) i
 
 module _ (g : Geometry) (v : Valid g) (d : Disk) (a : Sound g d) (r : Address) (l : List Address) (on : All (λ x. onDisk g x ≡ true) (r ∷ l)) (place : SlotPlace)
@@ -237,6 +243,9 @@ module _ (g : Geometry) (v : Valid g) (d : Disk) (a : Sound g d) (r : Address) (
   store-claims : (n : ℕ) → claimCount g (rewriteMap g d2) n ≡ claimCount g d n + count n (map (sectorNumber g) refs) + count n extra
   store-claims n = rewrite-claims g v d2 (e .whole) sound2 n ∙ claims2 n
 
+  laid3 : DataWritten g (rewriteMap g d2) refs bs
+  laid3 = written-agree g d2 (rewriteMap g d2) refs bs (λ n h. sym (map-leaves n (omega arith))) laid2
+
   pub store-leaves : StoreLeaves g d d2 place refs (newEntry name kind r (length refs)) made
   store-leaves = record {
     prepared = prepared2;
@@ -246,7 +255,12 @@ module _ (g : Geometry) (v : Valid g) (d : Disk) (a : Sound g d) (r : Address) (
         let o : claimCount g d n + count n (map (sectorNumber g) refs) + count n extra ≡ 0 = sym (store-claims n) ∙ h in
         rewrite-other g d2 n (λ z. let y : indicator (eqb n (sectorNumber g mapAddress)) ≡ 1 = rw (eq-eqb n (sectorNumber g mapAddress) z) in omega (arith, claims-are n))
         ∙ e .other n (omega (arith, e .grown n, claims-are n)) ∙ writeChain-other g refs bs d n (omega arith);
-    laid = written-agree g d2 (rewriteMap g d2) refs bs (λ n h. sym (map-leaves n (omega arith))) laid2;
+    laid = laid3;
     entry = e .written (rewriteMap g d2) (λ n h. map-leaves n (omega arith));
+    file = f;
+    there = rw (rewrite-files g v d2 (e .whole) sound2, files2) (mem-mid before f behind);
+    named = f-name;
+    sectors = refl;
+    content = written-data g (rewriteMap g d2) refs bs laid3 fits;
     rest = λ n i out out′. e .rest n i out′ ∙ ap (λ (x : Bytes). byte x i) (writeChain-other g refs bs d n (zero-of-none (count n (map (sectorNumber g) refs)) out));
   }
