@@ -3,16 +3,9 @@
 ghost use mathlib.Core.Path.{_≡_};
 ghost use Prim.Native.Nat.{_+_, _≤_, _<_};
 ghost use lib.ListN.{length};
-ghost use Rattle.d64spec.specs.Lists.{byte, splice};
+ghost use Rattle.d64spec.specs.Lists.{splice};
 ghost use Rattle.d64spec.specs.Geometry.{layout35};
 ghost use Rattle.mapsector.specs.MapSector.{fourBytes, mapEntry, mapEntries, storedEntries};
-
-// Byte `at` of a slice, or 0 past its end.
-fn byte_at(bytes: &[u8], at: usize) -> u8
-    ensures { λ r. ⌜ r ≡ byte (now (bytes .entry)) at ⌝ }
-{
-    if at < bytes.len() { bytes[at] } else { 0 }
-}
 
 // Four bytes from `at` on, with zeros past the end.
 fn short_entry(bytes: &[u8], at: usize) -> [u8; 4]
@@ -20,10 +13,10 @@ fn short_entry(bytes: &[u8], at: usize) -> [u8; 4]
     ensures { λ r. ⌜ r ≡ fourBytes (now (bytes .entry)) at ⌝ }
 {
     [
-        byte_at(bytes, at),
-        byte_at(bytes, at + 1),
-        byte_at(bytes, at + 2),
-        byte_at(bytes, at + 3),
+        parts::byte_at(bytes, at),
+        parts::byte_at(bytes, at + 1),
+        parts::byte_at(bytes, at + 2),
+        parts::byte_at(bytes, at + 3),
     ]
 }
 

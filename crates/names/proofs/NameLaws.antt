@@ -8,13 +8,14 @@ use Prim.Native.Nat.{ℕ, _+_, _-_, _≤_}
 use native.Mathlib.Omega.{arith}
 use lib.ListN.{length, take, drop, replicate, length-append, length-take, length-replicate, take-append-drop}
 use lib.Seq.{drop-append-seam}
-use lib.Dec.{eqb, ltb}
-use borrow.Author.Tests.{eq-eqb, ne-eqb, eqb-true}
-use Rattle.d64spec.specs.Lists.{Bytes, count, equal}
+use lib.Dec.{eqb}
+use borrow.Author.Tests.{eq-eqb, ne-eqb}
+use Rattle.d64spec.specs.Lists.{Bytes, equal}
 use Rattle.d64spec.specs.Directory.{nameField, nameOf, padded, validName}
 use Rattle.d64spec.specs.Reply.{validNameArgument}
 use Rattle.names.specs.Names.{nameLength}
 use Rattle.d64spec.proofs.ListLaws.{eq-of-equal}
+use Rattle.d64spec.proofs.RuleLaws.{name-exact, name-argument-exact}
 use Rattle.parts.proofs.EqualLaws.{equal-iff, equal-lengths-differ, equal-append}
 use Rattle.names.proofs.PaddingLaws.{letters, count-letters, nameLength-append-padding, letters-append-padding, letters-of-padding, length-take-nameLength}
 
@@ -94,33 +95,16 @@ module _ (b f : Bytes) (field : f ≡ nameField b) where
 
 -- ---- the two comparisons, where names keep the rule
 
-right-of-and : (x y : Bool) → (x && y) ≡ true → y ≡ true
-right-of-and true y e = e
-right-of-and false y e = absurd (let z : _≡_ {A = ℕ} 0 1 = cc in omega arith)
-
--- a name that keeps the rule stands in its field, filled up
-nameField-of-validName : (b : Bytes) → validName b ≡ true → nameField b ≡ padded (nameOf b)
-unfolding validName
-nameField-of-validName b valid =
-    eq-of-equal (nameField b) (padded (nameOf b)) (right-of-and (not (eqb (length (nameOf b)) 0)) (equal (nameField b) (padded (nameOf b))) valid)
-
--- a name that a call takes has no $A0
-count-of-validNameArgument : (name : Bytes) → validNameArgument name ≡ true → count 0xA0 name ≡ 0
-unfolding validNameArgument
-count-of-validNameArgument name valid =
-    eqb-true (count 0xA0 name) 0
-    (right-of-and (ltb (length name) 17) (eqb (count 0xA0 name) 0) (right-of-and (ltb 0 (length name)) (ltb (length name) 17 && eqb (count 0xA0 name) 0) valid))
-
 -- TWO NAMES ARE EQUAL exactly where their fields are
 pub equal-nameField : (a b : Bytes) → validName a ≡ true → validName b ≡ true → equal (nameField a) (nameField b) ≡ equal (nameOf a) (nameOf b)
-unfolding nameOf
+unfolding nameOf padded
 equal-nameField a b valid-a valid-b =
-    equal-iff (nameField a) (nameField b) (nameOf a) (nameOf b) (λ e. ap letters e) (λ e. nameField-of-validName a valid-a ∙ ap padded e ∙ sym (nameField-of-validName b valid-b))
+    equal-iff (nameField a) (nameField b) (nameOf a) (nameOf b) (λ e. ap letters e) (λ e. name-exact a .0 valid-a .padding ∙ ap padded e ∙ sym (name-exact b .0 valid-b .padding))
 
 -- A SLOT HAS THE NAME ASKED FOR exactly where its field is that name, filled up
 pub equal-nameField-padded : (b name : Bytes) → validName b ≡ true → validNameArgument name ≡ true → equal (nameField b) (padded name) ≡ equal name (nameOf b)
 unfolding nameOf padded
 equal-nameField-padded b name valid asked =
     equal-iff (nameField b) (padded name) name (nameOf b)
-    (λ e. sym (ap letters e ∙ letters-append-padding name (16 - length name) (count-of-validNameArgument name asked)))
-    (λ e. nameField-of-validName b valid ∙ ap padded (sym e))
+    (λ e. sym (ap letters e ∙ letters-append-padding name (16 - length name) (name-argument-exact name .0 asked .noPadding)))
+    (λ e. name-exact b .0 valid .padding ∙ ap padded (sym e))

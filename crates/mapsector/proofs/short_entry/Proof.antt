@@ -1,4 +1,4 @@
--- `mapsector::short_entry`: four bytes, each read by `byte_at`.
+-- `mapsector::short_entry`: four bytes, each read by `parts::byte_at`.
 -- Assumes nothing.
 use borrow.Author.Needs.{needs}
 use Rattle.mapsector.specs.MapSector.{fourBytes}
