@@ -1,8 +1,11 @@
 -- What the functions over the layout of 35 tracks promise (01, Tracks and sectors).
 -- In order: the code's address as an address of the definitions; a track's count; a sector's number. Laws: proofs/TableLaws.
-use Prim.Native.Nat.{ℕ, _≤_, _<_}
+use Prim.Native.Nat.{ℕ, _+_, _≤_, _<_}
 use mathlib.Core.Path.{_≡_}
-use mathlib.Core.Bool.{true}
+use mathlib.Core.Bool.{Bool, true}
+use mathlib.Core.List.{List, _∷_}
+use lib.ListN.{getD}
+use lib.Dec.{ltb}
 use Rattle.d64spec.specs.Answers.{Address as DiskAddress, address}
 use Rattle.d64spec.specs.Geometry.{layout35, sectorsOn, onDisk, sectorNumber}
 use Rattle.geometry.specs.declared.Address.{Address}
@@ -20,3 +23,11 @@ pub record Counted (t n : ℕ) : Type 0 where
 pub record Numbered (r : DiskAddress) (n : ℕ) : Type 0 where
   pub number : n ≡ sectorNumber layout35 r
   pub inside : onDisk layout35 r ≡ true → n < 683
+
+-- whether an address names a sector, by a table of each track's sectors from track 1 on (01: a table of 35 entries gives each track's sectors)
+unfoldable pub onDiskBy : List ℕ → DiskAddress → Bool
+onDiskBy counts r = ltb (r .sector) (getD (0 ∷ counts) (r .track) 0)
+
+-- a sector's number, by a table of each track's first sector number from track 1 on
+unfoldable pub numberBy : List ℕ → DiskAddress → ℕ
+numberBy firsts r = getD (0 ∷ firsts) (r .track) 0 + r .sector

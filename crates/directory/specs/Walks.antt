@@ -1,0 +1,32 @@
+-- The walk of the directory with the owner table (01, Order of the check, step 2).
+use Prim.Native.Nat.{ℕ, _-_, _≤_, _<_}
+use mathlib.Core.Path.{_≡_}
+use mathlib.Core.List.{List, _++_, map}
+use lib.ListN.{length, take}
+use Rattle.d64spec.specs.Lists.{Bytes, All, zeros}
+use Rattle.d64spec.specs.Answers.{Address, Result, refused, done}
+use Rattle.d64spec.specs.Geometry.{layout35, sectorNumber, mapAddress, directoryStart}
+use Rattle.d64spec.specs.Chain.{to, directoryLink, steps, walk}
+use Rattle.d64spec.specs.Listing.{diskOfTrack18}
+use Rattle.answers.specs.Faults.{whereFine}
+use Rattle.owners.specs.OwnerTable.{owned, withOwner, directoryOwner}
+use Rattle.directory.specs.declared.walk.Walk.{Walk}
+use Rattle.directory.specs.Directories.{sectorsOf}
+
+-- the sectors of a walk, and the table after it
+pub record Marked : Type 0 where
+  pub sectors : List Address
+  pub table : List ℕ
+
+-- the definition's walk, with the table after it
+unfoldable pub marked : List ℕ → Result (List Address) → Result Marked
+marked own (refused f) = refused f
+marked own (done ds) = done (record { sectors = ds; table = withOwner directoryOwner (map (sectorNumber layout35) ds) own })
+
+-- what the walk over track 18's bytes gives, and the table it leaves where nothing is refused
+pub record Walked (b own : List ℕ) (r : Walk) (own′ : List ℕ) : Type 0 where
+  pub told : whereFine (r .verdict) (record { sectors = sectorsOf (r .sectors) (r .count); table = own′ })
+      ≡ marked own (walk layout35 (directoryLink layout35) (diskOfTrack18 layout35 b) (steps layout35) (owned own) mapAddress 255 (to directoryStart))
+  pub rest : r .sectors ≡ take (r .count) (r .sectors) ++ zeros (18 - r .count)
+  pub few : r .count ≤ 18
+  pub inside : All (λ s. s < 19) (r .sectors)

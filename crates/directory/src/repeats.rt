@@ -1,0 +1,87 @@
+// The first slot whose name field an earlier slot has too, in one pass (01, Order of the check, 3: name used by an earlier slot).
+// A name field is held as two 64-bit numbers, and a table of hashes is asked before names are compared: equal names have equal
+// hashes, so that where the hash is new the name is new.
+ghost use mathlib.Core.Path.{_≡_};
+ghost use Prim.Native.Nat.{_≤_, _+_, _<_};
+ghost use lib.ListN.{length};
+ghost use Rattle.d64spec.specs.Lists.{All};
+ghost use Rattle.directory.specs.Directories.{firstRepeated};
+ghost use Rattle.directory.specs.NameWords.{halfOf, wordOf, hashOf, holdsPair};
+
+// The number of four bytes, low byte first.
+fn half(bytes: &[u8], at: usize) -> u64
+    requires { ⌜ at + 4 ≤ length (now bytes) ⌝ }
+    ensures { λ r. ⌜ r ≡ halfOf (now (bytes .entry)) at ⌝ }
+{
+    bytes[at] as u64
+        + 256 * (bytes[at + 1] as u64)
+        + 65536 * (bytes[at + 2] as u64)
+        + 16777216 * (bytes[at + 3] as u64)
+}
+
+// The number of eight bytes, low byte first; by halves, each of which compiles to one load.
+fn word(bytes: &[u8], at: usize) -> u64
+    requires { ⌜ at + 8 ≤ length (now bytes) ⌝ }
+    ensures { λ r. ⌜ r ≡ wordOf (now (bytes .entry)) at ⌝ }
+{
+    half(bytes, at) + 4294967296 * half(bytes, at + 4)
+}
+
+// A hash of a name's two words.
+fn hash(x: u64, y: u64) -> usize
+    ensures { λ r. ⌜ r ≡ hashOf x y ⌝ }
+{
+    let a = (x % 4294967296) * 2654435769 / 1048576;
+    let b = (x / 4294967296) * 2246822519 / 1048576;
+    let c = (y % 4294967296) * 3266489917 / 1048576;
+    let d = (y / 4294967296) * 668265263 / 1048576;
+    ((a + b + c + d) % 4096) as usize
+}
+
+// Whether one of the first n names is this one.
+fn among(xs: &[u64; 144], ys: &[u64; 144], n: usize, x: u64, y: u64) -> bool
+    requires { ⌜ n ≤ 144 ⌝ }
+    ensures { λ r. ⌜ r ≡ holdsPair (now (xs .entry)) (now (ys .entry)) n x y ⌝ }
+{
+    let mut i: usize = 0;
+    while i < n {
+        if xs[i] == x {
+            if ys[i] == y {
+                return true;
+            }
+        }
+        i += 1;
+    }
+    false
+}
+
+// The first of the slots 0 to end - 1 that repeats the name field of an earlier one, or `end` where none does.
+pub(crate) fn first_repeated(track18: &[u8], sectors: &[u8; 18], end: usize) -> usize
+    requires { ⌜ (length (now track18) ≡ 4864) × (end ≤ 144) × All (λ s. s < 19) (now sectors) ⌝ }
+    ensures { λ r. ⌜ r ≡ firstRepeated (now (track18 .entry)) (now (sectors .entry)) 0 end ⌝ }
+{
+    let mut seen = [0u8; 4096];
+    let mut xs = [0u64; 144];
+    let mut ys = [0u64; 144];
+    let mut n: usize = 0;
+    let mut k: usize = 0;
+    while k < end {
+        let slot = crate::slot_at(track18, sectors, k);
+        if slot[0] != 0 {
+            let x = word(slot, 3);
+            let y = word(slot, 11);
+            let h = hash(x, y);
+            if seen[h] != 0 {
+                if among(&xs, &ys, n, x, y) {
+                    return k;
+                }
+            }
+            seen[h] = 1;
+            xs[n] = x;
+            ys[n] = y;
+            n += 1;
+        }
+        k += 1;
+    }
+    k
+}

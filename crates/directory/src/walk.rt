@@ -1,0 +1,69 @@
+// The walk along the directory's links, from 18/1 on (01, The directory).
+ghost use mathlib.Core.Path.{_≡_};
+ghost use lib.ListN.{length};
+ghost use Rattle.directory.specs.Walks.{Walked};
+use answers::Fault;
+use answers::Place;
+use answers::Verdict;
+use links::Link;
+
+// The sectors walked, in link order, and the verdict.
+pub(crate) struct Walk {
+    pub verdict: Verdict,
+    pub sectors: [u8; 18],
+    pub count: usize,
+}
+
+// Walks the directory from 18/1 on. Each sector gets the directory's number in the owner table; one that has an owner is refused.
+pub(crate) fn walk_directory(track18: &[u8], own: &mut [u8; 683]) -> Walk
+    requires { ⌜ (length (now track18) ≡ 4864) × (length (now own) ≡ 683) ⌝ }
+    ensures { λ r. ⌜ Walked (now (track18 .entry)) (now (own .entry)) r (now (own .exit)) ⌝ }
+{
+    let mut sectors = [0u8; 18];
+    let mut count: usize = 0;
+    let mut holder: u8 = 0;
+    let mut next: u8 = 1;
+    loop {
+        let n = 357 + next as usize;
+        if own[n] != 0 {
+            return Walk {
+                verdict: Verdict::Refused(Fault::AlreadyOwned(Place {
+                    track: 18,
+                    sector: holder,
+                    slot: 255,
+                })),
+                sectors,
+                count,
+            };
+        }
+        own[n] = 2;
+        sectors[count] = next;
+        count += 1;
+        holder = next;
+        let at = 256 * (next as usize);
+        let link = links::directory_link(track18[at], track18[at + 1]);
+        match link {
+            Link::Ends(_) => {
+                return Walk {
+                    verdict: Verdict::Fine,
+                    sectors,
+                    count,
+                };
+            }
+            Link::Bad => {
+                return Walk {
+                    verdict: Verdict::Refused(Fault::BadLink(Place {
+                        track: 18,
+                        sector: holder,
+                        slot: 255,
+                    })),
+                    sectors,
+                    count,
+                };
+            }
+            Link::To(at) => {
+                next = at.sector;
+            }
+        }
+    }
+}

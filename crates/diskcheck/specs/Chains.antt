@@ -1,0 +1,50 @@
+-- A file's chain, claimed sector by sector in the owner table (01, Chains; Order of the check, 3).
+-- In order: what a claim answers; the definition's walk with the table after it; what the loop may rely on.
+use Prim.Native.Nat.{ℕ, _≤_}
+use mathlib.Core.Path.{_≡_}
+use mathlib.Core.Bool.{true}
+use mathlib.Core.List.{List, [], _∷_, map}
+use lib.ListN.{length}
+use Rattle.d64spec.specs.Lists.{Bytes}
+use Rattle.d64spec.specs.Answers.{Address, Result, refused, done}
+use Rattle.d64spec.specs.Geometry.{layout35, sectorNumber, onDisk}
+use Rattle.d64spec.specs.Image.{disk}
+use Rattle.d64spec.specs.Chain.{Link, linkTo, fileLink, steps, walk}
+use Rattle.geometry.specs.Layout.{onDiskBy, numberBy}
+use Rattle.answers.specs.Faults.{faultOf}
+use Rattle.owners.specs.OwnerTable.{owned, withOwner}
+use Rattle.diskcheck.specs.declared.chain.Claim.{Claim}
+use Rattle.diskcheck.specs.declared.chain.Claim.the-variants as claim
+
+-- the sectors of a chain counted, and the table after it
+pub record Claimed : Type 0 where
+  pub count : ℕ
+  pub table : List ℕ
+
+-- what a claim's answer means, with the table that it leaves where nothing is refused
+unfoldable pub claimOf : Claim → List ℕ → Result Claimed
+claimOf (claim.Ended n) own = done (record { count = n; table = own })
+claimOf (claim.Refused f) own = refused (faultOf f)
+
+-- the sectors of a walk claimed for the owner `id`
+unfoldable pub claimed : ℕ → List ℕ → Result (List Address) → Result Claimed
+claimed id own (refused f) = refused f
+claimed id own (done l) = done (record { count = length l; table = withOwner id (map (sectorNumber layout35) l) own })
+
+-- the definition's walk of the chain that a first link to track t, sector s starts, which the sector `holder` holds
+unfoldable pub chainWalk : Bytes → List ℕ → Address → ℕ → ℕ → ℕ → Result (List Address)
+chainWalk img own holder slot t s = walk layout35 (fileLink layout35) (disk img) (steps layout35) (owned own) holder slot (linkTo layout35 t s)
+
+-- an image and a table of the right size, and an owner that is somebody
+pub record Ready (img own : List ℕ) (id : ℕ) : Type 0 where
+  pub size : length img ≡ 174848
+  pub long : length own ≡ 683
+  pub owner : 1 ≤ id
+
+-- the layout's own table of each track's sectors (01, Tracks and sectors)
+pub record IsCounts (l : List ℕ) : Type 0 where
+  pub agrees : (r : Address) → onDiskBy l r ≡ onDisk layout35 r
+
+-- the layout's own table of each track's first sector number (01, Tracks and sectors)
+pub record IsFirsts (l : List ℕ) : Type 0 where
+  pub agrees : (r : Address) → onDisk layout35 r ≡ true → numberBy l r ≡ sectorNumber layout35 r

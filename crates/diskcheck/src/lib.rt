@@ -1,0 +1,76 @@
+// The whole check of an image, for any bytes: document 01's four steps in its order (01, Order of the check).
+// The owner table is filled on the way and handed back with the directory's sectors, so that the calls need no second check.
+mod chain;
+mod slots;
+
+ghost use mathlib.Core.Path.{_≡_};
+ghost use lib.ListN.{length};
+ghost use Rattle.d64spec.specs.Lists.{zeros};
+ghost use Rattle.diskcheck.specs.ImageChecks.{ImageChecked};
+use answers::Fault;
+use answers::Verdict;
+
+// The verdict; the directory's sectors on track 18 in link order, with zeros after them; and who owns each sector: 0 nobody, 1 the map,
+// 2 the directory, 3 and its slot's number a file. Where the verdict is a refusal there is no sector and no owner.
+pub struct Checked {
+    pub verdict: Verdict,
+    pub sectors: [u8; 18],
+    pub count: usize,
+    pub owners: [u8; 683],
+}
+
+// A refusal: no sector, no owner.
+fn refuse(fault: Fault) -> Checked
+    ensures { λ r. ⌜ r ≡ record { verdict = Verdict.Refused fault; sectors = zeros 18; count = 0; owners = zeros 683 } ⌝ }
+{
+    Checked {
+        verdict: Verdict::Refused(fault),
+        sectors: [0u8; 18],
+        count: 0,
+        owners: [0u8; 683],
+    }
+}
+
+// The slots, then the map.
+fn check_rest(
+    img: &[u8],
+    own: &mut [u8; 683],
+    sectors: &[u8; 18],
+    count: usize,
+    repeated: usize,
+) -> Verdict {
+    let verdict = slots::check_slots(img, own, sectors, count, repeated);
+    match verdict {
+        Verdict::Refused(fault) => Verdict::Refused(fault),
+        Verdict::Fine => mapcheck::check_map(&img[91392..91648], own),
+    }
+}
+
+// Checks an image: the size, the directory, the slots, the map. The first fault met is the verdict.
+pub fn check_image(img: &[u8]) -> Checked
+    ensures { λ r. ⌜ ImageChecked (now (img .entry)) r ⌝ }
+{
+    if img.len() != 174848 {
+        return refuse(Fault::WrongSize);
+    }
+    let directory = directory::read_directory(&img[91392..96256]);
+    let verdict = directory.verdict;
+    match verdict {
+        Verdict::Refused(fault) => refuse(fault),
+        Verdict::Fine => {
+            let sectors = directory.sectors;
+            let count = directory.count;
+            let mut owners = directory.owners;
+            let rest = check_rest(img, &mut owners, &sectors, count, directory.repeated);
+            match rest {
+                Verdict::Refused(fault) => refuse(fault),
+                Verdict::Fine => Checked {
+                    verdict: Verdict::Fine,
+                    sectors,
+                    count,
+                    owners,
+                },
+            }
+        }
+    }
+}

@@ -1,0 +1,85 @@
+// Step 3 of the check: the occupied slots in directory order (01, Order of the check, 3).
+ghost use mathlib.Core.Path.{_≡_};
+ghost use lib.ListN.{length};
+ghost use Prim.Native.Nat.{_*_};
+ghost use Rattle.answers.specs.Faults.{whereFine};
+ghost use Rattle.diskcheck.specs.SlotChecks.{SlotsReady, SlotReady, slotStep, slotsStep};
+use crate::chain::Claim;
+use answers::Fault;
+use answers::Place;
+use answers::Verdict;
+use geometry::Address;
+
+// The chain of an occupied slot, link by link, and then its count of sectors.
+fn check_file(img: &[u8], own: &mut [u8; 683], slot: &[u8], at: Place) -> Verdict {
+    let first = Address {
+        track: slot[1],
+        sector: slot[2],
+    };
+    let from = Address {
+        track: at.track,
+        sector: at.sector,
+    };
+    let claim = crate::chain::claim_chain(img, own, at.slot + 3, at.slot, from, first);
+    match claim {
+        Claim::Refused(fault) => Verdict::Refused(fault),
+        Claim::Ended(count) => {
+            if count == entry::sector_count(slot) as usize {
+                Verdict::Fine
+            } else {
+                Verdict::Refused(Fault::WrongCount(at))
+            }
+        }
+    }
+}
+
+// Slot k: nothing where it is empty; else its entry, its chain and its count.
+fn check_slot(
+    img: &[u8],
+    own: &mut [u8; 683],
+    sectors: &[u8; 18],
+    k: usize,
+    repeated: usize,
+) -> Verdict {
+    let slot = directory::slot_at(&img[91392..96256], sectors, k);
+    if slot[0] == 0 {
+        return Verdict::Fine;
+    }
+    let i = k / 8;
+    let at = Place {
+        track: 18,
+        sector: sectors[i],
+        slot: k as u8,
+    };
+    let entry = directory::check_entry(slot, at, k == repeated);
+    match entry {
+        Verdict::Refused(fault) => Verdict::Refused(fault),
+        Verdict::Fine => check_file(img, own, slot, at),
+    }
+}
+
+// All slots of a directory of `count` sectors.
+pub(crate) fn check_slots(
+    img: &[u8],
+    own: &mut [u8; 683],
+    sectors: &[u8; 18],
+    count: usize,
+    repeated: usize,
+) -> Verdict
+    requires { ⌜ SlotsReady (now img) (now own) (now sectors) count repeated ⌝ }
+    ensures { λ r. ⌜ whereFine r (now (own .exit)) ≡ slotsStep (now (img .entry)) (now (own .entry)) (now (sectors .entry)) 0 (8 * count) ⌝ }
+{
+    let end = 8 * count;
+    let mut k: usize = 0;
+    while k < end {
+        let verdict = check_slot(img, own, sectors, k, repeated);
+        match verdict {
+            Verdict::Fine => {}
+            Verdict::Refused(fault) => {
+                return Verdict::Refused(fault);
+            }
+        }
+        k += 1;
+    }
+    Verdict::Fine
+}

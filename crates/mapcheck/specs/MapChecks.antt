@@ -1,0 +1,43 @@
+-- Step 4 of the check on the map sector alone, against the owner table (01, Order of the check, 4; The map).
+-- In order: a track's free sectors as a number and how many they are; an entry's bitmap as a number; the step.
+-- Laws: proofs/MaskLaws (numbers are equal exactly where all their bits are), StepLaws (the step is d64spec's).
+use Prim.Native.Nat.{ℕ, zero, suc, _+_, _*_, _^_}
+use mathlib.Core.Path.{_≡_}
+use mathlib.Core.Bool.{Bool, _&&_}
+use mathlib.Core.List.{List}
+use lib.ListN.{getD}
+use lib.Dec.{eqb}
+use Rattle.d64spec.specs.Lists.{Bytes, byte, indicator, range}
+use Rattle.d64spec.specs.Answers.{Result}
+use Rattle.d64spec.specs.Geometry.{layout35, tracks, firstOn, sectorsOn}
+use Rattle.d64spec.specs.Check.{checkMap}
+use Rattle.owners.specs.OwnerTable.{freeBy}
+use Rattle.mapcheck.specs.declared.FreeSectors.{FreeSectors}
+
+-- the n sectors from number `first` on that nobody owns, as a number: bit s for sector s
+abbrev pub freeMask : List ℕ → ℕ → ℕ → ℕ
+freeMask own first zero = 0
+freeMask own first (suc n) = freeMask own first n + indicator (eqb (getD own (first + n) 0) 0) * 2 ^ n
+
+-- how many of the n sectors from number `first` on nobody owns
+abbrev pub freeCount : List ℕ → ℕ → ℕ → ℕ
+freeCount own first zero = 0
+freeCount own first (suc n) = freeCount own first n + indicator (eqb (getD own (first + n) 0) 0)
+
+-- both of them
+pub record Surveyed (own : List ℕ) (first n : ℕ) (r : FreeSectors) : Type 0 where
+  pub mask : r .mask ≡ freeMask own first n
+  pub count : r .count ≡ freeCount own first n
+
+-- the three bitmap bytes of an entry as a number: bit s for sector s (01, The map)
+unfoldable pub bitmapOf : Bytes → ℕ
+bitmapOf e = byte e 1 + 256 * byte e 2 + 65536 * byte e 3
+
+-- whether an entry marks exactly the sectors of its track that nobody owns, and counts them
+unfoldable pub trackCorrect : Bytes → List ℕ → ℕ → Bool
+trackCorrect e own t =
+    eqb (bitmapOf e) (freeMask own (firstOn layout35 t) (sectorsOn layout35 t)) && eqb (byte e 0) (freeCount own (firstOn layout35 t) (sectorsOn layout35 t))
+
+-- STEP 4 of the check, on the map sector m and the owner table
+unfoldable pub mapVerdict : Bytes → List ℕ → Result (Unit {0})
+mapVerdict m own = checkMap layout35 (λ n. m) (freeBy layout35 own) (range 1 (tracks layout35))

@@ -1,0 +1,67 @@
+// Step 4 of the check: the block availability map (document 01's map) against the owner table, track by track (01, Order of the check, 4).
+// A track's free sectors are gathered from the table as one number, bit s for sector s, and compared with the entry's three bitmap bytes
+// at once: bits past the track's last sector are 0 in it, as they must be in the map.
+ghost use mathlib.Core.Path.{_≡_};
+ghost use Prim.Native.Nat.{_+_, _≤_};
+ghost use Rattle.answers.specs.Faults.{verdictOf};
+ghost use Rattle.mapcheck.specs.MapChecks.{Surveyed, trackCorrect, mapVerdict};
+use answers::Fault;
+use answers::Verdict;
+
+// The free sectors of a track: bit s for sector s, and how many there are.
+struct FreeSectors {
+    mask: u32,
+    count: u8,
+}
+
+// The free ones of the sectors from number `first` on.
+fn survey(own: &[u8; 683], first: usize, sectors: u8) -> FreeSectors
+    requires { ⌜ (first + sectors ≤ 683) × (sectors ≤ 24) ⌝ }
+    ensures { λ r. ⌜ Surveyed (now (own .entry)) first sectors r ⌝ }
+{
+    let mut mask: u32 = 0;
+    let mut count: u8 = 0;
+    let mut s: u8 = 0;
+    while s < sectors {
+        if own[first + s as usize] == 0 {
+            mask += 1 << s;
+            count += 1;
+        }
+        s += 1;
+    }
+    FreeSectors { mask, count }
+}
+
+// Whether a track's entry marks exactly the sectors that nobody owns, and counts them.
+fn entry_correct(entry: [u8; 4], own: &[u8; 683], track: u8) -> bool
+    requires { ⌜ (1 ≤ track) × (track ≤ 35) ⌝ }
+    ensures { λ r. ⌜ r ≡ trackCorrect entry (now (own .entry)) track ⌝ }
+{
+    let free = survey(
+        own,
+        geometry::first_on(track) as usize,
+        geometry::sectors_on(track),
+    );
+    let bitmap = entry[1] as u32 + 256 * (entry[2] as u32) + 65536 * (entry[3] as u32);
+    if bitmap != free.mask {
+        return false;
+    }
+    entry[0] == free.count
+}
+
+// The map, track 1 to 35: the first track whose entry is wrong is refused.
+pub fn check_map(sector: &[u8], own: &[u8; 683]) -> Verdict
+    ensures { λ r. ⌜ verdictOf r ≡ mapVerdict (now (sector .entry)) (now (own .entry)) ⌝ }
+{
+    let map = mapsector::load_map(sector);
+    let mut track: u8 = 1;
+    while track <= 35 {
+        let i = (track - 1) as usize;
+        let entry = map[i];
+        if !entry_correct(entry, own, track) {
+            return Verdict::Refused(Fault::WrongMapEntry(track));
+        }
+        track += 1;
+    }
+    Verdict::Fine
+}

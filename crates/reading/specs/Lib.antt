@@ -1,0 +1,3 @@
+pub mod FileSlots
+pub mod ChainReads
+pub mod Tells

@@ -1,0 +1,149 @@
+// Read and tell (01, What the calls do): the whole check, then the file's bytes, or what its directory entry says of it.
+// They take any bytes and change none of the image.
+mod copying;
+mod finding;
+
+ghost use mathlib.Core.Path.{_≡_};
+ghost use Rattle.d64spec.specs.Geometry.{layout35};
+ghost use Rattle.d64spec.specs.Read.{callTell, tellReply};
+ghost use Rattle.d64spec.specs.Call.{read, perform};
+ghost use Rattle.answers.specs.Faults.{replyOf};
+ghost use Rattle.reading.specs.Tells.{tellReplyOf};
+use answers::Fault;
+use answers::Report;
+use answers::Verdict;
+use geometry::Address;
+
+// What tell gives of a file: its type byte, its 16 name bytes, its first sector, its count of sectors, its length in bytes.
+pub struct FileInformation {
+    pub type_byte: u8,
+    pub name: [u8; 16],
+    pub track: u8,
+    pub sector: u8,
+    pub count: u16,
+    pub length: u32,
+}
+
+// A verdict and the information, all zero if refused.
+pub struct Told {
+    pub verdict: Verdict,
+    pub information: FileInformation,
+}
+
+// A report of a refusal: length 0 and 0 sectors.
+fn refuse(fault: Fault) -> Report {
+    Report {
+        verdict: Verdict::Refused(fault),
+        length: 0,
+        sectors: 0,
+    }
+}
+
+// A refused tell: all zero.
+fn tell_nothing(fault: Fault) -> Told {
+    Told {
+        verdict: Verdict::Refused(fault),
+        information: FileInformation {
+            type_byte: 0,
+            name: [0u8; 16],
+            track: 0,
+            sector: 0,
+            count: 0,
+            length: 0,
+        },
+    }
+}
+
+// Copies the file of an occupied slot of a checked image, or refuses it with 16 where the output is too short.
+fn read_slot(img: &[u8], slot: &[u8], out: &mut [u8]) -> Report {
+    let first = Address {
+        track: slot[1],
+        sector: slot[2],
+    };
+    let count = entry::sector_count(slot) as usize;
+    // an output with room for every data byte of the chain's sectors is long enough, whatever its last sector holds
+    if out.len() < 254 * count {
+        let last = copying::last_byte(img, first) as usize;
+        if out.len() < 254 * (count - 1) + last - 1 {
+            return refuse(Fault::WrongBuffer);
+        }
+    }
+    let copied = copying::copy_chain(img, first, out);
+    Report {
+        verdict: Verdict::Fine,
+        length: copied.length as u32,
+        sectors: copied.sectors as u16,
+    }
+}
+
+// Reads the file of this name: its bytes at the start of the output, the rest of it as it was; its length and its chain's length.
+// Refused with 1, 9, 2 to 8, 13 or 16, in this order; a refusal leaves the output as it was and reports 0 and 0.
+pub fn read_file(img: &[u8], name: &[u8], out: &mut [u8]) -> Report
+    ensures { λ r. ⌜ replyOf r (now (img .entry)) (now (out .exit)) ≡ perform layout35 (now (img .entry)) (read (now (name .entry)) (now (out .entry))) ⌝ }
+{
+    if img.len() != 174848 {
+        return refuse(Fault::WrongSize);
+    }
+    if !names::valid_name_argument(name) {
+        return refuse(Fault::BadNameArgument);
+    }
+    let checked = diskcheck::check_image(img);
+    let verdict = checked.verdict;
+    match verdict {
+        Verdict::Refused(fault) => refuse(fault),
+        Verdict::Fine => {
+            let sectors = checked.sectors;
+            let end = 8 * checked.count;
+            let track18 = &img[91392..96256];
+            let k = finding::find_named(track18, &sectors, name, end);
+            if k == end {
+                return refuse(Fault::NotFound);
+            }
+            read_slot(img, directory::slot_at(track18, &sectors, k), out)
+        }
+    }
+}
+
+// What the slot of a file of a checked image says, and the length of its chain's data.
+fn tell_slot(img: &[u8], slot: &[u8]) -> FileInformation {
+    let first = Address {
+        track: slot[1],
+        sector: slot[2],
+    };
+    let count = entry::sector_count(slot);
+    let last = copying::last_byte(img, first);
+    let mut name = [0u8; 16];
+    bytes::copy(&slot[3..19], &mut name);
+    FileInformation {
+        type_byte: slot[0],
+        name,
+        track: slot[1],
+        sector: slot[2],
+        count,
+        length: 254 * (count as u32 - 1) + last as u32 - 1,
+    }
+}
+
+// Tells about the file at a position, counted from 0 among the occupied slots. Refused with 1, 2 to 8 or 13, in this order.
+pub fn tell_file(img: &[u8], position: usize) -> Told
+    ensures { λ r. ⌜ tellReplyOf r ≡ tellReply (callTell layout35 (now (img .entry)) position) ⌝ }
+{
+    let checked = diskcheck::check_image(img);
+    let verdict = checked.verdict;
+    match verdict {
+        Verdict::Refused(fault) => tell_nothing(fault),
+        Verdict::Fine => {
+            let sectors = checked.sectors;
+            let end = 8 * checked.count;
+            let track18 = &img[91392..96256];
+            let k = finding::find_placed(track18, &sectors, position, end);
+            if k == end {
+                return tell_nothing(Fault::NotFound);
+            }
+            Told {
+                verdict: Verdict::Fine,
+                information: tell_slot(img, directory::slot_at(track18, &sectors, k)),
+            }
+        }
+    }
+}
