@@ -55,7 +55,7 @@ pub record SlotsReady (img own ss : List ℕ) (count repeated : ℕ) : Type 0 wh
   pub long : length own ≡ 683
   pub inside : All (λ s. s < 19) ss
   pub few : count ≤ 18
-  pub repeated : repeated ≡ firstRepeated (bytesOfTrack18 layout35 img) ss 0 (8 * count)
+  pub first : repeated ≡ firstRepeated (bytesOfTrack18 layout35 img) ss 0 (8 * count)
 
 -- the same at slot k, where every occupied slot before it has a valid name and none before it repeats one
 pub record SlotReady (img own ss : List ℕ) (count repeated k : ℕ) : Type 0 where

@@ -21,11 +21,8 @@ slotNamed b ss name k (suc n) = cond (holdsFile b ss name k) k (slotNamed b ss n
 -- the slot of the occupied one at this position among the n from k on, or k + n where there are not so many
 abbrev pub slotPlaced : Bytes → List ℕ → ℕ → ℕ → ℕ → ℕ
 slotPlaced b ss position k zero = k
-slotPlaced b ss position k (suc n) = cond (isEmpty (slotBytes b ss k)) (slotPlaced b ss position (suc k) n) (atPosition position)
-  where
-    atPosition : ℕ → ℕ
-    atPosition zero = k
-    atPosition (suc p) = slotPlaced b ss p (suc k) n
+slotPlaced b ss zero k (suc n) = cond (isEmpty (slotBytes b ss k)) (slotPlaced b ss zero (suc k) n) k
+slotPlaced b ss (suc p) k (suc n) = cond (isEmpty (slotBytes b ss k)) (slotPlaced b ss (suc p) (suc k) n) (slotPlaced b ss p (suc k) n)
 
 -- track 18 whole, and a directory on it
 pub record SlotsThere (b ss : List ℕ) (end : ℕ) : Type 0 where
