@@ -1,0 +1,129 @@
+-- One step along a chain (01, Chains): its first sector, and what the two link bytes there say of the rest.
+-- In order: the first sector; the last sector; a sector that is followed by another; bounds.
+use Prim.Native.Nat.{ℕ, zero, suc, _+_, _-_, _*_, _≤_, _<_}
+use native.Mathlib.Omega.{arith}
+use mathlib.Core.Path.{_≡_, refl, sym, ap, _∙_}
+use mathlib.Core.Bool.{Bool, true, false, cond}
+use mathlib.Core.List.{List, [], _∷_}
+use lib.ListN.{length}
+use Rattle.d64spec.specs.Lists.{Bytes, byte}
+use Rattle.d64spec.specs.Answers.{Address, address}
+use Rattle.d64spec.specs.Geometry.{Geometry, layout35, total, onDisk, sectorNumber}
+use Rattle.d64spec.specs.Image.{Disk, disk}
+use Rattle.d64spec.specs.Chain.{Link, ends, to, bad, linkTo, decodeFileLink, fileLink, steps, Chain, follow}
+use Rattle.d64spec.specs.Store.{lastOf}
+use Rattle.d64spec.proofs.BoundLaws.{sectorNumber-lt}
+use Rattle.d64spec.proofs.ChainLaws.{chain-follow}
+use Rattle.d64spec.proofs.RunTheorem.{sectors35}
+use Rattle.links.proofs.LinkLaws.{file-bad, file-ends, file-to}
+use Rattle.geometry.specs.Layout.{numberBy}
+use Rattle.geometry.proofs.Tables.{firsts}
+use Rattle.geometry.proofs.LentTableLaws.{numberBy-firsts}
+use Rattle.reading.specs.ChainReads.{sectorsFrom, ChainFrom, NumbersSectors}
+use Rattle.reading.proofs.SectorBytes.{byte-disk}
+
+pub follow-length : (g : Geometry) (link : Bytes → Link) (d : Disk) (n : ℕ) (k : Link) → length (follow g link d n k) ≤ n
+follow-length g link d zero k = omega arith
+follow-length g link d (suc n) ends = omega arith
+follow-length g link d (suc n) bad = omega arith
+follow-length g link d (suc n) (to r) = omega (arith, follow-length g link d n (link (d (sectorNumber g r))))
+
+-- no chain that is met is longer than the disk's sectors and one
+pub sectorsFrom-le : (img : Bytes) (r : Address) → length (sectorsFrom img r) ≤ 684
+unfolding sectorsFrom
+sectorsFrom-le img r = omega (arith, follow-length layout35 (fileLink layout35) (disk img) (steps layout35) (to r), sectors35)
+
+-- a chain that is no longer is what is met
+sectorsFrom-chain : (img : Bytes) (r : Address) (l : List Address) → Chain layout35 (fileLink layout35) (disk img) (to r) l → length l ≤ 684 → sectorsFrom img r ≡ l
+unfolding sectorsFrom
+sectorsFrom-chain img r l c h = chain-follow layout35 (fileLink layout35) (disk img) (steps layout35) (to r) l c (omega (arith, sectors35))
+
+-- ---- links that start no chain, and those that do
+
+module _ (g : Geometry) (link : Bytes → Link) (d : Disk) where
+  pub chain-bad : {A : Type 0} (l : List Address) → Chain g link d bad l → A
+  chain-bad [] c = absurd (let z : _≡_ {A = ℕ} 0 1 = cc in omega arith)
+  chain-bad (r ∷ l) c = absurd (let e : bad ≡ to r = c .0 in let z : _≡_ {A = ℕ} 0 1 = cc in omega arith)
+
+  chain-ends : (l : List Address) → Chain g link d ends l → l ≡ []
+  chain-ends [] c = refl
+  chain-ends (r ∷ l) c = absurd (let e : ends ≡ to r = c .0 in let z : _≡_ {A = ℕ} 0 1 = cc in omega arith)
+
+  -- a chain that starts at r has r first
+  pub chain-first : (r : Address) (l : List Address) → Chain g link d (to r) l → (m : List Address) × (l ≡ r ∷ m) × Chain g link d (link (d (sectorNumber g r))) m
+  chain-first r [] c = absurd (let z : _≡_ {A = ℕ} 0 1 = cc in omega arith)
+  chain-first r (q ∷ l) c =
+      let e : to r ≡ to q = c .0 in
+      let same : q ≡ r = cc in
+      (l, ap (λ (x : Address). x ∷ l) same, rw same at (c .1))
+
+-- the layout's own table gives each sector its number
+pub numbers35 : NumbersSectors firsts
+numbers35 = record { number = numberBy-firsts }
+
+-- ---- the step
+
+-- n is the number of the sector r, which lies whole in the image, and whose two link bytes are read there
+pub record Visited (img : Bytes) (r : Address) (n : ℕ) : Type 0 where
+  pub number : n ≡ sectorNumber layout35 r
+  pub inside : 256 * n + 256 ≤ length img
+  pub track : byte img (256 * n) ≡ byte (disk img (sectorNumber layout35 r)) 0
+  pub sector : byte img (256 * n + 1) ≡ byte (disk img (sectorNumber layout35 r)) 1
+
+-- the sector that they name
+abbrev pub linkAt : Bytes → ℕ → Address
+linkAt img n = address (byte img (256 * n)) (byte img (256 * n + 1))
+
+-- the sector q follows r
+pub record Follows (img : Bytes) (r q : Address) : Type 0 where
+  pub rest : ChainFrom img q
+  pub sectors : sectorsFrom img r ≡ r ∷ sectorsFrom img q
+
+module _ {img : Bytes} {r : Address} (c : ChainFrom img r) where
+  pub number-lt : sectorNumber layout35 r < 683
+  number-lt = omega (arith, sectorNumber-lt layout35 r (c .on), sectors35)
+
+  -- the sector at hand, by a table of the tracks' first numbers
+  pub visited : {firsts : List ℕ} {n : ℕ} → NumbersSectors firsts → n ≡ numberBy firsts r → Visited img r n
+  visited {firsts} {n} numbers e =
+      let is : n ≡ sectorNumber layout35 r = e ∙ numbers .number r (c .on) in
+      let start : 256 * sectorNumber layout35 r + 0 ≡ 256 * n = omega arith in
+      record {
+        number = is;
+        inside = omega (arith, number-lt, c .size);
+        track = sym (byte-disk img (sectorNumber layout35 r) 0 (omega arith) ∙ ap (byte img) start);
+        sector = rw is (sym (byte-disk img (sectorNumber layout35 r) 1 (omega arith)));
+      }
+
+  -- its sectors are r, and the rest of the chain
+  pub sectors-first : (m : List Address) × (sectorsFrom img r ≡ r ∷ m) × Chain layout35 (fileLink layout35) (disk img) (fileLink layout35 (disk img (sectorNumber layout35 r))) m
+  sectors-first = chain-first layout35 (fileLink layout35) (disk img) r (sectorsFrom img r) (c .chain)
+
+  module _ {n : ℕ} (v : Visited img r n) where
+    link : Chain layout35 (fileLink layout35) (disk img) (decodeFileLink layout35 (byte img (256 * n)) (byte img (256 * n + 1))) (sectors-first .0)
+    unfolding fileLink
+    link = rw (v .track, v .sector) (sectors-first .2)
+
+    -- track 0: it is the last, and its second byte is 1 or more
+    pub last-used : byte img (256 * n) < 1 → 1 ≤ byte img (256 * n + 1)
+    last-used h = go (byte img (256 * n + 1)) refl
+      where
+        go : (s : ℕ) → byte img (256 * n + 1) ≡ s → 1 ≤ s
+        go zero e = chain-bad layout35 (fileLink layout35) (disk img) (sectors-first .0) (rw (file-bad layout35 (byte img (256 * n)) (byte img (256 * n + 1)) h (omega arith)) at link)
+        go (suc s) e = omega arith
+
+    pub last-alone : byte img (256 * n) < 1 → sectorsFrom img r ≡ r ∷ []
+    last-alone h =
+        sectors-first .1 ∙ ap (λ (x : List Address). r ∷ x)
+        (chain-ends layout35 (fileLink layout35) (disk img) (sectors-first .0) (rw (file-ends layout35 (byte img (256 * n)) (byte img (256 * n + 1)) h (last-used h)) at link))
+
+    -- any other track: the sector named is on the disk, and the chain goes on there
+    pub follows : 1 ≤ byte img (256 * n) → Follows img r (linkAt img n)
+    unfolding linkTo
+    follows h = go (onDisk layout35 (linkAt img n)) refl (rw (file-to layout35 (byte img (256 * n)) (byte img (256 * n + 1)) h) at link)
+      where
+        go : (b : Bool) → onDisk layout35 (linkAt img n) ≡ b → Chain layout35 (fileLink layout35) (disk img) (cond b (to (linkAt img n)) bad) (sectors-first .0) → Follows img r (linkAt img n)
+        go true on k =
+            let met : sectorsFrom img (linkAt img n) ≡ sectors-first .0 = sectorsFrom-chain img (linkAt img n) (sectors-first .0) k (omega (arith, sectorsFrom-le img r, ap length (sectors-first .1))) in
+            record { rest = record { size = c .size; on = on; chain = rw met k }; sectors = sectors-first .1 ∙ ap (λ (x : List Address). r ∷ x) (sym met) }
+        go false on k = chain-bad layout35 (fileLink layout35) (disk img) (sectors-first .0) k

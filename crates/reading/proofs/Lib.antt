@@ -1,0 +1,3 @@
+pub mod SectorBytes
+pub mod ChainStepLaws
+pub mod CopyLaws

@@ -1,0 +1,66 @@
+use Rattle.reading.proofs.CopyLaws.{data-copied}
+use borrow.Author.Needs.{needs}
+use Rattle.reading.proofs.copying.copy_data.Statement.{statement}
+use Rattle.reading.proofs.copying.copy_data.Tie as tie
+use Rattle.reading.proofs.copying.copy_data.Reads as reads
+use Rattle.reading.proofs.copying.copy_data.Lts as lts
+use Rattle.bytes.proofs.copy.Reads as copy-reads
+
+add-copy : tie.Need-add-copy
+add-copy c = search needs
+
+add-copy-2 : tie.Need-add-copy-2
+add-copy-2 c = search needs
+
+add-copy-3 : tie.Need-add-copy-3
+add-copy-3 c = search needs
+
+sub-copy : tie.Need-sub-copy
+sub-copy c = search needs
+
+part-copy-start : tie.Need-part-copy-start
+part-copy-start c = search needs
+
+part-copy-end : tie.Need-part-copy-end
+part-copy-end c = search needs
+
+add-copy-4 : tie.Need-add-copy-4
+add-copy-4 c = search needs
+
+sub-copy-2 : tie.Need-sub-copy-2
+sub-copy-2 c = search needs
+
+part-copy-start-2 : tie.Need-part-copy-start-2
+part-copy-start-2 c = search needs
+
+part-copy-end-2 : tie.Need-part-copy-end-2
+part-copy-end-2 c = search needs
+
+copy-requires : tie.Need-copy-requires
+copy-requires c κs = search needs
+
+same-length : tie.Need-same-length
+same-length c = search needs
+
+returns : tie.Need-returns
+returns c =
+    let a = c .before .before .before .before .before .before .before .args in
+    data-copied (a .img .now) (a .out .now) (a .start) (a .size) (a .at) (c .before .before .before .before .before .before .before .pre) (c .before .before .copy .ensures .1)
+
+pub copy-data-spec : {M : Type 1} → statement M
+copy-data-spec =
+    tie.close
+    (tie.spec
+    add-copy
+    add-copy-2
+    add-copy-3
+    sub-copy
+    part-copy-start
+    part-copy-end
+    add-copy-4
+    sub-copy-2
+    part-copy-start-2
+    part-copy-end-2
+    copy-requires
+    same-length
+    returns)
