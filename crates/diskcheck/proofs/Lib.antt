@@ -1,1 +1,4 @@
+pub mod TrackLaws
 pub mod SlotLaws
+pub mod SlotsLaws
+pub mod CheckedLaws

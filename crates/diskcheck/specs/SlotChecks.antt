@@ -1,9 +1,9 @@
 -- Step 3 of the check by slot numbers, with the owner table (01, Order of the check, 3).
 -- In order: slots by number; a file's chain and count; one slot; all slots; what the steps rely on. That they are d64spec's `checkSlots`: proofs/SlotLaws.
-use Prim.Native.Nat.{ℕ, zero, suc, _*_, _≤_, _<_}
+use Prim.Native.Nat.{ℕ, _*_, _≤_, _<_}
 use mathlib.Core.Path.{_≡_}
-use mathlib.Core.Bool.{Bool, true, false, cond, not}
-use mathlib.Core.List.{List, [], _∷_, map}
+use mathlib.Core.Bool.{true, false, cond, not}
+use mathlib.Core.List.{List, map}
 use lib.ListN.{length}
 use lib.Dec.{eqb}
 use Rattle.d64spec.specs.Lists.{Bytes, All, filter, nameCount, range}
@@ -14,7 +14,7 @@ use Rattle.d64spec.specs.Directory.{Slot, File, isEmpty, entryByte, nameOf, val
 use Rattle.d64spec.specs.Check.{checkSlot, checkSlots}
 use Rattle.d64spec.specs.Listing.{bytesOfTrack18}
 use Rattle.owners.specs.OwnerTable.{owned, withOwner, withFiles, fileOwner}
-use Rattle.directory.specs.Directories.{slotAt, firstRepeated}
+use Rattle.directory.specs.Directories.{slotAt, namesBelow, firstRepeated}
 use Rattle.diskcheck.specs.Chains.{chainWalk}
 
 -- slot k of the directory whose sectors on track 18 of the image are ss
@@ -22,11 +22,6 @@ abbrev pub imageSlot : Bytes → List ℕ → ℕ → Slot
 imageSlot img ss k = slotAt (bytesOfTrack18 layout35 img) ss k
 
 -- the names of the occupied slots below k, the last first
-abbrev pub namesBelow : Bytes → List ℕ → ℕ → List Bytes
-namesBelow b ss zero = []
-namesBelow b ss (suc k) = cond (isEmpty (slotAt b ss k .bytes)) (namesBelow b ss k) (nameOf (slotAt b ss k .bytes) ∷ namesBelow b ss k)
-
--- the names of the image's occupied slots below k
 abbrev pub imageNames : Bytes → List ℕ → ℕ → List Bytes
 imageNames img ss k = namesBelow (bytesOfTrack18 layout35 img) ss k
 
