@@ -1,4 +1,5 @@
 pub mod TrackLaws
+pub mod ChainLaws
 pub mod SlotLaws
 pub mod SlotsLaws
 pub mod CheckedLaws
