@@ -1,19 +1,17 @@
 -- What a call may rely on once an image is checked (01, Order of the check; What demand 3 compares).
 -- In order: an image without a fault, `fine-image`; an image with one, `refused-image`.
-use Prim.Native.Nat.{ℕ, _+_, _*_, _-_, _≤_}
-use native.Mathlib.Omega.{arith}
+use Prim.Native.Nat.{_*_, _≤_}
 use mathlib.Core.Path.{_≡_, refl, sym, ap, _∙_}
-use mathlib.Core.List.{List, _++_}
-use lib.ListN.{length, take, length-take, length-map}
+use lib.ListN.{length}
 use lib.Dec.{eqb}
 use borrow.Author.Tests.{eqb-true}
 use Rattle.d64spec.specs.Lists.{Bytes}
-use Rattle.d64spec.specs.Answers.{Address, address, Fault, wrongSize, Result, refused, done, _>>_, need}
+use Rattle.d64spec.specs.Answers.{Fault, wrongSize, Result, refused, done}
 use Rattle.d64spec.specs.Geometry.{layout35, total}
 use Rattle.d64spec.specs.Image.{disk}
 use Rattle.d64spec.specs.Directory.{directorySectors, occupiedIn, files}
 use Rattle.d64spec.specs.Directory as directory
-use Rattle.d64spec.specs.Check.{DirectoryContents, checkDisk, checkImage, rightSize}
+use Rattle.d64spec.specs.Check.{DirectoryContents, checkImage, rightSize}
 use Rattle.d64spec.specs.Accepted.{Accepted}
 use Rattle.d64spec.proofs.ResultLaws.{need-done, done-inj, refused≢done}
 use Rattle.d64spec.proofs.CheckLaws.{contents, disk-sound}
@@ -26,7 +24,7 @@ use Rattle.directory.specs.Directories.{sectorsOf}
 use Rattle.diskcheck.specs.declared.Checked.{Checked}
 use Rattle.diskcheck.specs.SlotChecks.{occupiedFrom}
 use Rattle.diskcheck.specs.ImageChecks.{Found, foundIn, directoryCount, ImageChecked}
-use Rattle.diskcheck.proofs.TrackLaws.{occupied-by-track18}
+use Rattle.diskcheck.proofs.TrackLaws.{sectorsOf-whole, occupied-by-track18}
 
 -- an image without a fault, and what the check hands back: its directory, its occupied slots by number, its owners
 pub record FineImage (img : Bytes) (r : Checked) : Type 0 where
@@ -71,7 +69,7 @@ module _ {img : Bytes} {r : Checked} (checked : ImageChecked img r) where
       let s = image-sound img (f .0) (f .1) in
       let sectors : sectorsOf (r .sectors) (r .count) ≡ directorySectors layout35 (disk img) = ap (λ (x : Found). x .directory) (f .2) ∙ ap (λ (c : DirectoryContents). c .walked) (sym (s .1)) in
       let counted : r .count ≡ length (sectorsOf (r .sectors) (r .count)) = checked .count ∙ ap directoryCount (sym told) in
-      let whole : r .count ≤ length (r .sectors) = omega (arith, length-map (take (r .count) (r .sectors)) (λ s. address 18 s), length-take (r .count) (r .sectors)) in
+      let whole : r .count ≤ length (r .sectors) = sectorsOf-whole (r .sectors) (r .count) counted in
       record {
         accepted = s .0;
         contents = f .1 ∙ ap done (sym (s .1));

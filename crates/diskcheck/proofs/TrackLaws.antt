@@ -5,7 +5,7 @@ use native.Mathlib.Omega.{arith}
 use mathlib.Core.Path.{_≡_, refl, sym, ap, _∙_}
 use mathlib.Core.Bool.{not}
 use mathlib.Core.List.{List, [], _∷_, map}
-use lib.ListN.{length, take, drop, getD}
+use lib.ListN.{length, take, drop, getD, length-take, length-map}
 use Rattle.d64spec.specs.Lists.{Bytes, All, filter, range}
 use Rattle.d64spec.specs.Answers.{Address, address}
 use Rattle.d64spec.specs.Geometry.{layout35, sectorNumber, firstOn, sectorsOn, mapAddress}
@@ -48,7 +48,11 @@ slot-lent {img} {ss} {k} {b} size inside s =
       full = s .full (ap length (track18-lent img) ∙ track18-length img size) (all-getD (λ s. s < 19) ss inside (k / 8) 0 (omega arith));
     }
 
--- ---- the occupied slots
+-- ---- the directory's sectors and the occupied slots
+
+-- as many sectors as are counted
+pub sectorsOf-whole : (ss : List ℕ) (n : ℕ) → n ≡ length (sectorsOf ss n) → n ≤ length ss
+sectorsOf-whole ss n e = omega (arith, length-map (take n ss) (λ s. address 18 s), length-take n ss)
 
 module _ (img : Bytes) where
   -- a directory sector of track 18 alone is the image's
