@@ -22,6 +22,7 @@ use Rattle.geometry.specs.declared.Address.{Address as CodeAddress}
 use Rattle.links.specs.Links.{linkOf, Decoded}
 use Rattle.links.specs.declared.Link.{Link as CodeLink}
 use Rattle.answers.specs.Faults.{whereFine, faultOf}
+use Rattle.answers.specs.declared.Place.{Place}
 use Rattle.answers.specs.declared.Verdict.{Verdict}
 use Rattle.answers.specs.declared.Fault.the-variants.{BadLink, AlreadyOwned}
 use Rattle.answers.specs.declared.Verdict.the-variants.{Fine, Refused}
@@ -216,16 +217,17 @@ module _ {b own₀ own ss : List ℕ} {n holder : ℕ} where
       (ap (λ (l : List Address). done (record { sectors = l; table = own })) (sym (append-nil (sectorsOf ss n)))
       ∙ walking-ends layout35 (directoryLink layout35) (diskOfTrack18 layout35 b) markedAfter 255 (w .walking))
 
-  pub walked-bad : Walks b (directoryWalk b own₀) own ss n holder bad → Walked b own₀ (record { verdict = Refused (BadLink (record { track = 18; sector = holder; slot = 255 })); sectors = ss; count = n }) own
+  pub walked-bad : {p : Place} → p ≡ record { track = 18; sector = holder; slot = 255 } → Walks b (directoryWalk b own₀) own ss n holder bad
+      → Walked b own₀ (record { verdict = Refused (BadLink p); sectors = ss; count = n }) own
   unfolding whereFine faultOf markedAfter
-  walked-bad w = walked-with bad w (Refused (BadLink (record { track = 18; sector = holder; slot = 255 }))) (walking-bad layout35 (directoryLink layout35) (diskOfTrack18 layout35 b) markedAfter 255 (w .walking))
+  walked-bad {p} place w = walked-with bad w (Refused (BadLink p)) (rw place (walking-bad layout35 (directoryLink layout35) (diskOfTrack18 layout35 b) markedAfter 255 (w .walking)))
 
-  pub walked-owned : {next : ℕ} → Walks b (directoryWalk b own₀) own ss n holder (to (address 18 next)) → (getD own (357 + next) 0 ≡ 0 → ⊥)
-      → Walked b own₀ (record { verdict = Refused (AlreadyOwned (record { track = 18; sector = holder; slot = 255 })); sectors = ss; count = n }) own
+  pub walked-owned : {p : Place} {next : ℕ} → p ≡ record { track = 18; sector = holder; slot = 255 } → Walks b (directoryWalk b own₀) own ss n holder (to (address 18 next)) → (getD own (357 + next) 0 ≡ 0 → ⊥)
+      → Walked b own₀ (record { verdict = Refused (AlreadyOwned p); sectors = ss; count = n }) own
   unfolding whereFine faultOf markedAfter
-  walked-owned {next} w h =
-      walked-with (to (address 18 next)) w (Refused (AlreadyOwned (record { track = 18; sector = holder; slot = 255 })))
-      (walking-owned layout35 (directoryLink layout35) (diskOfTrack18 layout35 b) markedAfter 255 (w .walking) (rw (number-18 next) h))
+  walked-owned {p} {next} place w h =
+      walked-with (to (address 18 next)) w (Refused (AlreadyOwned p))
+      (rw place (walking-owned layout35 (directoryLink layout35) (diskOfTrack18 layout35 b) markedAfter 255 (w .walking) (rw (number-18 next) h)))
 
 -- ---- from 18/0's owner on
 
