@@ -15,12 +15,12 @@ use Rattle.d64spec.specs.Store.{lastOf}
 use Rattle.d64spec.proofs.BoundLaws.{sectorNumber-lt}
 use Rattle.d64spec.proofs.ChainLaws.{chain-follow}
 use Rattle.d64spec.proofs.RunTheorem.{sectors35}
+use Rattle.sectors.proofs.SectorLaws.{byte-disk, byte-disk-first}
 use Rattle.links.proofs.LinkLaws.{file-bad, file-ends, file-to}
 use Rattle.geometry.specs.Layout.{numberBy}
 use Rattle.geometry.proofs.Tables.{firsts}
 use Rattle.geometry.proofs.LentTableLaws.{numberBy-firsts}
 use Rattle.reading.specs.ChainReads.{sectorsFrom, ChainFrom, NumbersSectors}
-use Rattle.reading.proofs.SectorBytes.{byte-disk}
 
 pub follow-length : (g : Geometry) (link : Bytes → Link) (d : Disk) (n : ℕ) (k : Link) → length (follow g link d n k) ≤ n
 follow-length g link d zero k = omega arith
@@ -87,11 +87,10 @@ module _ {img : Bytes} {r : Address} (c : ChainFrom img r) where
   pub visited : {firsts : List ℕ} {n : ℕ} → NumbersSectors firsts → n ≡ numberBy firsts r → Visited img r n
   visited {firsts} {n} numbers e =
       let is : n ≡ sectorNumber layout35 r = e ∙ numbers .number r (c .on) in
-      let start : 256 * sectorNumber layout35 r + 0 ≡ 256 * n = omega arith in
       record {
         number = is;
         inside = omega (arith, number-lt, c .size);
-        track = sym (byte-disk img (sectorNumber layout35 r) 0 (omega arith) ∙ ap (byte img) start);
+        track = rw is (sym (byte-disk-first img (sectorNumber layout35 r)));
         sector = rw is (sym (byte-disk img (sectorNumber layout35 r) 1 (omega arith)));
       }
 

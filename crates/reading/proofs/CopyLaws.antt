@@ -7,7 +7,7 @@ use native.Mathlib.Nat.{zero-add}
 use mathlib.Core.Path.{_≡_, refl, sym, ap, ap₂, _∙_}
 use mathlib.Core.List.{List, [], _∷_, _++_, append-assoc, append-nil}
 use lib.ListN.{length, take, drop, length-append, length-take, length-drop, drop-of-length-le}
-use lib.Seq.{length-take-le, take-at, drop-at, take-add, drop-append-add, take-append-seam, drop-drop, take-length}
+use lib.Seq.{take-take, length-take-le, take-at, drop-at, take-add, drop-append-add, take-append-seam, drop-drop, take-length}
 use Rattle.d64spec.specs.Lists.{Bytes, byte, part, splice}
 use Rattle.d64spec.specs.Answers.{Address, address}
 use Rattle.d64spec.specs.Geometry.{layout35, sectorNumber}
@@ -18,7 +18,6 @@ use Rattle.d64spec.proofs.SpliceLaws.{length-splice}
 use Rattle.sectors.proofs.SectorLaws.{length-disk}
 use Rattle.reading.specs.declared.copying.Copied.{Copied}
 use Rattle.reading.specs.ChainReads.{sectorsFrom, dataFrom, lastByteFrom, ChainFrom, CopyFits, DataFits, ChainCopied}
-use Rattle.reading.proofs.SectorBytes.{data-disk}
 use Rattle.reading.proofs.ChainStepLaws.{Visited, Follows, sectors-first}
 
 -- ---- the walk for the last byte
@@ -39,6 +38,18 @@ ending-moved {img} {first} {at} {next} e f =
     record { chain = f .rest; same = (rw (f .sectors) (rw (s .1))) ∙ e .same }
 
 -- ---- the data of one sector
+
+drop-link : (s : Bytes) → drop 2 (take 256 s) ≡ take 254 (drop 2 s)
+drop-link [] = refl
+drop-link (x ∷ []) = refl
+drop-link (x ∷ y ∷ s) = refl
+
+-- the bytes behind a sector's link are the image's
+data-disk : (img : Bytes) (n size : ℕ) → size ≤ 254 → take size (drop 2 (disk img n)) ≡ take size (drop (256 * n + 2) img)
+unfolding disk
+data-disk img n size h =
+    ap (take size) (drop-link (drop (256 * n) img)) ∙ take-take size 254 (drop 2 (drop (256 * n) img)) h
+    ∙ ap (take size) (drop-drop 2 (256 * n) img)
 
 -- `size` bytes behind the link of sector n, where they lie in the image
 abbrev pub dataOf : Bytes → ℕ → ℕ → Bytes

@@ -1,3 +1,6 @@
-pub mod SectorBytes
 pub mod ChainStepLaws
 pub mod CopyLaws
+pub mod FindLaws
+pub mod FileLaws
+pub mod ReplyLaws
+pub mod FoundLaws

@@ -1,13 +1,17 @@
--- The slot of a file by its name or its position, on a checked image (01, Read; Tell).
--- `b` are track 18's bytes and `ss` the directory's sectors on it. Laws: proofs/FindLaws.
-use Prim.Native.Nat.{ℕ, zero, suc, _*_, _≤_, _<_}
+-- The slot of a file by its name or its position on a checked image, and the file that its entry starts (01, Read; Tell).
+-- `b` are track 18's bytes and `ss` the directory's sectors on it. In order: slots; entries. Laws: proofs/FindLaws, FileLaws.
+use Prim.Native.Nat.{ℕ, zero, suc, _+_, _*_, _-_, _≤_, _<_}
 use mathlib.Core.Path.{_≡_}
 use mathlib.Core.Bool.{Bool, cond, not, _&&_}
 use mathlib.Core.List.{List}
 use lib.ListN.{length}
 use Rattle.d64spec.specs.Lists.{Bytes, All, equal}
-use Rattle.d64spec.specs.Directory.{isEmpty, nameField, padded}
+use Rattle.d64spec.specs.Answers.{Address, address}
+use Rattle.d64spec.specs.Directory.{isEmpty, entryByte, nameField, padded, countOf}
 use Rattle.directory.specs.Directories.{slotBytes}
+use Rattle.reading.specs.ChainReads.{sectorsFrom, dataFrom, lastByteFrom, ChainFrom}
+
+-- ---- slots
 
 -- whether slot k is occupied and its name field holds this name (01, The directory: a name, then only $A0)
 unfoldable pub holdsFile : Bytes → List ℕ → Bytes → ℕ → Bool
@@ -29,3 +33,19 @@ pub record SlotsThere (b ss : List ℕ) (end : ℕ) : Type 0 where
   pub size : length b ≡ 4864
   pub inside : All (λ s. s < 19) ss
   pub few : end ≤ 144
+
+-- ---- entries
+
+-- the first sector of the file of an entry with these bytes (01, The directory: 03-04)
+abbrev pub firstOf : Bytes → Address
+firstOf b = address (entryByte b 0x03) (entryByte b 0x04)
+
+-- the bytes of a file's entry on a checked image: its chain is whole, its count is the chain's length, and its last byte gives the file's length (01, Chains)
+pub record FileEntry (img b : Bytes) : Type 0 where
+  pub full : length b ≡ 30
+  pub chain : ChainFrom img (firstOf b)
+  pub count : countOf b ≡ length (sectorsFrom img (firstOf b))
+  pub some : 1 ≤ countOf b
+  pub low : 1 ≤ lastByteFrom img (firstOf b)
+  pub high : lastByteFrom img (firstOf b) ≤ 255
+  pub bytes : length (dataFrom img (firstOf b)) ≡ 254 * (countOf b - 1) + lastByteFrom img (firstOf b) - 1

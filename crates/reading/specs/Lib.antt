@@ -1,3 +1,3 @@
-pub mod FileSlots
 pub mod ChainReads
-pub mod Tells
+pub mod FileSlots
+pub mod Replies

@@ -6,9 +6,11 @@ mod finding;
 ghost use mathlib.Core.Path.{_≡_};
 ghost use Rattle.d64spec.specs.Geometry.{layout35};
 ghost use Rattle.d64spec.specs.Read.{callTell, tellReply};
+ghost use Rattle.d64spec.specs.Reply.{reply};
 ghost use Rattle.d64spec.specs.Call.{read, perform};
 ghost use Rattle.answers.specs.Faults.{replyOf};
-ghost use Rattle.reading.specs.Tells.{tellReplyOf};
+ghost use Rattle.reading.specs.FileSlots.{firstOf, FileEntry};
+ghost use Rattle.reading.specs.Replies.{readFrom, toldOf, nothingTold, informationOf, tellReplyOf};
 use answers::Fault;
 use answers::Report;
 use answers::Verdict;
@@ -31,7 +33,9 @@ pub struct Told {
 }
 
 // A report of a refusal: length 0 and 0 sectors.
-fn refuse(fault: Fault) -> Report {
+fn refuse(fault: Fault) -> Report
+    ensures { λ r. ⌜ r ≡ record { verdict = Verdict.Refused fault; length = 0; sectors = 0 } ⌝ }
+{
     Report {
         verdict: Verdict::Refused(fault),
         length: 0,
@@ -40,7 +44,9 @@ fn refuse(fault: Fault) -> Report {
 }
 
 // A refused tell: all zero.
-fn tell_nothing(fault: Fault) -> Told {
+fn tell_nothing(fault: Fault) -> Told
+    ensures { λ r. ⌜ r ≡ record { verdict = Verdict.Refused fault; information = nothingTold } ⌝ }
+{
     Told {
         verdict: Verdict::Refused(fault),
         information: FileInformation {
@@ -55,7 +61,10 @@ fn tell_nothing(fault: Fault) -> Told {
 }
 
 // Copies the file of an occupied slot of a checked image, or refuses it with 16 where the output is too short.
-fn read_slot(img: &[u8], slot: &[u8], out: &mut [u8]) -> Report {
+fn read_slot(img: &[u8], slot: &[u8], out: &mut [u8]) -> Report
+    requires { ⌜ FileEntry (now img) (now slot) ⌝ }
+    ensures { λ r. ⌜ replyOf r (now (img .entry)) (now (out .exit)) ≡ reply (now (img .entry)) (now (out .entry)) (readFrom (now (img .entry)) (now (out .entry)) (firstOf (now (slot .entry)))) ⌝ }
+{
     let first = Address {
         track: slot[1],
         sector: slot[2],
@@ -105,7 +114,10 @@ pub fn read_file(img: &[u8], name: &[u8], out: &mut [u8]) -> Report
 }
 
 // What the slot of a file of a checked image says, and the length of its chain's data.
-fn tell_slot(img: &[u8], slot: &[u8]) -> FileInformation {
+fn tell_slot(img: &[u8], slot: &[u8]) -> FileInformation
+    requires { ⌜ FileEntry (now img) (now slot) ⌝ }
+    ensures { λ r. ⌜ informationOf r ≡ toldOf (now (img .entry)) (now (slot .entry)) ⌝ }
+{
     let first = Address {
         track: slot[1],
         sector: slot[2],

@@ -1,0 +1,82 @@
+-- A file of a checked image, as its entry gives it (01, The directory; Chains): the chain from the entry's first sector on, and the file's length.
+use Prim.Native.Nat.{ℕ, zero, suc, _-_, _<_, _≤_}
+use native.Mathlib.Omega.{arith}
+use mathlib.Core.Path.{_≡_, refl, sym, ap, _∙_}
+use mathlib.Core.Bool.{Bool, true, false, cond}
+use mathlib.Core.List.{List, [], _∷_, List·Memᴰ, List·Memᴰ·head, List·Memᴰ·tail}
+use lib.ListN.{length, drop}
+use Rattle.d64spec.specs.Lists.{Bytes, byte}
+use Rattle.d64spec.specs.Answers.{Address, Fault, done, first}
+use Rattle.d64spec.specs.Geometry.{layout35, total, onDisk, sectorNumber}
+use Rattle.d64spec.specs.Image.{disk}
+use Rattle.d64spec.specs.Chain.{Link, to, bad, linkTo, fileLink, steps, Chain, follow, chainData}
+use Rattle.d64spec.specs.Directory.{Slot, File, fileOf, files, firstLink, countOf}
+use Rattle.d64spec.specs.Store.{lastOf}
+use Rattle.d64spec.specs.Accepted.{Accepted, ValidEntry}
+use Rattle.d64spec.specs.Facts.{FileLength, lastUsed}
+use Rattle.d64spec.proofs.ResultLaws.{done-inj, refused≢done}
+use Rattle.d64spec.proofs.SplitLaws.{all-mem}
+use Rattle.d64spec.proofs.RunTheorem.{sectors35}
+use Rattle.d64spec.proofs.ReadTheorem.{file-length}
+use Rattle.reading.specs.ChainReads.{sectorsFrom, dataFrom, lastByteFrom, ChainFrom}
+use Rattle.reading.specs.FileSlots.{firstOf, FileEntry}
+use Rattle.reading.proofs.ChainStepLaws.{chain-bad, sectors-first}
+
+-- the file at a position is one of the files
+pub first-drop : {A : Type 0} (f : Fault) (n : ℕ) (l : List A) (x : A) → first f (drop n l) ≡ done x → List·Memᴰ x l
+unfolding first
+first-drop f zero [] x e = refused≢done f x e
+first-drop f (suc n) [] x e = refused≢done f x e
+first-drop f zero (y ∷ l) x e = List·Memᴰ·head (sym (done-inj e))
+first-drop f (suc n) (y ∷ l) x e = List·Memᴰ·tail (first-drop f n l x e)
+
+module _ (img : Bytes) (s : Slot) where
+  -- a slot's file starts at the sector that its entry names
+  record Starts : Type 0 where
+    on : onDisk layout35 (firstOf (s .bytes)) ≡ true
+    sectors : fileOf layout35 (disk img) s .sectors ≡ sectorsFrom img (firstOf (s .bytes))
+    chain : Chain layout35 (fileLink layout35) (disk img) (to (firstOf (s .bytes))) (fileOf layout35 (disk img) s .sectors)
+
+  starts : ValidEntry layout35 (disk img) (fileOf layout35 (disk img) s) → Starts
+  unfolding fileOf firstLink linkTo sectorsFrom
+  starts v = go (onDisk layout35 (firstOf (s .bytes))) refl (v .chain)
+    where
+      go : (b : Bool) → onDisk layout35 (firstOf (s .bytes)) ≡ b
+          → Chain layout35 (fileLink layout35) (disk img) (cond b (to (firstOf (s .bytes))) bad) (fileOf layout35 (disk img) s .sectors) → Starts
+      go true e c = record { on = e; sectors = rw e; chain = c }
+      go false e c = chain-bad layout35 (fileLink layout35) (disk img) (fileOf layout35 (disk img) s .sectors) c
+
+-- the last sector of a chain, whatever sector the search for it starts from
+lastOf-chain : {img : Bytes} {r : Address} → ChainFrom img r → (q : Address) → lastOf q (sectorsFrom img r) ≡ lastOf r (sectorsFrom img r)
+unfolding lastOf
+lastOf-chain c q = rw (sectors-first c .1)
+
+module _ (img : Bytes) (a : Accepted layout35 img) (s : Slot) (element : List·Memᴰ (fileOf layout35 (disk img) s) (files layout35 (disk img))) where
+  valid : ValidEntry layout35 (disk img) (fileOf layout35 (disk img) s)
+  valid = all-mem (ValidEntry layout35 (disk img)) element (a .content .entry)
+
+  pub sectors-of : fileOf layout35 (disk img) s .sectors ≡ sectorsFrom img (firstOf (s .bytes))
+  sectors-of = starts img s valid .sectors
+
+  chain-of : ChainFrom img (firstOf (s .bytes))
+  chain-of = let h = starts img s valid in record { size = omega (arith, a .size, sectors35); on = h .on; chain = rw (h .sectors) at (h .chain) }
+
+  -- THE ENTRY OF A FILE of an accepted image of bytes
+  pub entry-of : ((k : ℕ) → byte img k < 256) → length (s .bytes) ≡ 30 → FileEntry img (s .bytes)
+  unfolding fileOf lastByteFrom dataFrom
+  entry-of small full =
+      let l = file-length layout35 img a small (fileOf layout35 (disk img) s) element in
+      let e = sectors-of in
+      let count : countOf (s .bytes) ≡ length (sectorsFrom img (firstOf (s .bytes))) = valid .sectorCount ∙ ap length e in
+      let same : lastUsed layout35 (disk img) (fileOf layout35 (disk img) s) ≡ lastByteFrom img (firstOf (s .bytes))
+      = ap (λ (m : List Address). byte (disk img (sectorNumber layout35 (lastOf (s .holder) m))) 1) e
+      ∙ ap (λ (q : Address). byte (disk img (sectorNumber layout35 q)) 1) (lastOf-chain chain-of (s .holder)) in
+      record {
+        full = full;
+        chain = chain-of;
+        count = count;
+        some = omega (arith, l .some, valid .sectorCount);
+        low = omega (arith, l .low, same);
+        high = omega (arith, l .high, same);
+        bytes = ap (λ (m : List Address). length (chainData layout35 (disk img) m)) (sym e) ∙ omega (arith, l .bytes, same, valid .sectorCount);
+      }

@@ -1,0 +1,164 @@
+-- Replies (01, Answer numbers; Read; Tell): what each call of the definitions answers, refusal by refusal, and that the code's report says the same.
+-- In order: reports; the reading of a chain; read; tell.
+use Prim.Native.Nat.{ℕ, _*_, _≤_, _<_}
+use native.Mathlib.Omega.{arith}
+use mathlib.Core.Path.{_≡_, refl, sym, ap, ap₂, _∙_}
+use mathlib.Core.Bool.{Bool, true, false}
+use mathlib.Core.List.{List, _++_, append-nil}
+use lib.ListN.{length, take, drop, length-take, length-drop}
+use lib.Seq.{take-length}
+use lib.Dec.{eqb, leb}
+use borrow.Author.Tests.{eq-eqb, ne-eqb, le-leb, lt-leb}
+use Rattle.d64spec.specs.Lists.{Bytes, byte, zeros}
+use Rattle.d64spec.specs.Answers.{Address, Fault, Result, refused, done, wrongSize, badNameArgument, notFound, wrongBuffer, unplaced, _>>_, need, first}
+use Rattle.d64spec.specs.Geometry.{layout35, total}
+use Rattle.d64spec.specs.Image.{disk}
+use Rattle.d64spec.specs.Chain.{chainData}
+use Rattle.d64spec.specs.Directory.{File, files, nameField, countOf}
+use Rattle.d64spec.specs.Check.{DirectoryContents, rightSize, checkDisk, checkImage}
+use Rattle.d64spec.specs.Reply.{Change, Reply, reply, validNameArgument, filesNamed}
+use Rattle.d64spec.specs.Read.{readChange, callRead, FileInformation as Information, callTell, TellReply, tellReply, noInformation}
+use Rattle.d64spec.specs.Call.{read, perform, attempt, outputBuffer}
+use Rattle.d64spec.proofs.ResultLaws.{need-done}
+use Rattle.d64spec.proofs.RunTheorem.{sectors35}
+use Rattle.answers.specs.declared.Fault as code
+use Rattle.answers.specs.declared.Verdict.the-variants.{Fine, Refused}
+use Rattle.answers.specs.declared.Report.{Report}
+use Rattle.answers.specs.Faults.{faultOf, verdictOf, answerTo, replyOf}
+use Rattle.reading.specs.declared.copying.Copied.{Copied}
+use Rattle.reading.specs.declared.FileInformation.{FileInformation}
+use Rattle.reading.specs.declared.Told.{Told}
+use Rattle.reading.specs.FileSlots.{firstOf}
+use Rattle.reading.specs.ChainReads.{sectorsFrom, dataFrom, ChainCopied}
+use Rattle.reading.specs.Replies.{readFrom, toldOf, nothingTold, informationOf, tellReplyOf}
+
+-- ---- reports
+
+-- a report of a refusal says that refusal
+refused-reply : {img out : Bytes} {rep : Report} {x : Result Change} (f : code.Fault) → rep ≡ record { verdict = Refused f; length = 0; sectors = 0 } → x ≡ refused (faultOf f)
+    → replyOf rep img out ≡ reply img out x
+unfolding reply verdictOf answerTo
+refused-reply f e r = rw (e, r)
+
+-- ---- the reading of a chain
+
+module _ (img out : Bytes) (r : Address) where
+  read-short : length out < length (dataFrom img r) → readFrom img out r ≡ refused wrongBuffer
+  unfolding readFrom
+  read-short h = rw (lt-leb (length (dataFrom img r)) (length out) h)
+
+  -- an output too short for the data
+  pub short-reply : {rep : Report} → rep ≡ record { verdict = Refused code.the-variants.WrongBuffer; length = 0; sectors = 0 } → length out < length (dataFrom img r)
+      → replyOf rep img out ≡ reply img out (readFrom img out r)
+  unfolding faultOf
+  short-reply e h = refused-reply code.the-variants.WrongBuffer e (read-short h)
+
+  -- an output with room for them
+  pub whole-reply : {c : Copied} {out′ : Bytes} → length (dataFrom img r) ≤ length out → ChainCopied img out r c out′
+      → replyOf (record { verdict = Fine; length = c .length; sectors = c .sectors }) img out′ ≡ reply img out (readFrom img out r)
+  unfolding readFrom reply verdictOf answerTo
+  whole-reply h k = rw (le-leb (length (dataFrom img r)) (length out) h) (rw (k .output, k .bytes, k .sectors))
+
+-- ---- the telling of an entry
+
+module _ (img b : Bytes) where
+  -- the 16 name bytes copied over zeros
+  pub name-copied : {n : Bytes} → length b ≡ 30 → n ≡ take (length (nameField b)) (nameField b) ++ drop (length (nameField b)) (zeros 16) → n ≡ nameField b
+  name-copied {n} full e =
+      let long : length (nameField b) ≡ 16 = simp (length-take, length-drop) (omega arith) in
+      e ∙ ap₂ (λ (x y : Bytes). x ++ y) (take-length (nameField b)) (ap (λ (m : ℕ). drop m (zeros 16)) long) ∙ append-nil (nameField b)
+
+  pub told-of : {n : Bytes} {count size : ℕ} → n ≡ nameField b → count ≡ countOf b → size ≡ length (dataFrom img (firstOf b))
+      → informationOf (record { «type_byte» = byte b 0; name = n; track = byte b 1; sector = byte b 2; count = count; length = size }) ≡ toldOf img b
+  unfolding toldOf
+  told-of named counted long = rw (named, counted, long)
+
+-- ---- the size and the check
+
+size-true : (img : Bytes) → length img ≡ 174848 → rightSize layout35 img ≡ true
+unfolding rightSize
+size-true img h = eq-eqb (length img) (256 * total layout35) (omega (arith, sectors35))
+
+size-false : (img : Bytes) → (length img ≡ 174848 → ⊥) → rightSize layout35 img ≡ false
+unfolding rightSize
+size-false img h = ne-eqb (length img) (256 * total layout35) (λ e. h (omega (arith, sectors35)))
+
+-- the check of an image of the right size is that of its sectors
+check-sized : (img : Bytes) {x : Result DirectoryContents} → rightSize layout35 img ≡ true → checkImage layout35 img ≡ x → checkDisk layout35 (disk img) ≡ x
+unfolding checkImage
+check-sized img size e = rw size at e
+
+-- ---- read
+
+module _ (img name out : Bytes) where
+  pub read-size : (length img ≡ 174848 → ⊥) → callRead layout35 img name out ≡ refused wrongSize
+  unfolding callRead
+  read-size h = rw (size-false img h)
+
+  module _ (size : length img ≡ 174848) where
+    pub read-name : validNameArgument name ≡ false → callRead layout35 img name out ≡ refused badNameArgument
+    unfolding callRead
+    read-name asked = rw (size-true img size, asked)
+
+    module _ (asked : validNameArgument name ≡ true) where
+      pub read-fault : {f : Fault} → checkImage layout35 img ≡ refused f → callRead layout35 img name out ≡ refused f
+      unfolding callRead
+      read-fault e = rw (size-true img size, asked, check-sized img (size-true img size) e)
+
+      module _ {c : DirectoryContents} (checked : checkImage layout35 img ≡ done c) where
+        pub read-none : first notFound (filesNamed name (files layout35 (disk img))) ≡ refused notFound → callRead layout35 img name out ≡ refused notFound
+        unfolding callRead
+        read-none e = rw (size-true img size, asked, check-sized img (size-true img size) checked, e)
+
+        pub read-some : {f : File} (r : Address) → first notFound (filesNamed name (files layout35 (disk img))) ≡ done f → f .sectors ≡ sectorsFrom img r
+            → callRead layout35 img name out ≡ readFrom img out r
+        unfolding callRead readFrom dataFrom
+        read-some r e sectors = rw (size-true img size, asked, check-sized img (size-true img size) checked, e, sectors)
+
+  -- THE REPLY TO A READ that is refused
+  pub read-refused : {rep : Report} (f : code.Fault) → rep ≡ record { verdict = Refused f; length = 0; sectors = 0 } → callRead layout35 img name out ≡ refused (faultOf f)
+      → replyOf rep img out ≡ perform layout35 img (read name out)
+  unfolding perform attempt outputBuffer
+  read-refused f e r = refused-reply f e r
+
+  -- THE REPLY TO A READ of the chain that starts at r
+  pub read-replied : {x : Reply} (r : Address) → callRead layout35 img name out ≡ readFrom img out r → x ≡ reply img out (readFrom img out r) → x ≡ perform layout35 img (read name out)
+  unfolding perform attempt outputBuffer
+  read-replied r e k = k ∙ ap (reply img out) (sym e)
+
+-- ---- tell
+
+module _ (img : Bytes) (position : ℕ) where
+  pub tell-fault : {f : Fault} → checkImage layout35 img ≡ refused f → callTell layout35 img position ≡ refused f
+  unfolding callTell checkImage
+  tell-fault {f} e = go (rightSize layout35 img) refl e
+    where
+      go : (b : Bool) → rightSize layout35 img ≡ b → (need b wrongSize >> checkDisk layout35 (disk img)) ≡ refused f → callTell layout35 img position ≡ refused f
+      go true size c = rw (size, c)
+      go false size c = let same : wrongSize ≡ f = cc in rw (size, same)
+
+  module _ {c : DirectoryContents} (checked : checkImage layout35 img ≡ done c) where
+    sound : (rightSize layout35 img ≡ true) × (checkDisk layout35 (disk img) ≡ done c)
+    unfolding checkImage
+    sound = need-done (rightSize layout35 img) wrongSize (checkDisk layout35 (disk img)) c checked
+
+    pub tell-none : first notFound (drop position (files layout35 (disk img))) ≡ refused notFound → callTell layout35 img position ≡ refused notFound
+    unfolding callTell
+    tell-none e = rw (sound .0, sound .1, e)
+
+    pub tell-some : {f : File} → first notFound (drop position (files layout35 (disk img))) ≡ done f → f .sectors ≡ sectorsFrom img (firstOf (f .slot .bytes))
+        → callTell layout35 img position ≡ done (toldOf img (f .slot .bytes))
+    unfolding callTell toldOf dataFrom
+    tell-some e sectors = rw (sound .0, sound .1, e, sectors)
+
+  -- THE REPLY TO A TELL that is refused
+  pub tell-refused : {told : Told} (f : code.Fault) → told ≡ record { verdict = Refused f; information = nothingTold } → callTell layout35 img position ≡ refused (faultOf f)
+      → tellReplyOf told ≡ tellReply (callTell layout35 img position)
+  unfolding tellReply noInformation verdictOf answerTo
+  tell-refused f e r = rw (e, r)
+
+  -- THE REPLY TO A TELL that is done
+  pub tell-replied : (i : FileInformation) {x : Information} → callTell layout35 img position ≡ done x → informationOf i ≡ x
+      → tellReplyOf (record { verdict = Fine; information = i }) ≡ tellReply (callTell layout35 img position)
+  unfolding tellReply verdictOf answerTo
+  tell-replied i e k = rw e (ap (λ (y : Information). record { answer = unplaced 0; information = y }) k)
