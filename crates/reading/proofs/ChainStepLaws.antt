@@ -8,10 +8,9 @@ use mathlib.Core.List.{List, [], _∷_}
 use lib.ListN.{length}
 use Rattle.d64spec.specs.Lists.{Bytes, byte}
 use Rattle.d64spec.specs.Answers.{Address, address}
-use Rattle.d64spec.specs.Geometry.{Geometry, layout35, total, onDisk, sectorNumber}
+use Rattle.d64spec.specs.Geometry.{Geometry, layout35, onDisk, sectorNumber}
 use Rattle.d64spec.specs.Image.{Disk, disk}
 use Rattle.d64spec.specs.Chain.{Link, ends, to, bad, linkTo, decodeFileLink, fileLink, steps, Chain, follow}
-use Rattle.d64spec.specs.Store.{lastOf}
 use Rattle.d64spec.proofs.BoundLaws.{sectorNumber-lt}
 use Rattle.d64spec.proofs.ChainLaws.{chain-follow}
 use Rattle.d64spec.proofs.RunTheorem.{sectors35}

@@ -1,21 +1,19 @@
 -- The loops along a chain (01, Chains): what each keeps, from its start through each sector to the last.
 -- In order: the walk for the last byte (`Ending`); the data of one sector; the copy (`Copying`).
 -- The output is always the bytes copied so far, put at the start of the output as it was.
-use Prim.Native.Nat.{ℕ, suc, _+_, _-_, _*_, _≤_, _<_}
+use Prim.Native.Nat.{ℕ, _+_, _-_, _*_, _≤_}
 use native.Mathlib.Omega.{arith}
-use native.Mathlib.Nat.{zero-add}
 use mathlib.Core.Path.{_≡_, refl, sym, ap, ap₂, _∙_}
-use mathlib.Core.List.{List, [], _∷_, _++_, append-assoc, append-nil}
+use mathlib.Core.List.{[], _∷_, _++_, append-assoc, append-nil}
 use lib.ListN.{length, take, drop, length-append, length-take, length-drop, drop-of-length-le}
-use lib.Seq.{take-take, length-take-le, take-at, drop-at, take-add, drop-append-add, take-append-seam, drop-drop, take-length}
-use Rattle.d64spec.specs.Lists.{Bytes, byte, part, splice}
-use Rattle.d64spec.specs.Answers.{Address, address}
+use lib.Seq.{take-take, length-take-le, drop-at, take-add, drop-append-add, take-append-seam, drop-drop, take-length}
+use Rattle.d64spec.specs.Lists.{Bytes, byte, splice}
+use Rattle.d64spec.specs.Answers.{Address}
 use Rattle.d64spec.specs.Geometry.{layout35, sectorNumber}
 use Rattle.d64spec.specs.Image.{disk}
 use Rattle.d64spec.specs.Chain.{chainData}
 use Rattle.d64spec.specs.Store.{lastOf}
 use Rattle.d64spec.proofs.SpliceLaws.{length-splice}
-use Rattle.sectors.proofs.SectorLaws.{length-disk}
 use Rattle.reading.specs.declared.copying.Copied.{Copied}
 use Rattle.reading.specs.ChainReads.{sectorsFrom, dataFrom, lastByteFrom, ChainFrom, CopyFits, DataFits, ChainCopied}
 use Rattle.reading.proofs.ChainStepLaws.{Visited, Follows, sectors-first}

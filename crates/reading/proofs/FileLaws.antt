@@ -1,5 +1,5 @@
 -- A file of a checked image, as its entry gives it (01, The directory; Chains): the chain from the entry's first sector on, and the file's length.
-use Prim.Native.Nat.{ℕ, zero, suc, _-_, _<_, _≤_}
+use Prim.Native.Nat.{ℕ, zero, suc, _-_, _<_}
 use native.Mathlib.Omega.{arith}
 use mathlib.Core.Path.{_≡_, refl, sym, ap, _∙_}
 use mathlib.Core.Bool.{Bool, true, false, cond}
@@ -7,13 +7,13 @@ use mathlib.Core.List.{List, [], _∷_, List·Memᴰ, List·Memᴰ·head, List·
 use lib.ListN.{length, drop}
 use Rattle.d64spec.specs.Lists.{Bytes, byte}
 use Rattle.d64spec.specs.Answers.{Address, Fault, done, first}
-use Rattle.d64spec.specs.Geometry.{layout35, total, onDisk, sectorNumber}
+use Rattle.d64spec.specs.Geometry.{layout35, onDisk, sectorNumber}
 use Rattle.d64spec.specs.Image.{disk}
-use Rattle.d64spec.specs.Chain.{Link, to, bad, linkTo, fileLink, steps, Chain, follow, chainData}
-use Rattle.d64spec.specs.Directory.{Slot, File, fileOf, files, firstLink, countOf}
+use Rattle.d64spec.specs.Chain.{to, bad, linkTo, fileLink, Chain, chainData}
+use Rattle.d64spec.specs.Directory.{Slot, fileOf, files, firstLink, countOf}
 use Rattle.d64spec.specs.Store.{lastOf}
 use Rattle.d64spec.specs.Accepted.{Accepted, ValidEntry}
-use Rattle.d64spec.specs.Facts.{FileLength, lastUsed}
+use Rattle.d64spec.specs.Facts.{lastUsed}
 use Rattle.d64spec.proofs.ResultLaws.{done-inj, refused≢done}
 use Rattle.d64spec.proofs.SplitLaws.{all-mem}
 use Rattle.d64spec.proofs.RunTheorem.{sectors35}

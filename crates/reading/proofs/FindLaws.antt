@@ -9,11 +9,11 @@ use mathlib.Core.List.{List, [], _∷_, map}
 use lib.ListN.{length, drop, getD}
 use lib.Dec.{eqb}
 use borrow.Author.Tests.{eq-eqb, ne-eqb}
-use Rattle.d64spec.specs.Lists.{Bytes, All, equal, filter, range}
-use Rattle.d64spec.specs.Answers.{Fault, notFound, Result, refused, done, first}
+use Rattle.d64spec.specs.Lists.{Bytes, All, equal}
+use Rattle.d64spec.specs.Answers.{notFound, Result, refused, done, first}
 use Rattle.d64spec.specs.Geometry.{layout35}
 use Rattle.d64spec.specs.Image.{disk}
-use Rattle.d64spec.specs.Directory.{Slot, File, isEmpty, nameField, nameOf, padded, validName, fileOf}
+use Rattle.d64spec.specs.Directory.{Slot, File, isEmpty, nameField, padded, validName, fileOf}
 use Rattle.d64spec.specs.Listing.{bytesOfTrack18}
 use Rattle.d64spec.specs.Reply.{validNameArgument, filesNamed}
 use Rattle.names.proofs.NameLaws.{equal-nameField-padded}

@@ -1,10 +1,10 @@
 -- The file that a call takes on a checked image (01, Read; Tell): where the search for its slot ends, the definitions find this file.
 -- In order: the slots; the file of a name; the file at a position.
-use Prim.Native.Nat.{ℕ, _*_, _≤_, _<_}
+use Prim.Native.Nat.{ℕ, _*_, _<_}
 use native.Mathlib.Omega.{arith}
-use mathlib.Core.Path.{_≡_, refl, sym, ap, _∙_}
-use mathlib.Core.Bool.{Bool, true, cond}
-use mathlib.Core.List.{List, [], _∷_, map, List·Memᴰ}
+use mathlib.Core.Path.{_≡_, sym, ap, _∙_}
+use mathlib.Core.Bool.{true}
+use mathlib.Core.List.{List, [], _∷_, map}
 use lib.ListN.{length, take, drop, length-take, length-drop}
 use borrow.Author.Tests.{eq-eqb, ne-eqb}
 use Rattle.d64spec.specs.Lists.{Bytes, All, byte, equal}
@@ -12,7 +12,6 @@ use Rattle.d64spec.specs.Answers.{notFound, refused, done, first}
 use Rattle.d64spec.specs.Geometry.{layout35}
 use Rattle.d64spec.specs.Image.{disk}
 use Rattle.d64spec.specs.Directory.{Slot, File, nameOf, validName, fileOf, files, occupied}
-use Rattle.d64spec.specs.Listing.{bytesOfTrack18}
 use Rattle.d64spec.specs.Accepted.{ValidEntry}
 use Rattle.d64spec.specs.Reply.{validNameArgument, filesNamed}
 use Rattle.d64spec.specs.Read.{callRead, callTell}

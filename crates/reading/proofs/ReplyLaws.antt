@@ -4,20 +4,18 @@ use Prim.Native.Nat.{ℕ, _*_, _≤_, _<_}
 use native.Mathlib.Omega.{arith}
 use mathlib.Core.Path.{_≡_, refl, sym, ap, ap₂, _∙_}
 use mathlib.Core.Bool.{Bool, true, false}
-use mathlib.Core.List.{List, _++_, append-nil}
+use mathlib.Core.List.{_++_, append-nil}
 use lib.ListN.{length, take, drop, length-take, length-drop}
 use lib.Seq.{take-length}
-use lib.Dec.{eqb, leb}
 use borrow.Author.Tests.{eq-eqb, ne-eqb, le-leb, lt-leb}
 use Rattle.d64spec.specs.Lists.{Bytes, byte, zeros}
 use Rattle.d64spec.specs.Answers.{Address, Fault, Result, refused, done, wrongSize, badNameArgument, notFound, wrongBuffer, unplaced, _>>_, need, first}
 use Rattle.d64spec.specs.Geometry.{layout35, total}
 use Rattle.d64spec.specs.Image.{disk}
-use Rattle.d64spec.specs.Chain.{chainData}
 use Rattle.d64spec.specs.Directory.{File, files, nameField, countOf}
 use Rattle.d64spec.specs.Check.{DirectoryContents, rightSize, checkDisk, checkImage}
 use Rattle.d64spec.specs.Reply.{Change, Reply, reply, validNameArgument, filesNamed}
-use Rattle.d64spec.specs.Read.{readChange, callRead, FileInformation as Information, callTell, TellReply, tellReply, noInformation}
+use Rattle.d64spec.specs.Read.{callRead, FileInformation as Information, callTell, tellReply, noInformation}
 use Rattle.d64spec.specs.Call.{read, perform, attempt, outputBuffer}
 use Rattle.d64spec.proofs.ResultLaws.{need-done}
 use Rattle.d64spec.proofs.RunTheorem.{sectors35}

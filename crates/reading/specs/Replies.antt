@@ -1,6 +1,4 @@
 -- What read and tell give of a file whose entry is found (01, Read; Tell).
-use Prim.Native.Nat.{ℕ}
-use mathlib.Core.Path.{_≡_}
 use lib.ListN.{length}
 use lib.Dec.{leb}
 use Rattle.d64spec.specs.Lists.{Bytes, splice, zeros}

@@ -1,10 +1,8 @@
+-- `reading::copying::copy_data` meets its contract: what comes back of the loan is the output with the sector's data in the place of as many bytes.
 use Rattle.reading.proofs.CopyLaws.{data-copied}
 use borrow.Author.Needs.{needs}
 use Rattle.reading.proofs.copying.copy_data.Statement.{statement}
 use Rattle.reading.proofs.copying.copy_data.Tie as tie
-use Rattle.reading.proofs.copying.copy_data.Reads as reads
-use Rattle.reading.proofs.copying.copy_data.Lts as lts
-use Rattle.bytes.proofs.copy.Reads as copy-reads
 
 add-copy : tie.Need-add-copy
 add-copy c = search needs

@@ -1,8 +1,8 @@
 -- `reading::copying::copy_from` meets its contract. The loop keeps that the output is the data of the sectors passed, put at the start of the output as it
 -- was, and that the rest of the data is that of the chain from `at` on. The sectors that are left fall.
-use Prim.Native.Nat.{_<_, _≤_, _+_, _*_}
+use Prim.Native.Nat.{_≤_, _+_, _*_}
 use native.Mathlib.Omega.{arith}
-use mathlib.Core.Path.{_≡_, ap, _∙_}
+use mathlib.Core.Path.{_≡_, ap}
 use mathlib.Core.List.{[], _∷_}
 use borrow.Author.Needs.{needs}
 use lib.ListN.{length}

@@ -1,6 +1,5 @@
 -- `reading::copying::last_from` meets its contract. The loop keeps that the chain from `at` on is whole and ends as the one from `first` on does.
 -- The sectors that are left fall.
-use Prim.Native.Nat.{_≤_}
 use native.Mathlib.Omega.{arith}
 use mathlib.Core.Path.{refl, ap, _∙_}
 use borrow.Author.Needs.{needs}

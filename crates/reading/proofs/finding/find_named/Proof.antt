@@ -1,7 +1,7 @@
 -- `reading::finding::find_named` meets its contract. The loop keeps that the slots before k do not hold the name. The slots that are left fall.
 use Prim.Native.Nat.{_-_}
 use native.Mathlib.Omega.{arith}
-use mathlib.Core.Path.{refl, sym, _∙_}
+use mathlib.Core.Path.{sym, _∙_}
 use mathlib.Core.Logic.{⊎-elim}
 use borrow.Author.Needs.{needs}
 use Rattle.reading.specs.FileSlots.{slotNamed}
