@@ -1,0 +1,2 @@
+pub mod Track18Laws
+pub mod WalkLaws
