@@ -1,2 +1,6 @@
+pub mod SlotBytesLaws
 pub mod SlotListLaws
 pub mod RepeatLaws
+pub mod WordLaws
+pub mod PairLaws
+pub mod SearchLaws
