@@ -124,11 +124,11 @@ module _ (img own ss : List ℕ) (n : ℕ) (own′ : List ℕ) where
   slots-refused f e = ap (λ (x : Result (List ℕ)). x >>= (λ o. mapVerdict (disk img (sectorNumber layout35 mapAddress)) o >> done o)) e
 
   -- no fault there: the map decides
-  pub slots-fine : (v : Verdict) → whereFine Fine own′ ≡ slotsStep img own ss 0 (8 * n) → verdictOf v ≡ mapVerdict (take 256 (drop 91392 img)) own′ → whereFine v own′ ≡ restStep img own ss n
+  pub slots-fine : (v : Verdict) (m : Bytes) → whereFine Fine own′ ≡ slotsStep img own ss 0 (8 * n) → verdictOf v ≡ mapVerdict m own′ → m ≡ take 256 (drop 91392 img) → whereFine v own′ ≡ restStep img own ss n
   unfolding whereFine restStep verdictOf
-  slots-fine v e m =
+  slots-fine v m e decides sector =
       tables v
-      ∙ ap (λ (x : Result (Unit {0})). x >> done own′) (m ∙ ap (λ (b : Bytes). mapVerdict b own′) (map-lent img))
+      ∙ ap (λ (x : Result (Unit {0})). x >> done own′) (decides ∙ ap (λ (b : Bytes). mapVerdict b own′) (sector ∙ map-lent img))
       ∙ ap (λ (x : Result (List ℕ)). x >>= (λ o. mapVerdict (disk img (sectorNumber layout35 mapAddress)) o >> done o)) e
     where
       tables : (v : Verdict) → whereFine v own′ ≡ (verdictOf v >> done own′)
