@@ -1,15 +1,15 @@
 -- The whole check: the size, the directory of track 18, then the slots and the map, each with the table that the step before it left (01, Order of the check).
 -- In order: the definition's check with the owner table; the directory as the code reads it; the cases of the code.
-use Prim.Native.Nat.{ℕ, zero, suc, _+_, _*_, _-_, _≤_, _<_}
+use Prim.Native.Nat.{ℕ, zero, suc, _*_, _≤_, _<_}
 use native.Mathlib.Omega.{arith}
-use mathlib.Core.Path.{_≡_, refl, sym, ap, ap₂, _∙_, subst, fun-ext}
-use mathlib.Core.Bool.{Bool, true, false}
-use mathlib.Core.List.{List, [], _∷_, _++_, map}
+use mathlib.Core.Path.{_≡_, refl, sym, ap, _∙_, fun-ext}
+use mathlib.Core.Bool.{Bool}
+use mathlib.Core.List.{List, [], _∷_, map}
 use lib.ListN.{length, take, drop}
 use lib.Dec.{eqb}
 use borrow.Author.Tests.{eq-eqb, ne-eqb}
 use Rattle.d64spec.specs.Lists.{Bytes, All, count, range, zeros}
-use Rattle.d64spec.specs.Answers.{Address, Fault, wrongSize, wrongMapEntry, Result, refused, done, _>>=_, _>>_, need}
+use Rattle.d64spec.specs.Answers.{Address, wrongMapEntry, Result, refused, done, _>>=_, _>>_, need}
 use Rattle.d64spec.specs.Geometry.{layout35, sectorNumber, sectorsOn, total, tracks, mapAddress, directoryStart}
 use Rattle.d64spec.specs.Image.{Disk, disk}
 use Rattle.d64spec.specs.Chain.{to, directoryLink, steps}
@@ -17,7 +17,7 @@ use Rattle.d64spec.specs.Directory.{Slot, File, occupiedIn}
 use Rattle.d64spec.specs.Owner.{claimsOf}
 use Rattle.d64spec.specs.Map.{entryCorrect}
 use Rattle.d64spec.specs.Check.{DirectoryContents, checkDirectory, checkSlots, checkMap, checkDisk, checkImage, rightSize}
-use Rattle.d64spec.specs.Listing.{bytesOfTrack18, diskOfTrack18}
+use Rattle.d64spec.specs.Listing.{bytesOfTrack18}
 use Rattle.d64spec.proofs.BoundLaws.{sectorNumber-lt, map-on, directoryLink-on}
 use Rattle.d64spec.proofs.RunTheorem.{valid35, sectors35}
 use Rattle.d64spec.proofs.ListingTheorem.{track18-length}
@@ -26,7 +26,7 @@ use Rattle.answers.specs.declared.Fault.the-variants.{WrongSize}
 use Rattle.answers.specs.declared.Verdict.{Verdict}
 use Rattle.answers.specs.declared.Verdict.the-variants.{Fine, Refused}
 use Rattle.answers.specs.Faults.{faultOf, verdictOf, whereFine}
-use Rattle.owners.specs.OwnerTable.{owned, freeBy, withFiles, directoryTable, ownerTable}
+use Rattle.owners.specs.OwnerTable.{owned, freeBy, directoryTable, ownerTable}
 use Rattle.owners.proofs.WalkTable.{walk-lt}
 use Rattle.owners.proofs.SlotsTable.{slots-alike, slots-lt}
 use Rattle.owners.proofs.ClaimLaws.{length-directoryTable, directory-alike, freeBy-claims}
@@ -124,11 +124,11 @@ module _ (img own ss : List ℕ) (n : ℕ) (own′ : List ℕ) where
   slots-refused f e = ap (λ (x : Result (List ℕ)). x >>= (λ o. mapVerdict (disk img (sectorNumber layout35 mapAddress)) o >> done o)) e
 
   -- no fault there: the map decides
-  pub slots-fine : (v : Verdict) → whereFine Fine own′ ≡ slotsStep img own ss 0 (8 * n) → verdictOf v ≡ mapVerdict (take 256 (drop 91392 img)) own′ → whereFine v own′ ≡ restStep img own ss n
+  pub slots-fine : (v : Verdict) (m : Bytes) → whereFine Fine own′ ≡ slotsStep img own ss 0 (8 * n) → verdictOf v ≡ mapVerdict m own′ → m ≡ take 256 (drop 91392 img) → whereFine v own′ ≡ restStep img own ss n
   unfolding whereFine restStep verdictOf
-  slots-fine v e m =
+  slots-fine v m e decides sector =
       tables v
-      ∙ ap (λ (x : Result (Unit {0})). x >> done own′) (m ∙ ap (λ (b : Bytes). mapVerdict b own′) (map-lent img))
+      ∙ ap (λ (x : Result (Unit {0})). x >> done own′) (decides ∙ ap (λ (b : Bytes). mapVerdict b own′) (sector ∙ map-lent img))
       ∙ ap (λ (x : Result (List ℕ)). x >>= (λ o. mapVerdict (disk img (sectorNumber layout35 mapAddress)) o >> done o)) e
     where
       tables : (v : Verdict) → whereFine v own′ ≡ (verdictOf v >> done own′)

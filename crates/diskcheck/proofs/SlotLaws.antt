@@ -1,9 +1,9 @@
 -- One occupied slot: its entry, then its chain and its count (01, Order of the check, 3).
 -- In order: the chain and the count, as the code has them; the slot. All slots: proofs/SlotsLaws.
-use Prim.Native.Nat.{ℕ, _+_, _*_, _/_, _%_}
+use Prim.Native.Nat.{ℕ, _/_}
 use native.Mathlib.Omega.{arith}
 use mathlib.Core.Path.{_≡_, refl, sym, ap, ap₂, _∙_}
-use mathlib.Core.Bool.{Bool, true, false, cond, not}
+use mathlib.Core.Bool.{Bool, true, false, not}
 use mathlib.Core.List.{List, map}
 use lib.ListN.{length, getD}
 use lib.Dec.{eqb}
@@ -11,7 +11,6 @@ use borrow.Author.Tests.{eq-eqb, ne-eqb}
 use Rattle.d64spec.specs.Lists.{Bytes, nameCount}
 use Rattle.d64spec.specs.Answers.{Address, address, Fault, wrongCount, badType, badName, duplicateName, Result, refused, done, _>>=_, _>>_, need}
 use Rattle.d64spec.specs.Geometry.{layout35, sectorNumber}
-use Rattle.d64spec.specs.Image.{disk}
 use Rattle.d64spec.specs.Directory.{Slot, isEmpty, entryByte, nameOf, validType, validName, countOf, firstLink, slotIn}
 use Rattle.d64spec.specs.Check.{checkEntry, checkSlot}
 use Rattle.answers.specs.declared.Place.{Place}
@@ -20,7 +19,7 @@ use Rattle.answers.specs.declared.Fault.the-variants.{WrongCount}
 use Rattle.answers.specs.declared.Verdict.{Verdict}
 use Rattle.answers.specs.declared.Verdict.the-variants.{Fine, Refused}
 use Rattle.answers.specs.Faults.{sectorOf, faultOf, verdictOf, whereFine}
-use Rattle.owners.specs.OwnerTable.{owned, withOwner, fileOwner}
+use Rattle.owners.specs.OwnerTable.{withOwner, fileOwner}
 use Rattle.directory.specs.Directories.{slotAt, entryVerdict}
 use Rattle.diskcheck.specs.Chains.{Claimed, claimed, claimOf, chainWalk}
 use Rattle.diskcheck.specs.declared.chain.Claim.{Claim}

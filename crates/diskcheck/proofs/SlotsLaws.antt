@@ -1,6 +1,6 @@
 -- All slots in directory order: the definition's check slot by slot, with the table, and the loop's invariant (01, Order of the check, 3).
 -- In order: slot by slot; what a slot that passes leaves; the invariant `Checking`.
-use Prim.Native.Nat.{ℕ, zero, suc, _+_, _*_, _-_, _≤_, _<_}
+use Prim.Native.Nat.{ℕ, suc, _+_, _*_, _-_, _≤_, _<_}
 use native.Mathlib.Omega.{arith}
 use native.Mathlib.Decide.{decLe}
 use mathlib.Core.Path.{_≡_, refl, sym, ap, _∙_, subst}
@@ -9,11 +9,11 @@ use mathlib.Core.List.{List, _∷_, _++_, map}
 use lib.ListN.{length}
 use lib.Dec.{eqb}
 use borrow.Author.Tests.{eq-eqb, eqb-false, not-true}
-use Rattle.d64spec.specs.Lists.{Bytes, All, nameCount}
-use Rattle.d64spec.specs.Answers.{Address, Result, refused, done, _>>=_, _>>_}
-use Rattle.d64spec.specs.Geometry.{layout35, sectorNumber, total}
+use Rattle.d64spec.specs.Lists.{Bytes, All}
+use Rattle.d64spec.specs.Answers.{Address, Result, refused, done, _>>=_}
+use Rattle.d64spec.specs.Geometry.{layout35, sectorNumber}
 use Rattle.d64spec.specs.Image.{disk}
-use Rattle.d64spec.specs.Directory.{Slot, File, isEmpty, nameOf, validName}
+use Rattle.d64spec.specs.Directory.{Slot, File, isEmpty, nameOf}
 use Rattle.d64spec.specs.Check.{checkEntry, checkSlot, checkSlots}
 use Rattle.d64spec.specs.Listing.{bytesOfTrack18}
 use Rattle.d64spec.proofs.ResultLaws.{then-done, done-inj, refused≢done}

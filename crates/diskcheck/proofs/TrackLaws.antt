@@ -1,20 +1,20 @@
 -- Track 18 of an image, as the code lends it: 4,864 bytes from byte 91,392 on (01, Tracks and sectors: 18/0 is 357).
 -- In order: the parts that are lent; a slot in them; the occupied slots of the image are those of its track 18.
-use Prim.Native.Nat.{ℕ, zero, suc, _+_, _*_, _/_, _≤_, _<_}
+use Prim.Native.Nat.{ℕ, zero, suc, _*_, _/_, _≤_, _<_}
 use native.Mathlib.Omega.{arith}
 use mathlib.Core.Path.{_≡_, refl, sym, ap, _∙_}
 use mathlib.Core.Bool.{not}
-use mathlib.Core.List.{List, [], _∷_, map}
+use mathlib.Core.List.{List, [], _∷_}
 use lib.ListN.{length, take, drop, getD, length-take, length-map}
-use Rattle.d64spec.specs.Lists.{Bytes, All, filter, range}
-use Rattle.d64spec.specs.Answers.{Address, address}
+use Rattle.d64spec.specs.Lists.{Bytes, All, filter}
+use Rattle.d64spec.specs.Answers.{address}
 use Rattle.d64spec.specs.Geometry.{layout35, sectorNumber, firstOn, sectorsOn, mapAddress}
 use Rattle.d64spec.specs.Image.{disk}
-use Rattle.d64spec.specs.Directory.{Slot, isEmpty, slotsFrom, occupiedIn}
+use Rattle.d64spec.specs.Directory.{isEmpty, occupiedIn}
 use Rattle.d64spec.specs.Listing.{bytesOfTrack18, diskOfTrack18}
 use Rattle.d64spec.proofs.FrameLaws.{same-slots}
 use Rattle.d64spec.proofs.ListingTheorem.{track18-length, track18-sectors}
-use Rattle.directory.specs.Directories.{sectorsOf, slotAt, slotBytes, IsSlot}
+use Rattle.directory.specs.Directories.{sectorsOf, slotBytes, IsSlot}
 use Rattle.directory.proofs.SlotListLaws.{disk-of-track18, occupied-by-number}
 use Rattle.directory.proofs.Track18Laws.{number-18}
 use Rattle.diskcheck.specs.SlotChecks.{imageSlot, occupiedFrom}
