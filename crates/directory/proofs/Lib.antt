@@ -1,3 +1,5 @@
+pub mod Track18Laws
+pub mod WalkLaws
 pub mod SlotBytesLaws
 pub mod SlotListLaws
 pub mod RepeatLaws
