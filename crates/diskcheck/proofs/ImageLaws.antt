@@ -233,16 +233,16 @@ module _ (img : Bytes) {d : Directory} (size : length img ≡ 174848) (read : Di
       rest-refused f e = sym (rest-told (Refused f) e)
 
       -- no fault
-      pub checked-fine : whereFine Fine own ≡ restStep img (d .owners) (d .sectors) (d .count)
-          → ImageChecked img (record { verdict = Fine; sectors = d .sectors; count = d .count; owners = own })
+      pub checked-fine : {r : Checked} → whereFine Fine own ≡ restStep img (d .owners) (d .sectors) (d .count)
+          → r ≡ record { verdict = Fine; sectors = d .sectors; count = d .count; owners = own } → ImageChecked img r
       unfolding whereFine directoryCount tableFound sectorCount
-      checked-fine e =
+      checked-fine e is =
           let found = rest-told Fine e in
-          record {
+          rw is (record {
             told = found;
             count = read .count ∙ ap sectorCount (directory-same ∙ directory-fine .walked) ∙ ap directoryCount found;
             owners = ap tableFound found;
             rest = read .rest;
             few = read .few;
             inside = read .inside;
-          }
+          })
