@@ -21,21 +21,18 @@ use Rattle.answers.specs.declared.Fault.{Fault}
 use Rattle.answers.specs.declared.Fault.the-variants.{WrongSize}
 use Rattle.answers.specs.declared.Verdict.the-variants.{Fine, Refused}
 use Rattle.answers.specs.Faults.{faultOf, whereFine}
-use Rattle.owners.specs.OwnerTable.{owned, withOwner, directoryOwner, mapTable, directoryTable}
+use Rattle.owners.specs.OwnerTable.{owned, withOwner, directoryOwner, directoryTable}
 use Rattle.directory.specs.declared.Directory.{Directory}
 use Rattle.directory.specs.declared.walk.Walk.{Walk}
 use Rattle.directory.specs.Directories.{DirectoryRead, firstRepeated, sectorCount, sectorsOf, tableAfter, trackDirectory}
 use Rattle.directory.specs.Walks.{Marked, Walked, marked}
+use Rattle.directory.proofs.Track18Laws.{mapTable35}
 
 -- ---- the table before the walk
 
 -- 18/0 is the map's, and nothing else has an owner
 abbrev startTable : List ℕ
 startTable = set (zeros 683) 357 1
-
-mapTable-start : mapTable layout35 ≡ startTable
-unfolding mapTable total sectorNumber firstOn layout35
-mapTable-start = refl
 
 owned-start : owned startTable ≡ sectorNumber layout35 mapAddress ∷ []
 unfolding owned sectorNumber firstOn layout35
@@ -125,5 +122,5 @@ module _ (b : Bytes) where
           few = walked .few;
           inside = walked .inside;
           repeated = first;
-          owners = rw (e, mapTable-start) (t .table);
+          owners = rw (e, mapTable35) (t .table);
         }
