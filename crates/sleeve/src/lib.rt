@@ -1,7 +1,13 @@
 // The sleeve listing (01, Sleeve listing): the library call on any bytes and any text buffer, and what the program prints.
+// Every refusal is made before the first byte of the text is written.
+mod lines;
+mod slots;
+
 ghost use mathlib.Core.Path.{_≡_};
 ghost use Rattle.sleeve.specs.Sleeves.{SleeveListed, SleevePrinted};
+use answers::Fault;
 use answers::Report;
+use answers::Verdict;
 
 // What the program prints: the first `length` bytes of the text.
 pub struct Printed {
@@ -9,13 +15,108 @@ pub struct Printed {
     pub length: usize,
 }
 
+// The map's count bytes added, but for track 18's.
+fn free_total(track18: &[u8]) -> usize {
+    let mut sum: usize = 0;
+    let mut t: usize = 1;
+    while t < 36 {
+        if t != 18 {
+            sum += track18[4 * t] as usize;
+        }
+        t += 1;
+    }
+    sum
+}
+
+// The whole text: the disk's name and id, a line for each occupied slot, the free sectors.
+fn write_text(track18: &[u8], sectors: &[u8; 18], end: usize, text: &mut [u8]) {
+    let last = text.len() - 5;
+    lines::write_line(&track18[144..160], &track18[162..164], &mut text[0..37]);
+    slots::write_slots(track18, sectors, end, &mut text[37..last]);
+    let free = free_total(track18);
+    let high = [(free / 256) as u8];
+    let low = [(free % 256) as u8];
+    lines::write_line(&high, &low, &mut text[last..]);
+}
+
+// A report of a refusal: length 0 and 0 sectors.
+fn refuse(fault: Fault) -> Report {
+    Report {
+        verdict: Verdict::Refused(fault),
+        length: 0,
+        sectors: 0,
+    }
+}
+
+// Lists the slots of a directory that was read: refused with 4 to 6 or, last, 16.
+fn list_slots(
+    track18: &[u8],
+    sectors: &[u8; 18],
+    end: usize,
+    repeated: usize,
+    text: &mut [u8],
+) -> Report {
+    let checked = slots::check_slots(track18, sectors, end, repeated);
+    let verdict = checked.verdict;
+    match verdict {
+        Verdict::Refused(fault) => refuse(fault),
+        Verdict::Fine => {
+            let length = 43 * checked.files + 42;
+            if text.len() < length {
+                return refuse(Fault::WrongBuffer);
+            }
+            write_text(track18, sectors, end, &mut text[0..length]);
+            Report {
+                verdict: Verdict::Fine,
+                length: length as u32,
+                sectors: 0,
+            }
+        }
+    }
+}
+
 // Lists track 18's bytes into the text buffer, from its start; the rest of it stays. Refused with 1, 2 to 6 or, last, 16.
 pub fn list_track18(track18: &[u8], text: &mut [u8]) -> Report
     ensures { λ r. ⌜ SleeveListed (now (track18 .entry)) (now (text .entry)) r (now (text .exit)) ⌝ }
 {
-    Report {
-        verdict: answers::Verdict::Fine,
-        length: 0,
-        sectors: 0,
+    let read = directory::read_directory(track18);
+    let verdict = read.verdict;
+    match verdict {
+        Verdict::Refused(fault) => refuse(fault),
+        Verdict::Fine => {
+            let sectors = read.sectors;
+            list_slots(track18, &sectors, 8 * read.count, read.repeated, text)
+        }
+    }
+}
+
+// A refusal, printed: one line of two digits.
+fn print_refusal(number: u8) -> Printed {
+    let mut text = [0u8; 6234];
+    text[0] = lines::digit(number / 10);
+    text[1] = lines::digit(number % 10);
+    text[2] = 10;
+    Printed { text, length: 3 }
+}
+
+// What the program prints, given its whole standard input: the listing of an image's track 18, or the refusal's number.
+pub fn sleeve_output(input: &[u8]) -> Printed
+    ensures { λ r. ⌜ SleevePrinted (now (input .entry)) r ⌝ }
+{
+    if input.len() != 174848 {
+        return print_refusal(1);
+    }
+    let mut text = [0u8; 6234];
+    let report = list_track18(&input[91392..96256], &mut text);
+    let verdict = report.verdict;
+    match verdict {
+        Verdict::Refused(fault) => {
+            let answer = answers::answer_of(fault);
+            print_refusal(answer.number)
+        }
+        Verdict::Fine => Printed {
+            text,
+            length: report.length as usize,
+        },
     }
 }
