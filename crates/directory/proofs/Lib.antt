@@ -1,0 +1,2 @@
+pub mod SlotListLaws
+pub mod RepeatLaws
