@@ -1,2 +1,4 @@
 pub mod SlotListLaws
 pub mod RepeatLaws
+pub mod Track18Laws
+pub mod WalkLaws
