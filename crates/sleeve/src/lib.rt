@@ -4,6 +4,12 @@ mod lines;
 mod slots;
 
 ghost use mathlib.Core.Path.{_≡_};
+ghost use mathlib.Core.List.{_∷_, []};
+ghost use lib.ListN.{length, take};
+ghost use Rattle.d64spec.specs.Geometry.{layout35};
+ghost use Rattle.d64spec.specs.Listing.{diskOfTrack18, freeTotal, listingText, refusalLine};
+ghost use Rattle.answers.specs.declared.Verdict.{Verdict};
+ghost use Rattle.sleeve.specs.Texts.{ReadySlots, RoomFor, SlotsListed, occupiedFrom};
 ghost use Rattle.sleeve.specs.Sleeves.{SleeveListed, SleevePrinted};
 use answers::Fault;
 use answers::Report;
@@ -15,32 +21,41 @@ pub struct Printed {
     pub length: usize,
 }
 
-// The map's count bytes added, but for track 18's.
-fn free_total(track18: &[u8]) -> usize {
-    let mut sum: usize = 0;
+// The map's count bytes added, as they stand, but for track 18's.
+fn free_total(map: &[u8]) -> u16
+    requires { ⌜ length (now map) ≡ 256 ⌝ }
+    ensures { λ r. ⌜ r ≡ freeTotal layout35 (now (map .entry)) ⌝ }
+{
+    let mut sum: u16 = 0;
     let mut t: usize = 1;
     while t < 36 {
         if t != 18 {
-            sum += track18[4 * t] as usize;
+            sum += map[4 * t] as u16;
         }
         t += 1;
     }
     sum
 }
 
-// The whole text: the disk's name and id, a line for each occupied slot, the free sectors.
-fn write_text(track18: &[u8], sectors: &[u8; 18], end: usize, text: &mut [u8]) {
+// Fills the text: the disk's name and id, a line for each occupied slot below `end`, the free sectors.
+fn write_text(track18: &[u8], sectors: &[u8; 18], end: usize, text: &mut [u8])
+    requires { ⌜ RoomFor (now track18) (now sectors) end (now text) 42 ⌝ }
+    ensures { λ _. ⌜ now (text .exit) ≡ listingText layout35 (diskOfTrack18 layout35 (now (track18 .entry))) (occupiedFrom (now (track18 .entry)) (now (sectors .entry)) 0 end) ⌝ }
+{
+    let map = &track18[0..256];
     let last = text.len() - 5;
-    lines::write_line(&track18[144..160], &track18[162..164], &mut text[0..37]);
+    lines::write_line(&map[144..160], &map[162..164], &mut text[0..37]);
     slots::write_slots(track18, sectors, end, &mut text[37..last]);
-    let free = free_total(track18);
+    let free = free_total(map);
     let high = [(free / 256) as u8];
     let low = [(free % 256) as u8];
     lines::write_line(&high, &low, &mut text[last..]);
 }
 
 // A report of a refusal: length 0 and 0 sectors.
-fn refuse(fault: Fault) -> Report {
+fn refuse(fault: Fault) -> Report
+    ensures { λ r. ⌜ r ≡ record { verdict = Verdict.Refused fault; length = 0; sectors = 0 } ⌝ }
+{
     Report {
         verdict: Verdict::Refused(fault),
         length: 0,
@@ -55,7 +70,10 @@ fn list_slots(
     end: usize,
     repeated: usize,
     text: &mut [u8],
-) -> Report {
+) -> Report
+    requires { ⌜ ReadySlots (now track18) (now sectors) end repeated ⌝ }
+    ensures { λ r. ⌜ SlotsListed (now (track18 .entry)) (occupiedFrom (now (track18 .entry)) (now (sectors .entry)) 0 end) (now (text .entry)) r (now (text .exit)) ⌝ }
+{
     let checked = slots::check_slots(track18, sectors, end, repeated);
     let verdict = checked.verdict;
     match verdict {
@@ -91,7 +109,9 @@ pub fn list_track18(track18: &[u8], text: &mut [u8]) -> Report
 }
 
 // A refusal, printed: one line of two digits.
-fn print_refusal(number: u8) -> Printed {
+fn print_refusal(number: u8) -> Printed
+    ensures { λ r. ⌜ take (r .length) (r .text) ≡ refusalLine number ⌝ }
+{
     let mut text = [0u8; 6234];
     text[0] = lines::digit(number / 10);
     text[1] = lines::digit(number % 10);

@@ -1,4 +1,8 @@
 // The occupied slots of the directory, checked and counted, and their lines (01, Sleeve listing).
+ghost use mathlib.Core.Path.{_≡_};
+ghost use lib.ListN.{length};
+ghost use Rattle.d64spec.specs.Listing.{line, slotFrame};
+ghost use Rattle.sleeve.specs.Texts.{ReadySlots, RoomFor, SlotsCounted, linesOf, occupiedFrom};
 use answers::Place;
 use answers::Verdict;
 
@@ -14,7 +18,10 @@ pub(crate) fn check_slots(
     sectors: &[u8; 18],
     end: usize,
     repeated: usize,
-) -> Checked {
+) -> Checked
+    requires { ⌜ ReadySlots (now track18) (now sectors) end repeated ⌝ }
+    ensures { λ r. ⌜ SlotsCounted (occupiedFrom (now (track18 .entry)) (now (sectors .entry)) 0 end) end r ⌝ }
+{
     let mut files: usize = 0;
     let mut k: usize = 0;
     while k < end {
@@ -46,14 +53,25 @@ pub(crate) fn check_slots(
     }
 }
 
-// Fills the text with a line for each occupied slot below `end`: bytes 02 to 14 and 1E to 1F.
-pub(crate) fn write_slots(track18: &[u8], sectors: &[u8; 18], end: usize, text: &mut [u8]) {
+// Fills the text with a slot's line: its bytes 02 to 14 and 1E to 1F.
+fn write_slot(slot: &[u8], text: &mut [u8])
+    requires { ⌜ (length (now slot) ≡ 30) × (length (now text) ≡ 43) ⌝ }
+    ensures { λ _. ⌜ now (text .exit) ≡ line (slotFrame (now (slot .entry))) ⌝ }
+{
+    crate::lines::write_line(&slot[0..19], &slot[28..30], text);
+}
+
+// Fills the text with a line for each occupied slot below `end`.
+pub(crate) fn write_slots(track18: &[u8], sectors: &[u8; 18], end: usize, text: &mut [u8])
+    requires { ⌜ RoomFor (now track18) (now sectors) end (now text) 0 ⌝ }
+    ensures { λ _. ⌜ now (text .exit) ≡ linesOf (occupiedFrom (now (track18 .entry)) (now (sectors .entry)) 0 end) ⌝ }
+{
     let mut at: usize = 0;
     let mut k: usize = 0;
     while k < end {
         let slot = directory::slot_at(track18, sectors, k);
         if !entry::is_empty(slot) {
-            crate::lines::write_line(&slot[0..19], &slot[28..30], &mut text[at..at + 43]);
+            write_slot(slot, &mut text[at..at + 43]);
             at += 43;
         }
         k += 1;

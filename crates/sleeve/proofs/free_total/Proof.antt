@@ -34,7 +34,7 @@ loop-less : tie.Need-loop-less Inv-loop μ-loop
 loop-less c = omega arith
 
 loop-again : tie.Need-loop-again Inv-loop μ-loop
-loop-again c = 
+loop-again c =
     let l = c .before .before .loop in
     ⊎-elim (λ w. adding-moved (l .inv) (omega arith) (λ e. w .0 .taken (omega arith)) (omega (arith, w .1 .given (4 * l .t))) (omega (arith, w .2))) (λ w. adding-skipped (l .inv) (omega arith) (omega (arith, w .0 .left)) (omega (arith, w .1))) (c .if1 .came)
 
