@@ -1,10 +1,10 @@
 -- The walk of the directory under way.
--- In order: bytes of track 18; room in the array, which is what falls; the sectors gathered; the invariant, its start, its step and its ends.
+-- In order: the link in a sector of track 18; room in the array, which is what falls; the sectors gathered; the invariant, its start, its step and its ends.
 use Prim.Native.Nat.{ℕ, zero, suc, _+_, _*_, _-_, _≤_, _<_}
 use native.Mathlib.Omega.{arith}
 use native.Mathlib.Numerals.{add-one}
 use mathlib.Core.Path.{_≡_, refl, sym, ap, ap₂, _∙_, subst}
-use mathlib.Core.List.{List, [], _∷_, _++_, map, append-assoc}
+use mathlib.Core.List.{List, [], _∷_, _++_, map, append-nil, append-assoc}
 use lib.ListN.{length, getD, set, take, drop, length-set, length-take, length-drop}
 use lib.Seq.{length-take-le, take-suc-set, take-set-lt, drop-set-add, set-at, getD-take, getD-drop}
 use Rattle.d64spec.specs.Lists.{Bytes, All, zeros}
@@ -16,11 +16,13 @@ use Rattle.d64spec.specs.Check.{checkDirectory}
 use Rattle.d64spec.specs.Listing.{diskOfTrack18}
 use Rattle.d64spec.proofs.BoundLaws.{directoryLink-on}
 use Rattle.d64spec.proofs.RunTheorem.{sectors35}
+use Rattle.sectors.proofs.SectorLaws.{byte-disk, byte-disk-first}
 use Rattle.geometry.specs.Layout.{addressOf}
 use Rattle.geometry.specs.declared.Address.{Address as CodeAddress}
 use Rattle.links.specs.Links.{linkOf, Decoded}
 use Rattle.links.specs.declared.Link.{Link as CodeLink}
 use Rattle.answers.specs.Faults.{whereFine, faultOf}
+use Rattle.answers.specs.declared.Place.{Place}
 use Rattle.answers.specs.declared.Verdict.{Verdict}
 use Rattle.answers.specs.declared.Fault.the-variants.{BadLink, AlreadyOwned}
 use Rattle.answers.specs.declared.Verdict.the-variants.{Fine, Refused}
@@ -33,21 +35,15 @@ use Rattle.directory.specs.Directories.{sectorsOf}
 use Rattle.directory.specs.Walks.{Marked, marked, Walked}
 use Rattle.directory.proofs.Track18Laws.{InDirectory, decoded-inside35, number-18, on-18}
 
--- ---- bytes of track 18
+-- ---- the link in a sector of track 18
 
-byte-at : (b : Bytes) (s i : ℕ) → i < 256 → getD (disk b s) i 0 ≡ getD b (256 * s + i) 0
-unfolding disk
-byte-at b s i h = getD-take 256 (drop (256 * s) b) i 0 h ∙ getD-drop (256 * s) b i 0
-
--- the link in 18/s
 pub link-at : (b : Bytes) (s : ℕ) → directoryLink layout35 (diskOfTrack18 layout35 b (357 + s)) ≡ decodeDirectoryLink layout35 (getD b (256 * s) 0) (getD b (256 * s + 1) 0)
 unfolding directoryLink diskOfTrack18
 link-at b s =
     let first : sectorNumber layout35 mapAddress ≡ 357 = number-18 0 in
     let place : 357 + s - sectorNumber layout35 mapAddress ≡ s = omega arith in
-    let start : 256 * s + 0 ≡ 256 * s = omega arith in
     ap (λ (n : ℕ). decodeDirectoryLink layout35 (getD (disk b n) 0 0) (getD (disk b n) 1 0)) place
-    ∙ ap₂ (decodeDirectoryLink layout35) (byte-at b s 0 (omega arith) ∙ ap (λ (i : ℕ). getD b i 0) start) (byte-at b s 1 (omega arith))
+    ∙ ap₂ (decodeDirectoryLink layout35) (byte-disk-first b s) (byte-disk b s 1 (omega arith))
 
 -- ---- room in the array: as many places as 18/1 to 18/18 have sectors without an owner
 
@@ -206,10 +202,6 @@ walks-again w = rw (w .within .0) at w
 
 -- ---- the ends
 
-append-nil : {A : Type 0} (l : List A) → l ≡ l ++ []
-append-nil [] = refl
-append-nil (x ∷ l) = ap (λ m. x ∷ m) (append-nil l)
-
 module _ {b own₀ own ss : List ℕ} {n holder : ℕ} where
   module _ (k : Link) (w : Walks b (directoryWalk b own₀) own ss n holder k) where
     -- whatever the verdict is, the array is as it should be
@@ -222,19 +214,20 @@ module _ {b own₀ own ss : List ℕ} {n holder : ℕ} where
   unfolding whereFine markedAfter
   walked-ends w =
       walked-with ends w Fine
-      (ap (λ (l : List Address). done (record { sectors = l; table = own })) (append-nil (sectorsOf ss n))
+      (ap (λ (l : List Address). done (record { sectors = l; table = own })) (sym (append-nil (sectorsOf ss n)))
       ∙ walking-ends layout35 (directoryLink layout35) (diskOfTrack18 layout35 b) markedAfter 255 (w .walking))
 
-  pub walked-bad : Walks b (directoryWalk b own₀) own ss n holder bad → Walked b own₀ (record { verdict = Refused (BadLink (record { track = 18; sector = holder; slot = 255 })); sectors = ss; count = n }) own
+  pub walked-bad : {p : Place} → p ≡ record { track = 18; sector = holder; slot = 255 } → Walks b (directoryWalk b own₀) own ss n holder bad
+      → Walked b own₀ (record { verdict = Refused (BadLink p); sectors = ss; count = n }) own
   unfolding whereFine faultOf markedAfter
-  walked-bad w = walked-with bad w (Refused (BadLink (record { track = 18; sector = holder; slot = 255 }))) (walking-bad layout35 (directoryLink layout35) (diskOfTrack18 layout35 b) markedAfter 255 (w .walking))
+  walked-bad {p} place w = walked-with bad w (Refused (BadLink p)) (rw place (walking-bad layout35 (directoryLink layout35) (diskOfTrack18 layout35 b) markedAfter 255 (w .walking)))
 
-  pub walked-owned : {next : ℕ} → Walks b (directoryWalk b own₀) own ss n holder (to (address 18 next)) → (getD own (357 + next) 0 ≡ 0 → ⊥)
-      → Walked b own₀ (record { verdict = Refused (AlreadyOwned (record { track = 18; sector = holder; slot = 255 })); sectors = ss; count = n }) own
+  pub walked-owned : {p : Place} {next : ℕ} → p ≡ record { track = 18; sector = holder; slot = 255 } → Walks b (directoryWalk b own₀) own ss n holder (to (address 18 next)) → (getD own (357 + next) 0 ≡ 0 → ⊥)
+      → Walked b own₀ (record { verdict = Refused (AlreadyOwned p); sectors = ss; count = n }) own
   unfolding whereFine faultOf markedAfter
-  walked-owned {next} w h =
-      walked-with (to (address 18 next)) w (Refused (AlreadyOwned (record { track = 18; sector = holder; slot = 255 })))
-      (walking-owned layout35 (directoryLink layout35) (diskOfTrack18 layout35 b) markedAfter 255 (w .walking) (rw (number-18 next) h))
+  walked-owned {p} {next} place w h =
+      walked-with (to (address 18 next)) w (Refused (AlreadyOwned p))
+      (rw place (walking-owned layout35 (directoryLink layout35) (diskOfTrack18 layout35 b) markedAfter 255 (w .walking) (rw (number-18 next) h)))
 
 -- ---- from 18/0's owner on
 

@@ -29,8 +29,11 @@ add-n c = search needs
 element-copy-out-if1 : tie.Need-element-copy-out-if1 Inv-loop μ-loop
 element-copy-out-if1 c = search needs
 
+place-of-requires : tie.Need-place-of-requires Inv-loop μ-loop
+place-of-requires c κs = search needs
+
 returns : tie.Need-returns Inv-loop μ-loop
-returns c = walked-owned (c .before .before .loop .inv) (c .if1 .taken)
+returns c = walked-owned (c .place-of .ensures) (c .before .before .before .loop .inv) (c .before .if1 .taken)
 
 element-write-own : tie.Need-element-write-own Inv-loop μ-loop
 element-write-own c = search needs
@@ -75,8 +78,11 @@ returns-2 c = walked-ends (rw (c .enum-told .given .1) at (met (c .before .befor
 enum-told-2 : tie.Need-enum-told-2 Inv-loop μ-loop
 enum-told-2 c = search needs
 
+place-of-requires-2 : tie.Need-place-of-requires-2 Inv-loop μ-loop
+place-of-requires-2 c κs = search needs
+
 returns-3 : tie.Need-returns-3 Inv-loop μ-loop
-returns-3 c = walked-bad (rw (c .enum-told2 .given .1) at (met (c .before .before)))
+returns-3 c = walked-bad (c .place-of2 .ensures) (rw (c .before .enum-told2 .given .1) at (met (c .before .before .before)))
 
 enum-known-link : tie.Need-enum-known-link Inv-loop μ-loop
 enum-known-link c = search needs
@@ -100,6 +106,7 @@ walk-directory-spec =
     cast-n
     add-n
     element-copy-out-if1
+    place-of-requires
     returns
     element-write-own
     array-write-sectors
@@ -113,6 +120,7 @@ walk-directory-spec =
     enum-told
     returns-2
     enum-told-2
+    place-of-requires-2
     returns-3
     enum-known-link
     loop-less
