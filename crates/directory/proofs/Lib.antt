@@ -6,3 +6,4 @@ pub mod RepeatLaws
 pub mod WordLaws
 pub mod PairLaws
 pub mod SearchLaws
+pub mod EntryLaws
