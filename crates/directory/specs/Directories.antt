@@ -11,7 +11,7 @@ use Rattle.d64spec.specs.Lists.{Bytes, All, part, zeros, nameCount}
 use Rattle.d64spec.specs.Answers.{Address, address, wrongSize, badType, badName, duplicateName, Result, refused, done, _>>_, need}
 use Rattle.d64spec.specs.Geometry.{layout35, total, sectorsOn}
 use Rattle.d64spec.specs.Image.{disk}
-use Rattle.d64spec.specs.Directory.{Slot, isEmpty, entryByte, validType, validName, nameField, slotIn}
+use Rattle.d64spec.specs.Directory.{Slot, isEmpty, entryByte, validType, validName, nameField, nameOf, slotIn}
 use Rattle.d64spec.specs.Check.{checkDirectory}
 use Rattle.d64spec.specs.Listing.{diskOfTrack18}
 use Rattle.answers.specs.Faults.{whereFine}
@@ -39,6 +39,11 @@ pub record IsSlot (b : Bytes) (ss : List ℕ) (k : ℕ) (p : Bytes) : Type 0 whe
 abbrev pub fieldsBelow : Bytes → List ℕ → ℕ → List Bytes
 fieldsBelow b ss zero = []
 fieldsBelow b ss (suc k) = cond (isEmpty (slotBytes b ss k)) (fieldsBelow b ss k) (nameField (slotBytes b ss k) ∷ fieldsBelow b ss k)
+
+-- the names of the occupied slots below k, the last first
+abbrev pub namesBelow : Bytes → List ℕ → ℕ → List Bytes
+namesBelow b ss zero = []
+namesBelow b ss (suc k) = cond (isEmpty (slotBytes b ss k)) (namesBelow b ss k) (nameOf (slotBytes b ss k) ∷ namesBelow b ss k)
 
 -- slot k is occupied, and an occupied slot below it has the same name field
 unfoldable pub repeats : Bytes → List ℕ → ℕ → Bool

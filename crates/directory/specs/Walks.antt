@@ -1,9 +1,9 @@
--- The walk of the directory with the owner table (01, Order of the check, step 2).
+-- The walk of the directory with the owner table (01, Order of the check, step 2). Laws: proofs/WalkLaws.
 use Prim.Native.Nat.{ℕ, _-_, _≤_, _<_}
 use mathlib.Core.Path.{_≡_}
 use mathlib.Core.List.{List, _++_, map}
-use lib.ListN.{length, take}
-use Rattle.d64spec.specs.Lists.{Bytes, All, zeros}
+use lib.ListN.{take}
+use Rattle.d64spec.specs.Lists.{All, zeros}
 use Rattle.d64spec.specs.Answers.{Address, Result, refused, done}
 use Rattle.d64spec.specs.Geometry.{layout35, sectorNumber, mapAddress, directoryStart}
 use Rattle.d64spec.specs.Chain.{to, directoryLink, steps, walk}

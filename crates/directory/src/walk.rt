@@ -14,6 +14,17 @@ pub(crate) struct Walk {
     pub count: usize,
 }
 
+// The place of a link's fault: the sector of track 18 that holds the link, and no slot.
+fn place_of(holder: u8) -> Place
+    ensures { λ r. ⌜ r ≡ record { track = 18; sector = holder; slot = 255 } ⌝ }
+{
+    Place {
+        track: 18,
+        sector: holder,
+        slot: 255,
+    }
+}
+
 // Walks the directory from 18/1 on. Each sector gets the directory's number in the owner table; one that has an owner is refused.
 pub(crate) fn walk_directory(track18: &[u8], own: &mut [u8; 683]) -> Walk
     requires { ⌜ (length (now track18) ≡ 4864) × (length (now own) ≡ 683) ⌝ }
@@ -27,11 +38,7 @@ pub(crate) fn walk_directory(track18: &[u8], own: &mut [u8; 683]) -> Walk
         let n = 357 + next as usize;
         if own[n] != 0 {
             return Walk {
-                verdict: Verdict::Refused(Fault::AlreadyOwned(Place {
-                    track: 18,
-                    sector: holder,
-                    slot: 255,
-                })),
+                verdict: Verdict::Refused(Fault::AlreadyOwned(place_of(holder))),
                 sectors,
                 count,
             };
@@ -52,11 +59,7 @@ pub(crate) fn walk_directory(track18: &[u8], own: &mut [u8; 683]) -> Walk
             }
             Link::Bad => {
                 return Walk {
-                    verdict: Verdict::Refused(Fault::BadLink(Place {
-                        track: 18,
-                        sector: holder,
-                        slot: 255,
-                    })),
+                    verdict: Verdict::Refused(Fault::BadLink(place_of(holder))),
                     sectors,
                     count,
                 };

@@ -1,15 +1,15 @@
 -- A file's chain, claimed sector by sector in the owner table (01, Chains; Order of the check, 3).
--- In order: what a claim answers; the definition's walk with the table after it; what the loop may rely on.
+-- In order: what a claim answers; the definition's walk with the table after it; what the loop may rely on. Laws: proofs/ChainLaws.
 use Prim.Native.Nat.{ℕ, _≤_}
 use mathlib.Core.Path.{_≡_}
 use mathlib.Core.Bool.{true}
-use mathlib.Core.List.{List, [], _∷_, map}
+use mathlib.Core.List.{List, map}
 use lib.ListN.{length}
 use Rattle.d64spec.specs.Lists.{Bytes}
 use Rattle.d64spec.specs.Answers.{Address, Result, refused, done}
 use Rattle.d64spec.specs.Geometry.{layout35, sectorNumber, onDisk}
 use Rattle.d64spec.specs.Image.{disk}
-use Rattle.d64spec.specs.Chain.{Link, linkTo, fileLink, steps, walk}
+use Rattle.d64spec.specs.Chain.{linkTo, fileLink, steps, walk}
 use Rattle.geometry.specs.Layout.{onDiskBy, numberBy}
 use Rattle.answers.specs.Faults.{faultOf}
 use Rattle.owners.specs.OwnerTable.{owned, withOwner}

@@ -1,16 +1,20 @@
 -- The check of an image in code: its verdict, the directory's sectors and the owner table, for any bytes (01, Order of the check).
-use Prim.Native.Nat.{ℕ, _-_, _≤_, _<_}
+-- In order: what the check of any bytes gives, the public contract; steps 3 and 4 together. Laws for callers: proofs/CheckedLaws.
+use Prim.Native.Nat.{ℕ, _*_, _-_, _≤_, _<_}
 use mathlib.Core.Path.{_≡_}
 use mathlib.Core.List.{List, _++_}
 use lib.ListN.{length, take}
 use Rattle.d64spec.specs.Lists.{Bytes, All, zeros}
-use Rattle.d64spec.specs.Answers.{Address, Result, refused, done}
-use Rattle.d64spec.specs.Geometry.{layout35, total}
+use Rattle.d64spec.specs.Answers.{Address, Result, refused, done, _>>=_, _>>_}
+use Rattle.d64spec.specs.Geometry.{layout35, total, sectorNumber, mapAddress}
+use Rattle.d64spec.specs.Image.{disk}
 use Rattle.d64spec.specs.Check.{DirectoryContents, checkImage}
 use Rattle.answers.specs.Faults.{whereFine}
 use Rattle.owners.specs.OwnerTable.{ownerTable}
 use Rattle.directory.specs.Directories.{sectorsOf}
+use Rattle.mapcheck.specs.MapChecks.{mapVerdict}
 use Rattle.diskcheck.specs.declared.Checked.{Checked}
+use Rattle.diskcheck.specs.SlotChecks.{slotsStep}
 
 -- what a check that finds no fault leaves: the directory's sectors, and who owns each sector of the disk
 pub record Found : Type 0 where
@@ -40,3 +44,10 @@ pub record ImageChecked (img : Bytes) (r : Checked) : Type 0 where
   pub rest : r .sectors ≡ take (r .count) (r .sectors) ++ zeros (18 - r .count)
   pub few : r .count ≤ 18
   pub inside : All (λ s. s < 19) (r .sectors)
+
+-- steps 3 and 4 for a directory of n sectors ss on track 18, and the table after them
+unfoldable pub restStep : Bytes → List ℕ → List ℕ → ℕ → Result (List ℕ)
+restStep img own ss n = do
+  own′ ← slotsStep img own ss 0 (8 * n)
+  mapVerdict (disk img (sectorNumber layout35 mapAddress)) own′
+  done own′

@@ -12,6 +12,17 @@ pub(crate) enum Claim {
     Refused(Fault),
 }
 
+// The place of a link's fault: the sector that holds the link, and the slot of the file.
+fn place_of(holder: Address, slot: u8) -> Place
+    ensures { λ r. ⌜ r ≡ record { track = holder .track; sector = holder .sector; slot = slot } ⌝ }
+{
+    Place {
+        track: holder.track,
+        sector: holder.sector,
+        slot,
+    }
+}
+
 // The loop of `claim_chain`. The layout's tables are lent, so that they stand ready for all sectors of the chain.
 fn claim_sectors(
     img: &[u8],
@@ -31,19 +42,11 @@ fn claim_sectors(
     let mut count: usize = 0;
     loop {
         if !geometry::on_disk_by(counts, at) {
-            return Claim::Refused(Fault::BadLink(Place {
-                track: holder.track,
-                sector: holder.sector,
-                slot,
-            }));
+            return Claim::Refused(Fault::BadLink(place_of(holder, slot)));
         }
         let n = geometry::number_by(firsts, at);
         if own[n] != 0 {
-            return Claim::Refused(Fault::AlreadyOwned(Place {
-                track: holder.track,
-                sector: holder.sector,
-                slot,
-            }));
+            return Claim::Refused(Fault::AlreadyOwned(place_of(holder, slot)));
         }
         own[n] = id;
         count += 1;

@@ -4,9 +4,10 @@ mod chain;
 mod slots;
 
 ghost use mathlib.Core.Path.{_≡_};
-ghost use lib.ListN.{length};
 ghost use Rattle.d64spec.specs.Lists.{zeros};
-ghost use Rattle.diskcheck.specs.ImageChecks.{ImageChecked};
+ghost use Rattle.answers.specs.Faults.{whereFine};
+ghost use Rattle.diskcheck.specs.SlotChecks.{SlotsReady};
+ghost use Rattle.diskcheck.specs.ImageChecks.{ImageChecked, restStep};
 use answers::Fault;
 use answers::Verdict;
 
@@ -38,7 +39,10 @@ fn check_rest(
     sectors: &[u8; 18],
     count: usize,
     repeated: usize,
-) -> Verdict {
+) -> Verdict
+    requires { ⌜ SlotsReady (now img) (now own) (now sectors) count repeated ⌝ }
+    ensures { λ r. ⌜ whereFine r (now (own .exit)) ≡ restStep (now (img .entry)) (now (own .entry)) (now (sectors .entry)) count ⌝ }
+{
     let verdict = slots::check_slots(img, own, sectors, count, repeated);
     match verdict {
         Verdict::Refused(fault) => Verdict::Refused(fault),

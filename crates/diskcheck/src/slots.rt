@@ -1,9 +1,8 @@
 // Step 3 of the check: the occupied slots in directory order (01, Order of the check, 3).
 ghost use mathlib.Core.Path.{_≡_};
-ghost use lib.ListN.{length};
 ghost use Prim.Native.Nat.{_*_};
-ghost use Rattle.answers.specs.Faults.{whereFine};
-ghost use Rattle.diskcheck.specs.SlotChecks.{SlotsReady, SlotReady, slotStep, slotsStep};
+ghost use Rattle.answers.specs.Faults.{sectorOf, whereFine};
+ghost use Rattle.diskcheck.specs.SlotChecks.{FileReady, fileStep, SlotReady, slotStep, SlotsReady, slotsStep};
 use crate::chain::Claim;
 use answers::Fault;
 use answers::Place;
@@ -11,7 +10,10 @@ use answers::Verdict;
 use geometry::Address;
 
 // The chain of an occupied slot, link by link, and then its count of sectors.
-fn check_file(img: &[u8], own: &mut [u8; 683], slot: &[u8], at: Place) -> Verdict {
+fn check_file(img: &[u8], own: &mut [u8; 683], slot: &[u8], at: Place) -> Verdict
+    requires { ⌜ FileReady (now img) (now own) (now slot) (at .slot) ⌝ }
+    ensures { λ r. ⌜ whereFine r (now (own .exit)) ≡ fileStep (now (img .entry)) (now (own .entry)) (now (slot .entry)) (sectorOf at) (at .slot) ⌝ }
+{
     let first = Address {
         track: slot[1],
         sector: slot[2],
@@ -40,7 +42,10 @@ fn check_slot(
     sectors: &[u8; 18],
     k: usize,
     repeated: usize,
-) -> Verdict {
+) -> Verdict
+    requires { ⌜ SlotReady (now img) (now own) (now sectors) k repeated ⌝ }
+    ensures { λ r. ⌜ whereFine r (now (own .exit)) ≡ slotStep (now (img .entry)) (now (own .entry)) (now (sectors .entry)) k ⌝ }
+{
     let slot = directory::slot_at(&img[91392..96256], sectors, k);
     if slot[0] == 0 {
         return Verdict::Fine;

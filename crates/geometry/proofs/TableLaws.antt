@@ -1,5 +1,5 @@
 -- The rule of the two tables, and what it says of the layout (01, Tracks and sectors).
--- In order: the running sum; the layout's counts; its first numbers; a sector's number. The rule is one test, `every-at` of Every.
+-- In order: the running sum; the layout's counts; its first numbers, and where a track ends; a sector's number. The rule is one test, `every-at` of Every.
 use Prim.Native.Nat.{ℕ, zero, suc, _+_, _-_, _≤_, _<_}
 use native.Mathlib.Omega.{arith}
 use mathlib.Core.Path.{_≡_, refl, ap, _∙_}
@@ -53,6 +53,17 @@ sum-take-suc [] zero = refl
 sum-take-suc [] (suc t) = refl
 sum-take-suc (x ∷ l) zero = omega arith
 sum-take-suc (x ∷ l) (suc t) = omega (arith, sum-take-suc l t)
+
+sum-take-le : (l : List ℕ) (t : ℕ) → sum (take t l) + getD l t 0 ≤ sum l
+sum-take-le [] zero = omega arith
+sum-take-le [] (suc t) = omega arith
+sum-take-le (x ∷ l) zero = omega arith
+sum-take-le (x ∷ l) (suc t) = omega (arith, sum-take-le l t)
+
+-- a track ends within the disk
+pub track-end-le : (t : ℕ) → firstOn layout35 t + sectorsOn layout35 t ≤ 683
+unfolding layout35 firstOn sectorsOn
+track-end-le t = sum-take-le (0 ∷ counts) t
 
 -- the same sum of the layout's counts
 firstOn-suc : (g : Geometry) (t : ℕ) → firstOn g (suc t) ≡ firstOn g t + sectorsOn g t

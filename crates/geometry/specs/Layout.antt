@@ -1,5 +1,6 @@
 -- What the functions over the layout of 35 tracks promise (01, Tracks and sectors).
--- In order: the code's address as an address of the definitions; a track's count; a sector's number. Laws: proofs/TableLaws.
+-- In order: the code's address as an address of the definitions; a track's count; a sector's number; the same by lent tables.
+-- Laws: proofs/TableLaws, LentTableLaws.
 use Prim.Native.Nat.{ℕ, _+_, _≤_, _<_}
 use mathlib.Core.Path.{_≡_}
 use mathlib.Core.Bool.{Bool, true}
@@ -24,10 +25,14 @@ pub record Numbered (r : DiskAddress) (n : ℕ) : Type 0 where
   pub number : n ≡ sectorNumber layout35 r
   pub inside : onDisk layout35 r ≡ true → n < 683
 
+-- track t's entry of a table from track 1 on, or 0 where there is none (01: a table of 35 entries)
+unfoldable pub entryBy : List ℕ → ℕ → ℕ
+entryBy l t = getD (0 ∷ l) t 0
+
 -- whether an address names a sector, by a table of each track's sectors from track 1 on (01: a table of 35 entries gives each track's sectors)
 unfoldable pub onDiskBy : List ℕ → DiskAddress → Bool
-onDiskBy counts r = ltb (r .sector) (getD (0 ∷ counts) (r .track) 0)
+onDiskBy counts r = ltb (r .sector) (entryBy counts (r .track))
 
 -- a sector's number, by a table of each track's first sector number from track 1 on
 unfoldable pub numberBy : List ℕ → DiskAddress → ℕ
-numberBy firsts r = getD (0 ∷ firsts) (r .track) 0 + r .sector
+numberBy firsts r = entryBy firsts (r .track) + r .sector

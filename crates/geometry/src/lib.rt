@@ -3,7 +3,7 @@
 // The tables' rule, the running sum, is proved once over both tables: proofs/TableLaws.
 ghost use mathlib.Core.Path.{_≡_};
 ghost use Rattle.d64spec.specs.Geometry.{layout35, firstOn, onDisk};
-ghost use Rattle.geometry.specs.Layout.{addressOf, Counted, Numbered, onDiskBy, numberBy};
+ghost use Rattle.geometry.specs.Layout.{addressOf, Counted, Numbered, entryBy, onDiskBy, numberBy};
 
 // A sector by its track, from 1, and its place on the track, from 0.
 pub struct Address {
@@ -136,30 +136,44 @@ pub fn sector_number(at: Address) -> usize
     first_on(at.track) as usize + at.sector as usize
 }
 
+// A track's entry of a table of counts, from track 1 on: 0 where there is none.
+fn count_by(counts: &[u8], track: u8) -> u8
+    ensures { λ r. ⌜ r ≡ entryBy (now (counts .entry)) track ⌝ }
+{
+    if track < 1 {
+        return 0;
+    }
+    let i = track as usize - 1;
+    if i < counts.len() {
+        return counts[i];
+    }
+    0
+}
+
+// A track's entry of a table of first numbers, from track 1 on: 0 where there is none.
+fn first_by(firsts: &[u16], track: u8) -> u16
+    ensures { λ r. ⌜ r ≡ entryBy (now (firsts .entry)) track ⌝ }
+{
+    if track < 1 {
+        return 0;
+    }
+    let i = track as usize - 1;
+    if i < firsts.len() {
+        return firsts[i];
+    }
+    0
+}
+
 // Whether an address names a sector of a disk whose tracks, from track 1 on, have these counts of sectors. For loops: the table is lent.
 pub fn on_disk_by(counts: &[u8; 35], at: Address) -> bool
     ensures { λ r. ⌜ r ≡ onDiskBy (now (counts .entry)) (addressOf at) ⌝ }
 {
-    if at.track < 1 {
-        return false;
-    }
-    if TRACKS < at.track {
-        return false;
-    }
-    let i = at.track as usize - 1;
-    at.sector < counts[i]
+    at.sector < count_by(counts, at.track)
 }
 
 // A sector's number on a disk whose tracks, from track 1 on, start at these numbers; off these tracks its place on the track alone.
 pub fn number_by(firsts: &[u16; 35], at: Address) -> usize
     ensures { λ r. ⌜ r ≡ numberBy (now (firsts .entry)) (addressOf at) ⌝ }
 {
-    if at.track < 1 {
-        return at.sector as usize;
-    }
-    if TRACKS < at.track {
-        return at.sector as usize;
-    }
-    let i = at.track as usize - 1;
-    firsts[i] as usize + at.sector as usize
+    first_by(firsts, at.track) as usize + at.sector as usize
 }

@@ -1,28 +1,34 @@
 -- Step 4 of the check on the map sector alone, against the owner table (01, Order of the check, 4; The map).
 -- In order: a track's free sectors as a number and how many they are; an entry's bitmap as a number; the step.
--- Laws: proofs/MaskLaws (numbers are equal exactly where all their bits are), StepLaws (the step is d64spec's).
-use Prim.Native.Nat.{ℕ, zero, suc, _+_, _*_, _^_}
+-- Laws: proofs/MaskLaws (numbers are equal exactly where all their bits are), TrackLaws (a track's test is d64spec's), StepLaws (so is the step).
+use Prim.Native.Nat.{ℕ, _+_, _*_, _^_}
 use mathlib.Core.Path.{_≡_}
 use mathlib.Core.Bool.{Bool, _&&_}
-use mathlib.Core.List.{List}
+use mathlib.Core.List.{List, map}
 use lib.ListN.{getD}
 use lib.Dec.{eqb}
-use Rattle.d64spec.specs.Lists.{Bytes, byte, indicator, range}
+use Rattle.d64spec.specs.Lists.{Bytes, byte, indicator, range, sum}
 use Rattle.d64spec.specs.Answers.{Result}
 use Rattle.d64spec.specs.Geometry.{layout35, tracks, firstOn, sectorsOn}
 use Rattle.d64spec.specs.Check.{checkMap}
 use Rattle.owners.specs.OwnerTable.{freeBy}
 use Rattle.mapcheck.specs.declared.FreeSectors.{FreeSectors}
 
+-- the number whose bit s is f s, for each s below n
+unfoldable pub binary : (ℕ → ℕ) → ℕ → ℕ
+binary f n = sum (map (λ s. f s * 2 ^ s) (range 0 n))
+
+-- 1 where nobody owns the sector s past number `first`, else 0
+unfoldable pub freeBit : List ℕ → ℕ → ℕ → ℕ
+freeBit own first s = indicator (eqb (getD own (first + s) 0) 0)
+
 -- the n sectors from number `first` on that nobody owns, as a number: bit s for sector s
-abbrev pub freeMask : List ℕ → ℕ → ℕ → ℕ
-freeMask own first zero = 0
-freeMask own first (suc n) = freeMask own first n + indicator (eqb (getD own (first + n) 0) 0) * 2 ^ n
+unfoldable pub freeMask : List ℕ → ℕ → ℕ → ℕ
+freeMask own first n = binary (freeBit own first) n
 
 -- how many of the n sectors from number `first` on nobody owns
-abbrev pub freeCount : List ℕ → ℕ → ℕ → ℕ
-freeCount own first zero = 0
-freeCount own first (suc n) = freeCount own first n + indicator (eqb (getD own (first + n) 0) 0)
+unfoldable pub freeCount : List ℕ → ℕ → ℕ → ℕ
+freeCount own first n = sum (map (freeBit own first) (range 0 n))
 
 -- both of them
 pub record Surveyed (own : List ℕ) (first n : ℕ) (r : FreeSectors) : Type 0 where

@@ -1,7 +1,7 @@
 -- The owner table (01, Order of the check: "Every sector's owner so far is held in a table of 683 numbers").
 -- A sector's entry is 0 where nobody owns it, 1 for the map, 2 for the directory, and 3 and the slot's number for a file.
 -- In order: owners as numbers; the table read as a list of owned sectors; the table with more owners; the tables of the check.
--- The definitions of d64spec ask only who is a member of the list `owned`. Laws: proofs/TableLaws, WalkTable, Walking.
+-- The definitions of d64spec ask only who is a member of the list `owned`. Laws: proofs/TableLaws, WalkTable, Walking, SlotsTable, ClaimLaws.
 use Prim.Native.Nat.{ℕ, zero, suc, _+_}
 use mathlib.Core.Bool.{Bool}
 use mathlib.Core.List.{List, [], _∷_, map}

@@ -6,10 +6,10 @@ use mathlib.Core.Path.{_≡_, refl, sym, ap, _∙_}
 use mathlib.Core.Bool.{Bool, true, false, cond, _&&_}
 use mathlib.Core.List.{[], _++_, append-nil}
 use lib.ListN.{length, take, drop, length-take, length-drop, drop-of-length-le}
-use lib.Seq.{take-all, take-length, drop-drop}
+use lib.Seq.{take-all, take-length, drop-drop, getD-take, getD-drop}
 use lib.Dec.{eqb, leb}
 use borrow.Author.Tests.{eqb-true, leb-true, le-leb, lt-leb, eq-eqb, ne-eqb}
-use Rattle.d64spec.specs.Lists.{Bytes, splice}
+use Rattle.d64spec.specs.Lists.{Bytes, byte, splice}
 use Rattle.d64spec.specs.Image.{disk, put}
 use Rattle.d64spec.proofs.SpliceLaws.{length-splice}
 use Rattle.d64spec.proofs.InPlaceLaws.{splice-disk}
@@ -23,6 +23,14 @@ module _ (img : Bytes) (n : ℕ) where
 
   pub isSector : {p : Bytes} → p ≡ disk img n → IsSector img n p
   isSector e = record { bytes = e; full = λ h. ap length e ∙ length-disk h }
+
+  -- its bytes are the image's
+  pub byte-disk : (i : ℕ) → i < 256 → byte (disk img n) i ≡ byte img (256 * n + i)
+  unfolding disk
+  byte-disk i h = getD-take 256 (drop (256 * n) img) i 0 h ∙ getD-drop (256 * n) img i 0
+
+  pub byte-disk-first : byte (disk img n) 0 ≡ byte img (256 * n)
+  byte-disk-first = let e : 256 * n + 0 ≡ 256 * n = omega arith in byte-disk 0 (omega arith) ∙ ap (byte img) e
 
   -- where the sector starts past the image's end, it is empty
   pub disk-past : length img ≤ 256 * n → [] ≡ disk img n

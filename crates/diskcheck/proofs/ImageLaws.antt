@@ -1,0 +1,241 @@
+-- The whole check: the size, the directory of track 18, then the slots and the map, each with the table that the step before it left (01, Order of the check).
+-- In order: the definition's check with the owner table; the directory as the code reads it; the cases of the code.
+use Prim.Native.Nat.{ℕ, zero, suc, _*_, _≤_, _<_}
+use native.Mathlib.Omega.{arith}
+use mathlib.Core.Path.{_≡_, refl, sym, ap, _∙_, fun-ext}
+use mathlib.Core.Bool.{Bool}
+use mathlib.Core.List.{List, [], _∷_, map}
+use lib.ListN.{length, take, drop}
+use lib.Dec.{eqb}
+use borrow.Author.Tests.{eq-eqb, ne-eqb}
+use Rattle.d64spec.specs.Lists.{Bytes, All, count, range, zeros}
+use Rattle.d64spec.specs.Answers.{Address, wrongMapEntry, Result, refused, done, _>>=_, _>>_, need}
+use Rattle.d64spec.specs.Geometry.{layout35, sectorNumber, sectorsOn, total, tracks, mapAddress, directoryStart}
+use Rattle.d64spec.specs.Image.{Disk, disk}
+use Rattle.d64spec.specs.Chain.{to, directoryLink, steps}
+use Rattle.d64spec.specs.Directory.{Slot, File, occupiedIn}
+use Rattle.d64spec.specs.Owner.{claimsOf}
+use Rattle.d64spec.specs.Map.{entryCorrect}
+use Rattle.d64spec.specs.Check.{DirectoryContents, checkDirectory, checkSlots, checkMap, checkDisk, checkImage, rightSize}
+use Rattle.d64spec.specs.Listing.{bytesOfTrack18}
+use Rattle.d64spec.proofs.BoundLaws.{sectorNumber-lt, map-on, directoryLink-on}
+use Rattle.d64spec.proofs.RunTheorem.{valid35, sectors35}
+use Rattle.d64spec.proofs.ListingTheorem.{track18-length}
+use Rattle.answers.specs.declared.Fault as code
+use Rattle.answers.specs.declared.Fault.the-variants.{WrongSize}
+use Rattle.answers.specs.declared.Verdict.{Verdict}
+use Rattle.answers.specs.declared.Verdict.the-variants.{Fine, Refused}
+use Rattle.answers.specs.Faults.{faultOf, verdictOf, whereFine}
+use Rattle.owners.specs.OwnerTable.{owned, freeBy, directoryTable, ownerTable}
+use Rattle.owners.proofs.WalkTable.{walk-lt}
+use Rattle.owners.proofs.SlotsTable.{slots-alike, slots-lt}
+use Rattle.owners.proofs.ClaimLaws.{length-directoryTable, directory-alike, freeBy-claims}
+use Rattle.directory.specs.declared.Directory.{Directory}
+use Rattle.directory.specs.Directories.{sectorsOf, firstRepeated, trackDirectory, sectorCount, tableAfter, DirectoryRead}
+use Rattle.directory.proofs.Track18Laws.{directory-of-track18, sectors-18}
+use Rattle.mapcheck.specs.MapChecks.{mapVerdict}
+use Rattle.diskcheck.specs.declared.Checked.{Checked}
+use Rattle.diskcheck.specs.SlotChecks.{occupiedFrom, tableWithFiles, slotsStep, SlotsReady}
+use Rattle.diskcheck.specs.ImageChecks.{Found, foundIn, directoryCount, tableFound, ImageChecked, restStep}
+use Rattle.diskcheck.proofs.TrackLaws.{track18-lent, map-lent, sectorsOf-whole, occupied-by-track18}
+
+-- ---- the definition's check with the owner table
+
+map-lt : sectorNumber layout35 mapAddress < total layout35
+map-lt = sectorNumber-lt layout35 mapAddress (map-on layout35 (valid35 .directory))
+
+-- step 4 reads the map sector only
+map-sector : (d : Disk) (free : Address → Bool) (l : List ℕ) → checkMap layout35 d free l ≡ checkMap layout35 (λ n. d (sectorNumber layout35 mapAddress)) free l
+map-sector d free [] = refl
+map-sector d free (t ∷ l) = ap (λ (r : Result (Unit {0})). need (entryCorrect layout35 free (d (sectorNumber layout35 mapAddress)) t) (wrongMapEntry t) >> r) (map-sector d free l)
+
+found-then : (x : Result (Unit {0})) (c : DirectoryContents) → foundIn (x >> done c) ≡ (x >> foundIn (done c))
+unfolding foundIn
+found-then (refused f) c = refl
+found-then (done u) c = refl
+
+module _ (img : Bytes) where
+  -- the slots and the map after a directory of these sectors
+  abbrev afterDirectory : List Address → Result Found
+  afterDirectory ds =
+      tableWithFiles (directoryTable layout35 ds) (checkSlots layout35 (disk img) (owned (directoryTable layout35 ds)) [] (occupiedIn layout35 (disk img) ds))
+      >>= (λ own. mapVerdict (disk img (sectorNumber layout35 mapAddress)) own >> done (record { directory = ds; table = own }))
+
+  abbrev claimed : List Address → List File → Address → Bool
+  claimed ds fs r = eqb (count (sectorNumber layout35 r) (claimsOf layout35 ds fs)) 0
+
+  abbrev afterFiles : List Address → Result (List File) → Result DirectoryContents
+  afterFiles ds x = x >>= (λ fs. checkMap layout35 (disk img) (claimed ds fs) (range 1 (tracks layout35)) >> done (record { walked = ds; found = fs }))
+
+  module _ (ds : List Address) (on : All (λ x. x < total layout35) (map (sectorNumber layout35) ds)) where
+    files-found : (x : Result (List File)) → checkSlots layout35 (disk img) (owned (directoryTable layout35 ds)) [] (occupiedIn layout35 (disk img) ds) ≡ x
+        → foundIn (afterFiles ds x)
+        ≡ (tableWithFiles (directoryTable layout35 ds) x >>= (λ own. mapVerdict (disk img (sectorNumber layout35 mapAddress)) own >> done (record { directory = ds; table = own })))
+    unfolding foundIn tableWithFiles mapVerdict ownerTable
+    files-found (refused f) e = refl
+    files-found (done fs) e =
+        let files-on = slots-lt layout35 (disk img) (owned (directoryTable layout35 ds)) [] (occupiedIn layout35 (disk img) ds) fs e in
+        let same : (r : Address) → claimed ds fs r ≡ freeBy layout35 (ownerTable layout35 ds fs) r = λ r. sym (freeBy-claims layout35 map-lt ds on fs files-on r) in
+        found-then (checkMap layout35 (disk img) (claimed ds fs) (range 1 (tracks layout35))) (record { walked = ds; found = fs })
+        ∙ ap (λ (x : Result (Unit {0})). x >> done (record { directory = ds; table = ownerTable layout35 ds fs }))
+        (map-sector (disk img) (claimed ds fs) (range 1 (tracks layout35))
+        ∙ ap (λ (free : Address → Bool). checkMap layout35 (λ n. disk img (sectorNumber layout35 mapAddress)) free (range 1 (tracks layout35))) (fun-ext same))
+
+    slots-found : foundIn (afterFiles ds (checkSlots layout35 (disk img) (sectorNumber layout35 mapAddress ∷ map (sectorNumber layout35) ds) [] (occupiedIn layout35 (disk img) ds))) ≡ afterDirectory ds
+    slots-found =
+        ap (λ (x : Result (List File)). foundIn (afterFiles ds x))
+        (slots-alike layout35 (disk img) (sectorNumber layout35 mapAddress ∷ map (sectorNumber layout35) ds) (owned (directoryTable layout35 ds)) [] (occupiedIn layout35 (disk img) ds) (directory-alike layout35 map-lt ds on))
+        ∙ files-found (checkSlots layout35 (disk img) (owned (directoryTable layout35 ds)) [] (occupiedIn layout35 (disk img) ds)) refl
+
+  -- THE DEFINITION'S CHECK is the directory's walk, then the rest from the table that the walk leaves
+  disk-found : foundIn (checkDisk layout35 (disk img)) ≡ (checkDirectory layout35 (disk img) >>= (λ ds. afterDirectory ds))
+  unfolding checkDisk checkDirectory foundIn
+  disk-found = go (checkDirectory layout35 (disk img)) refl
+    where
+      go : (w : Result (List Address)) → checkDirectory layout35 (disk img) ≡ w
+          → foundIn (w >>= (λ ds. afterFiles ds (checkSlots layout35 (disk img) (sectorNumber layout35 mapAddress ∷ map (sectorNumber layout35) ds) [] (occupiedIn layout35 (disk img) ds)))) ≡ (w >>= (λ ds. afterDirectory ds))
+      go (refused f) e = refl
+      go (done ds) e = slots-found ds (walk-lt layout35 (directoryLink layout35) (disk img) (directoryLink-on layout35) (steps layout35) (sectorNumber layout35 mapAddress ∷ []) mapAddress 255 (to directoryStart) ds (valid35 .directory) e)
+
+  -- the rest by slot numbers
+  rest-found : (ss : List ℕ) (n : ℕ) → All (λ s. s < 19) ss → n ≤ length ss
+      → afterDirectory (sectorsOf ss n) ≡ (restStep img (directoryTable layout35 (sectorsOf ss n)) ss n >>= (λ own. done (record { directory = sectorsOf ss n; table = own })))
+  unfolding restStep slotsStep
+  rest-found ss n inside whole =
+      let ds : List Address = sectorsOf ss n in
+      let own : List ℕ = directoryTable layout35 ds in
+      ap (λ (l : List Slot). tableWithFiles own (checkSlots layout35 (disk img) (owned own) [] l) >>= (λ own. mapVerdict (disk img (sectorNumber layout35 mapAddress)) own >> done (record { directory = ds; table = own }))) (occupied-by-track18 img ss n inside whole)
+      ∙ regroup (tableWithFiles own (checkSlots layout35 (disk img) (owned own) [] (occupiedFrom img ss 0 (8 * n)))) (mapVerdict (disk img (sectorNumber layout35 mapAddress))) (λ own. record { directory = ds; table = own })
+    where
+      regroup : (x : Result (List ℕ)) (m : List ℕ → Result (Unit {0})) (f : List ℕ → Found) → (x >>= (λ o. m o >> done (f o))) ≡ ((x >>= (λ o. m o >> done o)) >>= (λ o. done (f o)))
+      regroup (refused g) m f = refl
+      regroup (done o) m f = go (m o)
+        where
+          go : (r : Result (Unit {0})) → (r >> done (f o)) ≡ ((r >> done o) >>= (λ o. done (f o)))
+          go (refused g) = refl
+          go (done u) = refl
+
+-- ---- the slots, then the map, as the code has them
+
+module _ (img own ss : List ℕ) (n : ℕ) (own′ : List ℕ) where
+  -- a fault of step 3
+  pub slots-refused : (f : code.Fault) → whereFine (Refused f) own′ ≡ slotsStep img own ss 0 (8 * n) → whereFine (Refused f) own′ ≡ restStep img own ss n
+  unfolding whereFine restStep
+  slots-refused f e = ap (λ (x : Result (List ℕ)). x >>= (λ o. mapVerdict (disk img (sectorNumber layout35 mapAddress)) o >> done o)) e
+
+  -- no fault there: the map decides
+  pub slots-fine : (v : Verdict) (m : Bytes) → whereFine Fine own′ ≡ slotsStep img own ss 0 (8 * n) → verdictOf v ≡ mapVerdict m own′ → m ≡ take 256 (drop 91392 img) → whereFine v own′ ≡ restStep img own ss n
+  unfolding whereFine restStep verdictOf
+  slots-fine v m e decides sector =
+      tables v
+      ∙ ap (λ (x : Result (Unit {0})). x >> done own′) (decides ∙ ap (λ (b : Bytes). mapVerdict b own′) (sector ∙ map-lent img))
+      ∙ ap (λ (x : Result (List ℕ)). x >>= (λ o. mapVerdict (disk img (sectorNumber layout35 mapAddress)) o >> done o)) e
+    where
+      tables : (v : Verdict) → whereFine v own′ ≡ (verdictOf v >> done own′)
+      tables Fine = refl
+      tables (Refused f) = refl
+
+-- ---- refused images
+
+zeros-inside : (n : ℕ) → All (λ s. s < 19) (zeros n)
+zeros-inside zero = tt
+zeros-inside (suc n) = (omega arith, zeros-inside n)
+
+-- a fault of the definition, handed back with no sector and no owner
+pub checked-refused : {img : Bytes} {f : code.Fault} {r : Checked} → r ≡ record { verdict = Refused f; sectors = zeros 18; count = 0; owners = zeros 683 }
+    → foundIn (checkImage layout35 img) ≡ refused (faultOf f) → ImageChecked img r
+unfolding whereFine directoryCount tableFound
+checked-refused e h = rw e (record {
+  told = sym h;
+  count = rw h;
+  owners = rw (h, sectors35);
+  rest = refl;
+  few = omega arith;
+  inside = zeros-inside 18;
+})
+
+-- step 1
+pub size-wrong : (img : Bytes) → (length img ≡ 174848 → ⊥) → foundIn (checkImage layout35 img) ≡ refused (faultOf WrongSize)
+unfolding checkImage rightSize foundIn faultOf
+size-wrong img h = rw (ap (λ (n : ℕ). eqb (length img) (256 * n)) sectors35 ∙ ne-eqb (length img) 174848 h)
+
+-- ---- images of the right size, whose track 18 the code has read
+
+-- what the directory's reading found nothing wrong in
+record DirectoryFine (img : Bytes) (d : Directory) : Type 0 where
+  walked : checkDirectory layout35 (disk img) ≡ done (sectorsOf (d .sectors) (d .count))
+  whole : d .count ≤ length (d .sectors)
+  owners : d .owners ≡ directoryTable layout35 (sectorsOf (d .sectors) (d .count))
+
+module _ (img : Bytes) {d : Directory} (size : length img ≡ 174848) (read : DirectoryRead (take 4864 (drop 91392 img)) d) where
+  size-right : foundIn (checkImage layout35 img) ≡ (checkDirectory layout35 (disk img) >>= (λ ds. afterDirectory img ds))
+  unfolding checkImage rightSize
+  size-right = rw (ap (λ (n : ℕ). eqb (length img) (256 * n)) sectors35 ∙ eq-eqb (length img) 174848 size) (disk-found img)
+
+  directory-same : trackDirectory (take 4864 (drop 91392 img)) ≡ checkDirectory layout35 (disk img)
+  unfolding trackDirectory
+  directory-same =
+      let long : length (bytesOfTrack18 layout35 img) ≡ 256 * sectorsOn layout35 18 = track18-length img size ∙ sym (ap (λ (n : ℕ). 256 * n) sectors-18) in
+      ap trackDirectory (track18-lent img) ∙ rw (eq-eqb (length (bytesOfTrack18 layout35 img)) (256 * sectorsOn layout35 18) long) (directory-of-track18 img)
+
+  -- a fault of step 2
+  pub directory-refused : (f : code.Fault) → d .verdict ≡ Refused f → foundIn (checkImage layout35 img) ≡ refused (faultOf f)
+  unfolding whereFine
+  directory-refused f e = size-right ∙ rw (sym directory-same ∙ sym (rw e at (read .walked)))
+
+  module _ (fine : d .verdict ≡ Fine) where
+    directory-fine : DirectoryFine img d
+    unfolding whereFine sectorCount tableAfter
+    directory-fine =
+        let done-with : trackDirectory (take 4864 (drop 91392 img)) ≡ done (sectorsOf (d .sectors) (d .count)) = sym (rw fine at (read .walked)) in
+        record {
+          walked = sym directory-same ∙ done-with;
+          whole = sectorsOf-whole (d .sectors) (d .count) (read .count ∙ ap sectorCount done-with);
+          owners = read .owners ∙ ap tableAfter done-with;
+        }
+
+    -- what steps 3 and 4 ask
+    pub directory-ready : SlotsReady img (d .owners) (d .sectors) (d .count) (d .repeated)
+    directory-ready = record {
+      size = size;
+      long = ap length (directory-fine .owners) ∙ length-directoryTable layout35 (sectorsOf (d .sectors) (d .count)) ∙ sectors35;
+      inside = read .inside;
+      few = read .few;
+      first = read .repeated ∙ ap (λ (b : Bytes). firstRepeated b (d .sectors) 0 (8 * d .count)) (track18-lent img);
+    }
+
+    module _ (own : List ℕ) where
+      -- STEPS 3 AND 4 after the directory give what the definition finds
+      rest-told : (v : Verdict) → whereFine v own ≡ restStep img (d .owners) (d .sectors) (d .count)
+          → whereFine v (record { directory = sectorsOf (d .sectors) (d .count); table = own }) ≡ foundIn (checkImage layout35 img)
+      unfolding whereFine
+      rest-told v e =
+          let w = directory-fine in
+          tables v
+          ∙ ap (λ (x : Result (List ℕ)). x >>= (λ o. done (record { directory = sectorsOf (d .sectors) (d .count); table = o }))) (e ∙ ap (λ (o : List ℕ). restStep img o (d .sectors) (d .count)) (w .owners))
+          ∙ sym (rest-found img (d .sectors) (d .count) (read .inside) (w .whole))
+          ∙ sym (size-right ∙ rw (w .walked))
+        where
+          tables : (v : Verdict) → whereFine {A = Found} v (record { directory = sectorsOf (d .sectors) (d .count); table = own }) ≡ (whereFine v own >>= (λ o. done (record { directory = sectorsOf (d .sectors) (d .count); table = o })))
+          tables Fine = refl
+          tables (Refused f) = refl
+
+      -- a fault of step 3 or 4
+      pub rest-refused : (f : code.Fault) → whereFine (Refused f) own ≡ restStep img (d .owners) (d .sectors) (d .count) → foundIn (checkImage layout35 img) ≡ refused (faultOf f)
+      unfolding whereFine
+      rest-refused f e = sym (rest-told (Refused f) e)
+
+      -- no fault
+      pub checked-fine : whereFine Fine own ≡ restStep img (d .owners) (d .sectors) (d .count)
+          → ImageChecked img (record { verdict = Fine; sectors = d .sectors; count = d .count; owners = own })
+      unfolding whereFine directoryCount tableFound sectorCount
+      checked-fine e =
+          let found = rest-told Fine e in
+          record {
+            told = found;
+            count = read .count ∙ ap sectorCount (directory-same ∙ directory-fine .walked) ∙ ap directoryCount found;
+            owners = ap tableFound found;
+            rest = read .rest;
+            few = read .few;
+            inside = read .inside;
+          }

@@ -1,0 +1,6 @@
+pub mod TrackLaws
+pub mod ChainLaws
+pub mod SlotLaws
+pub mod SlotsLaws
+pub mod ImageLaws
+pub mod CheckedLaws

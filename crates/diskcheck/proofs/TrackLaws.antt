@@ -1,0 +1,72 @@
+-- Track 18 of an image, as the code lends it: 4,864 bytes from byte 91,392 on (01, Tracks and sectors: 18/0 is 357).
+-- In order: the parts that are lent; a slot in them; the occupied slots of the image are those of its track 18.
+use Prim.Native.Nat.{ℕ, zero, suc, _*_, _/_, _≤_, _<_}
+use native.Mathlib.Omega.{arith}
+use mathlib.Core.Path.{_≡_, refl, sym, ap, _∙_}
+use mathlib.Core.Bool.{not}
+use mathlib.Core.List.{List, [], _∷_}
+use lib.ListN.{length, take, drop, getD, length-take, length-map}
+use Rattle.d64spec.specs.Lists.{Bytes, All, filter}
+use Rattle.d64spec.specs.Answers.{address}
+use Rattle.d64spec.specs.Geometry.{layout35, sectorNumber, firstOn, sectorsOn, mapAddress}
+use Rattle.d64spec.specs.Image.{disk}
+use Rattle.d64spec.specs.Directory.{isEmpty, occupiedIn}
+use Rattle.d64spec.specs.Listing.{bytesOfTrack18, diskOfTrack18}
+use Rattle.d64spec.proofs.FrameLaws.{same-slots}
+use Rattle.d64spec.proofs.ListingTheorem.{track18-length, track18-sectors}
+use Rattle.directory.specs.Directories.{sectorsOf, slotBytes, IsSlot}
+use Rattle.directory.proofs.SlotListLaws.{disk-of-track18, occupied-by-number}
+use Rattle.directory.proofs.Track18Laws.{number-18}
+use Rattle.diskcheck.specs.SlotChecks.{imageSlot, occupiedFrom}
+
+-- ---- parts of the image
+
+pub track18-lent : (img : Bytes) → take 4864 (drop 91392 img) ≡ bytesOfTrack18 layout35 img
+unfolding bytesOfTrack18 layout35 sectorsOn sectorNumber firstOn
+track18-lent img = refl
+
+pub map-lent : (img : Bytes) → take 256 (drop 91392 img) ≡ disk img (sectorNumber layout35 mapAddress)
+unfolding disk layout35 sectorNumber firstOn
+map-lent img = refl
+
+-- ---- a slot
+
+all-getD : {A : Type 0} (P : A → Type 0) (l : List A) → All P l → (i : ℕ) (z : A) → P z → P (getD l i z)
+all-getD P [] a i z h = h
+all-getD P (x ∷ l) a zero z h = a .0
+all-getD P (x ∷ l) a (suc i) z h = all-getD P l (a .1) i z h
+
+-- a slot read from track 18 as it is lent
+pub record LentSlot (img ss : List ℕ) (k : ℕ) (b : Bytes) : Type 0 where
+  pub is : b ≡ imageSlot img ss k .bytes
+  pub full : length b ≡ 30
+
+pub slot-lent : {img ss : List ℕ} {k : ℕ} {b : Bytes} → length img ≡ 174848 → All (λ s. s < 19) ss → IsSlot (take 4864 (drop 91392 img)) ss k b → LentSlot img ss k b
+slot-lent {img} {ss} {k} {b} size inside s =
+    record {
+      is = s .bytes ∙ ap (λ (t : Bytes). slotBytes t ss k) (track18-lent img);
+      full = s .full (ap length (track18-lent img) ∙ track18-length img size) (all-getD (λ s. s < 19) ss inside (k / 8) 0 (omega arith));
+    }
+
+-- ---- the directory's sectors and the occupied slots
+
+-- as many sectors as are counted
+pub sectorsOf-whole : (ss : List ℕ) (n : ℕ) → n ≡ length (sectorsOf ss n) → n ≤ length ss
+sectorsOf-whole ss n e = omega (arith, length-map (take n ss) (λ s. address 18 s), length-take n ss)
+
+module _ (img : Bytes) where
+  -- a directory sector of track 18 alone is the image's
+  sector-same : (s : ℕ) → s < 19 → disk img (sectorNumber layout35 (address 18 s)) ≡ diskOfTrack18 layout35 (bytesOfTrack18 layout35 img) (sectorNumber layout35 (address 18 s))
+  sector-same s h = ap (disk img) (number-18 s) ∙ sym (track18-sectors img s h) ∙ sym (disk-of-track18 (bytesOfTrack18 layout35 img) s)
+
+  sectors-same : (ss : List ℕ) (n : ℕ) → All (λ s. s < 19) ss
+      → All (λ r. disk img (sectorNumber layout35 r) ≡ diskOfTrack18 layout35 (bytesOfTrack18 layout35 img) (sectorNumber layout35 r)) (sectorsOf ss n)
+  sectors-same ss zero a = tt
+  sectors-same [] (suc n) a = tt
+  sectors-same (s ∷ ss) (suc n) a = (sector-same s (a .0), sectors-same ss n (a .1))
+
+  -- THE OCCUPIED SLOTS of an image, by the numbers of the slots on its track 18
+  pub occupied-by-track18 : (ss : List ℕ) (n : ℕ) → All (λ s. s < 19) ss → n ≤ length ss → occupiedIn layout35 (disk img) (sectorsOf ss n) ≡ occupiedFrom img ss 0 (8 * n)
+  occupied-by-track18 ss n a h =
+      ap (filter (λ s. not (isEmpty (s .bytes)))) (sym (same-slots layout35 (disk img) (diskOfTrack18 layout35 (bytesOfTrack18 layout35 img)) 0 (sectorsOf ss n) (sectors-same ss n a)))
+      ∙ occupied-by-number (bytesOfTrack18 layout35 img) ss n h

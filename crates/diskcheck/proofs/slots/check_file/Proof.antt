@@ -1,0 +1,65 @@
+-- `diskcheck::slots::check_file` meets its contract: the chain's claim decides first, then the count.
+use native.Mathlib.Omega.{arith}
+use borrow.Author.Needs.{needs}
+use Rattle.diskcheck.proofs.SlotLaws.{file-refused, file-fine, file-miscounted}
+use Rattle.diskcheck.proofs.slots.check_file.Statement.{statement}
+use Rattle.diskcheck.proofs.slots.check_file.Tie as tie
+
+shared-slice-read-claim-chain : tie.Need-shared-slice-read-claim-chain
+shared-slice-read-claim-chain c = search needs
+
+shared-slice-read-t13 : tie.Need-shared-slice-read-t13
+shared-slice-read-t13 c = search needs
+
+add-claim-chain : tie.Need-add-claim-chain
+add-claim-chain c = search needs
+
+claim-chain-requires : tie.Need-claim-chain-requires
+claim-chain-requires c κs = search needs
+
+enum-known-claim : tie.Need-enum-known-claim
+enum-known-claim c = search needs
+
+enum-known-claim-2 : tie.Need-enum-known-claim-2
+enum-known-claim-2 c = search needs
+
+sector-count-requires : tie.Need-sector-count-requires
+sector-count-requires c κs = search needs
+
+cast-if1 : tie.Need-cast-if1
+cast-if1 c = search needs
+
+returns : tie.Need-returns
+returns c =
+    let claimed = c .before .before .before .claim-chain .ensures in
+    file-refused _ _ _ _ _ _ (rw (c .before .claim .given .1) at claimed)
+
+returns-2 : tie.Need-returns-2
+returns-2 c =
+    let ended = c .before .before .before in
+    let claimed = ended .before .before .claim-chain .ensures in
+    let count = c .before .sector-count .ensures .count in
+    file-fine _ _ _ _ _ _ (rw (ended .claim2 .given .1) at claimed) (omega arith)
+
+returns-3 : tie.Need-returns-3
+returns-3 c =
+    let ended = c .before .before .before in
+    let claimed = ended .before .before .claim-chain .ensures in
+    let count = c .before .sector-count .ensures .count in
+    file-miscounted _ _ _ _ _ _ (rw (ended .claim2 .given .1) at claimed) (λ same. c .if1 .left (omega arith))
+
+pub check-file-spec : {M : Type 1} → statement M
+check-file-spec =
+    tie.close
+    (tie.spec
+    shared-slice-read-claim-chain
+    shared-slice-read-t13
+    add-claim-chain
+    claim-chain-requires
+    enum-known-claim
+    enum-known-claim-2
+    sector-count-requires
+    cast-if1
+    returns
+    returns-2
+    returns-3)

@@ -1,0 +1,90 @@
+-- `diskcheck::slots::check_slot` meets its contract: the slot is read from track 18 as it is lent (`lent`); an empty one passes, else its entry decides
+-- first, then its chain and its count.
+use native.Mathlib.Omega.{arith}
+use borrow.Author.Needs.{needs}
+use Rattle.diskcheck.proofs.TrackLaws.{LentSlot, slot-lent}
+use Rattle.diskcheck.proofs.SlotLaws.{slot-empty, slot-refused, slot-file}
+use Rattle.diskcheck.proofs.slots.check_slot.Statement.{statement}
+use Rattle.diskcheck.proofs.slots.check_slot.Tie as tie
+
+-- where the slot has been read
+lent : (c : tie.After-slot-at) → let a = c .before .before .before .args in LentSlot (a .img .now) (a .sectors .now) (a .k) (c .slot-at .result .now)
+lent c =
+    let p = c .before .before .before .pre in
+    slot-lent (p .size) (p .inside) (c .slot-at .ensures)
+
+sub-slot-at : tie.Need-sub-slot-at
+sub-slot-at c = search needs
+
+part-slot-at-start : tie.Need-part-slot-at-start
+part-slot-at-start c = search needs
+
+part-slot-at-end : tie.Need-part-slot-at-end
+part-slot-at-end c = search needs
+
+slot-at-requires : tie.Need-slot-at-requires
+slot-at-requires c κs = search needs
+
+shared-slice-read-if1 : tie.Need-shared-slice-read-if1
+shared-slice-read-if1 c = omega (arith, lent (c .before) .full)
+
+returns : tie.Need-returns
+returns c =
+    let s = c .before .before in
+    slot-empty _ _ _ _ _ _ (s .before .before .before .pre) (lent s .is) (omega arith)
+
+element-copy-out-t16 : tie.Need-element-copy-out-t16
+element-copy-out-t16 c = search needs
+
+cast-t20 : tie.Need-cast-t20
+cast-t20 c = search needs
+
+check-entry-requires : tie.Need-check-entry-requires
+check-entry-requires c κs = search needs
+
+enum-known-entry : tie.Need-enum-known-entry
+enum-known-entry c = search needs
+
+enum-told : tie.Need-enum-told
+enum-told c = search needs
+
+check-file-requires : tie.Need-check-file-requires
+check-file-requires c κs =
+    let s = c .before .before .before .before .before .before .before in
+    let p = s .before .before .before .pre in
+    record { size = p .size; long = p .long; full = lent s .full; slot = p .within }
+
+returns-2 : tie.Need-returns-2
+returns-2 c =
+    let e = c .before .before .before in
+    let i = e .before .before in
+    let s = i .before .before in
+    slot-refused _ _ _ _ _ _ (s .before .before .before .pre) (lent s .is) (λ empty. i .if1 .left (omega arith)) _ _ (rw (c .before .entry .given .1) at (e .check-entry .ensures))
+
+returns-3 : tie.Need-returns-3
+returns-3 c =
+    let t = c .before .before in
+    let e = t .before .before in
+    let i = e .before .before in
+    let s = i .before .before in
+    slot-file _ _ _ _ _ _ (s .before .before .before .pre) (lent s .is) (λ empty. i .if1 .left (omega arith)) _ _ (rw (t .enum-told .given .1) at (e .check-entry .ensures))
+    (c .check-file .ensures)
+
+pub check-slot-spec : {M : Type 1} → statement M
+check-slot-spec =
+    tie.close
+    (tie.spec
+    sub-slot-at
+    part-slot-at-start
+    part-slot-at-end
+    slot-at-requires
+    shared-slice-read-if1
+    returns
+    element-copy-out-t16
+    cast-t20
+    check-entry-requires
+    enum-known-entry
+    enum-told
+    check-file-requires
+    returns-2
+    returns-3)

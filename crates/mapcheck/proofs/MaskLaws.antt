@@ -1,0 +1,76 @@
+-- Numbers made of bits (`binary`). In order: one bit more; the size; two are equal exactly where all their bits are; zeros at the top;
+-- the three bitmap bytes of an entry are its 24 bits. Assumes nothing.
+use Prim.Native.Nat.{ℕ, zero, suc, _+_, _*_, _^_, _≤_, _<_}
+use native.Mathlib.Omega.{arith}
+use native.Mathlib.Decide.{ℕ-discrete}
+use mathlib.Core.Path.{_≡_, refl, sym, ap, _∙_}
+use mathlib.Core.List.{map}
+use Rattle.d64spec.specs.Lists.{Bytes, byte, range, sum}
+use Rattle.d64spec.proofs.MapWriteLaws.{sum-same}
+use Rattle.mapentry.specs.MapEntry.{entryBit}
+use Rattle.mapentry.proofs.ShapeLaws.{EntryShape}
+use Rattle.mapentry.proofs.OnesLaws.{sum-map-last}
+use Rattle.bamlaws.proofs.BitChangeLaws.{byte-together}
+use Rattle.mapcheck.specs.MapChecks.{binary, bitmapOf}
+
+module _ (f : ℕ → ℕ) where
+  pub binary-more : (n : ℕ) → binary f (suc n) ≡ binary f n + f n * 2 ^ n
+  unfolding binary
+  binary-more n =
+      let last : 0 + n ≡ n = omega arith in
+      sum-map-last (λ s. f s * 2 ^ s) 0 n ∙ ap (λ (k : ℕ). sum (map (λ s. f s * 2 ^ s) (range 0 n)) + f k * 2 ^ k) last
+
+-- one digit before a smaller number
+digit-lt : (b v p : ℕ) → v ≤ 1 → b < p → b + v * p < p + p
+digit-lt b zero p h l = omega arith
+digit-lt b (suc zero) p h l = omega arith
+digit-lt b (suc (suc v)) p h l = absurd (omega arith)
+
+digit-same : (a b u v p : ℕ) → u ≤ 1 → v ≤ 1 → a < p → b < p → a + u * p ≡ b + v * p → (u ≡ v) × (a ≡ b)
+digit-same a b zero zero p hu hv ha hb e = (refl, omega arith)
+digit-same a b zero (suc zero) p hu hv ha hb e = absurd (omega arith)
+digit-same a b zero (suc (suc v)) p hu hv ha hb e = absurd (omega arith)
+digit-same a b (suc zero) zero p hu hv ha hb e = absurd (omega arith)
+digit-same a b (suc zero) (suc zero) p hu hv ha hb e = (refl, omega arith)
+digit-same a b (suc zero) (suc (suc v)) p hu hv ha hb e = absurd (omega arith)
+digit-same a b (suc (suc u)) v p hu hv ha hb e = absurd (omega arith)
+
+pub binary-lt : (f : ℕ → ℕ) → ((s : ℕ) → f s ≤ 1) → (n : ℕ) → binary f n < 2 ^ n
+unfolding binary
+binary-lt f bit zero = omega arith
+binary-lt f bit (suc n) =
+    omega (arith, binary-more f n, digit-lt (binary f n) (f n) (2 ^ n) (bit n) (binary-lt f bit n))
+
+module _ (f h : ℕ → ℕ) where
+  -- alike in all bits, alike as numbers
+  pub binary-same : (n : ℕ) → ((s : ℕ) → s < n → f s ≡ h s) → binary f n ≡ binary h n
+  unfolding binary
+  binary-same n e = sum-same (λ s. f s * 2 ^ s) (λ s. h s * 2 ^ s) 0 n (λ s l u. ap (λ (x : ℕ). x * 2 ^ s) (e s (omega arith)))
+
+  -- alike as numbers, alike in all bits
+  pub bits-same : ((s : ℕ) → f s ≤ 1) → ((s : ℕ) → h s ≤ 1) → (n : ℕ) → binary f n ≡ binary h n → (s : ℕ) → s < n → f s ≡ h s
+  bits-same bf bh zero e s l = absurd (omega arith)
+  bits-same bf bh (suc n) e s l =
+      let d = digit-same (binary f n) (binary h n) (f n) (h n) (2 ^ n) (bf n) (bh n) (binary-lt f bf n) (binary-lt h bh n)
+      (sym (binary-more f n) ∙ e ∙ binary-more h n) in
+      elim (ℕ-discrete s n) [
+        | yes q ↦ ap f q ∙ d .0 ∙ ap h (sym q)
+        | no q ↦ bits-same bf bh n (d .1) s (omega arith)
+      ]
+
+-- bits that are 0 add nothing
+pub binary-past : (f : ℕ → ℕ) (n : ℕ) → ((s : ℕ) → n ≤ s → f s ≡ 0) → (k : ℕ) → binary f (n + k) ≡ binary f n
+binary-past f n none zero = let z : n + 0 ≡ n = omega arith in ap (binary f) z
+binary-past f n none (suc k) =
+    let z : n + suc k ≡ suc (n + k) = omega arith in
+    let top : f (n + k) * 2 ^ (n + k) ≡ 0 * 2 ^ (n + k) = ap (λ (x : ℕ). x * 2 ^ (n + k)) (none (n + k) (omega arith)) in
+    ap (binary f) z ∙ binary-more f (n + k) ∙ omega (arith, binary-past f n none k)
+
+-- the three bitmap bytes are the 24 bits
+pub bitmap-binary : (e : Bytes) → EntryShape e → bitmapOf e ≡ binary (entryBit e) 24
+unfolding bitmapOf binary entryBit
+bitmap-binary e shape =
+    let low = byte-together (byte e 1) (shape .small 1) in
+    let middle = byte-together (byte e 2) (shape .small 2) in
+    let high = byte-together (byte e 3) (shape .small 3) in
+    omega arith

@@ -1,0 +1,84 @@
+-- `mapcheck::check_map`. The loop keeps `Checking`: the tracks passed are correct, so that the rest decides. What falls is the number of tracks left.
+-- Assumes nothing.
+use Prim.Native.Nat.{_-_}
+use native.Mathlib.Omega.{arith}
+use borrow.Author.Needs.{needs}
+use borrow.Author.Tests.{not-true, not-false}
+use Rattle.mapsector.proofs.MapShapeLaws.{MapShape, map-shaped}
+use Rattle.answers.specs.Faults.{faultOf, verdictOf}
+use Rattle.mapcheck.proofs.StepLaws.{Checking, checking-start, checking-moved, checking-wrong, checking-finished}
+use Rattle.mapcheck.proofs.check_map.Statement.{statement}
+use Rattle.mapcheck.proofs.check_map.Tie as tie
+
+abbrev Inv-loop : tie.InvT-loop
+Inv-loop sector own map track₀ track = Checking sector own track
+
+abbrev μ-loop : tie.MeasureT-loop
+μ-loop sector own map track₀ track = 36 - track
+
+-- the loaded map has 35 entries of four bytes
+shape : (c : tie.After-load-map Inv-loop μ-loop) → MapShape (c .load-map .result)
+shape c = map-shaped _ _ (c .load-map .ok)
+
+load-map-requires : tie.Need-load-map-requires Inv-loop μ-loop
+load-map-requires c κs = search needs
+
+loop-holds : tie.Need-loop-holds Inv-loop μ-loop
+loop-holds c = checking-start _ _
+
+sub-i : tie.Need-sub-i Inv-loop μ-loop
+sub-i c = search needs
+
+cast-i : tie.Need-cast-i Inv-loop μ-loop
+cast-i c = search needs
+
+mul-entry : tie.Need-mul-entry Inv-loop μ-loop
+mul-entry c = search needs
+
+array-copy-out-entry : tie.Need-array-copy-out-entry Inv-loop μ-loop
+array-copy-out-entry c = search needs
+
+entry-correct-requires : tie.Need-entry-correct-requires Inv-loop μ-loop
+entry-correct-requires c κs = search needs
+
+returns : tie.Need-returns Inv-loop μ-loop
+unfolding verdictOf faultOf
+returns c =
+    let told = c .before .entry-correct in
+    let at = c .before .before .before .before in
+    checking-wrong (at .loop .inv) (omega arith) (at .before .load-map .ensures) (shape (at .before)) (told .ensures) (not-true _ (c .if1 .taken))
+
+add-track : tie.Need-add-track Inv-loop μ-loop
+add-track c = search needs
+
+loop-less : tie.Need-loop-less Inv-loop μ-loop
+loop-less c = search needs
+
+loop-again : tie.Need-loop-again Inv-loop μ-loop
+loop-again c =
+    let told = c .before .entry-correct in
+    let at = c .before .before .before .before in
+    checking-moved (at .loop .inv) (omega arith) (at .before .load-map .ensures) (shape (at .before)) (told .ensures) (not-false _ (c .if1 .left))
+
+returns-2 : tie.Need-returns-2 Inv-loop μ-loop
+unfolding verdictOf
+returns-2 c = checking-finished (c .before .loop .inv) (omega arith)
+
+pub check-map-spec : {M : Type 1} → statement M
+check-map-spec =
+    tie.close
+    (tie.spec
+    Inv-loop
+    μ-loop
+    load-map-requires
+    loop-holds
+    sub-i
+    cast-i
+    mul-entry
+    array-copy-out-entry
+    entry-correct-requires
+    returns
+    add-track
+    loop-less
+    loop-again
+    returns-2)

@@ -1,0 +1,5 @@
+pub mod TableLaws
+pub mod WalkTable
+pub mod Walking
+pub mod SlotsTable
+pub mod ClaimLaws
