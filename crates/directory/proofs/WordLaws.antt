@@ -1,19 +1,39 @@
 -- Names as two numbers of 64 bits: two name fields are equal exactly where both numbers are, since their bytes are digits to the base 256.
--- In order: digits; four bytes; a name field; two slots. Assumes nothing.
+-- In order: bytes; digits; four and eight bytes; a name field; two slots. Assumes nothing.
 use mathlib.Core.Path.{_≡_, refl, sym, ap, _∙_}
 use mathlib.Core.Bool.{Bool, true, false, _&&_}
 use Prim.Native.Nat.{ℕ, zero, suc, _+_, _*_, _-_, _≤_, _<_}
 use native.Mathlib.Omega.{arith}
 use native.Mathlib.Decide.{decLe}
-use lib.ListN.{length, take, drop, length-take, length-drop}
+use lib.ListN.{length, take, drop, length-take, List·getD-eq-default}
 use lib.Seq.{getD-drop, getD-take, ext-getD}
 use lib.Dec.{eqb}
 use borrow.Author.Tests.{eqb-true, eqb-false}
 use Rattle.d64spec.specs.Lists.{Bytes, byte, equal}
 use Rattle.d64spec.specs.Directory.{nameField}
 use Rattle.d64spec.proofs.ListLaws.{equal-refl, eq-of-equal}
+use Rattle.names.proofs.NameLaws.{length-nameField, byte-nameField}
 use Rattle.directory.specs.NameWords.{halfOf, wordOf}
-use Rattle.directory.proofs.SlotBytesLaws.{Small, small-drop, small-take}
+
+-- ---- bytes
+
+-- every number is a byte
+abbrev Small : Bytes → Type 0
+Small l = (i : ℕ) → byte l i < 256
+
+small-drop : (n : ℕ) (l : Bytes) → Small l → Small (drop n l)
+small-drop n l small i = rw (getD-drop n l i 0) (small (n + i))
+
+small-take : (n : ℕ) (l : Bytes) → Small l → Small (take n l)
+small-take n l small i = elim (decLe (suc i) n) [
+  | yes h ↦ rw (getD-take n l i 0 h) (small i)
+  | no h ↦ let past : byte (take n l) i ≡ 0 = List·getD-eq-default (take n l) 0 (omega (arith, length-take n l)) in omega arith
+]
+
+-- thirty bytes: what a slot has
+pub record Thirty (s : Bytes) : Type 0 where
+  pub long : length s ≡ 30
+  pub small : (i : ℕ) → byte s i < 256
 
 -- ---- digits
 
@@ -24,13 +44,13 @@ digit-eq a x c y low high e = (omega arith, omega arith)
 half-eq : (a x c y : ℕ) → a < 4294967296 → c < 4294967296 → a + 4294967296 * x ≡ c + 4294967296 * y → (a ≡ c) × (x ≡ y)
 half-eq a x c y low high e = (omega arith, omega arith)
 
--- ---- four bytes
+-- ---- four and eight bytes
+
+half-small : (f : Bytes) → Small f → (a : ℕ) → halfOf f a < 4294967296
+unfolding halfOf
+half-small f small a = omega (arith, small a, small (a + 1), small (a + 2), small (a + 3))
 
 module _ (f g : Bytes) (small-f : Small f) (small-g : Small g) where
-  half-small : (h : Bytes) → Small h → (a : ℕ) → halfOf h a < 4294967296
-  unfolding halfOf
-  half-small h small a = omega (arith, small a, small (a + 1), small (a + 2), small (a + 3))
-
   bytes-of-half : (a : ℕ) → halfOf f a ≡ halfOf g a → (i : ℕ) → i < 4 → byte f (a + i) ≡ byte g (a + i)
   unfolding halfOf
   bytes-of-half a e i h =
@@ -58,13 +78,6 @@ module _ (f g : Bytes) (small-f : Small f) (small-g : Small g) where
       ]
 
 -- ---- a name field
-
-length-nameField : (s : Bytes) → length s ≡ 30 → length (nameField s) ≡ 16
-length-nameField s long = simp (length-take, length-drop) (omega arith)
-
--- byte n of a slot is byte n - 3 of its name field
-byte-nameField : (s : Bytes) (n i : ℕ) → n ≡ 3 + i → i < 16 → byte s n ≡ byte (nameField s) i
-byte-nameField s n i e h = ap (byte s) e ∙ sym (getD-take 16 (drop 3 s) i 0 h ∙ getD-drop 3 s i 0)
 
 half-nameField : (s : Bytes) (n a : ℕ) → n ≡ 3 + a → a + 4 ≤ 16 → halfOf s n ≡ halfOf (nameField s) a
 unfolding halfOf
@@ -95,17 +108,17 @@ unequal f g differ = go (equal f g) refl
 
 -- ---- two slots
 
-module _ (s t : Bytes) (long-s : length s ≡ 30) (long-t : length t ≡ 30) (small-s : Small s) (small-t : Small t) where
+module _ (s t : Bytes) (whole-s : Thirty s) (whole-t : Thirty t) where
   field-of-words : wordOf s 3 ≡ wordOf t 3 → wordOf s 11 ≡ wordOf t 11 → nameField s ≡ nameField t
   field-of-words low high =
       let f = nameField s in
       let g = nameField t in
-      let small-f : Small f = small-take 16 (drop 3 s) (small-drop 3 s small-s) in
-      let small-g : Small g = small-take 16 (drop 3 t) (small-drop 3 t small-t) in
+      let small-f : Small f = small-take 16 (drop 3 s) (small-drop 3 s (whole-s .small)) in
+      let small-g : Small g = small-take 16 (drop 3 t) (small-drop 3 t (whole-t .small)) in
       let first = words-nameField s t 3 0 (omega arith) (omega arith) low in
       let second = words-nameField s t 11 8 (omega arith) (omega arith) high in
-      let long-f = length-nameField s long-s in
-      let long-g = length-nameField t long-t in
+      let long-f = length-nameField s (omega (arith, whole-s .long)) in
+      let long-g = length-nameField t (omega (arith, whole-t .long)) in
       ext-getD 0 f g (omega arith) (λ i h. elim (decLe 8 i) [
         | yes past ↦
             let at : 8 + (i - 8) ≡ i = omega arith in

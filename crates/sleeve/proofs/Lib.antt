@@ -6,3 +6,4 @@ pub mod SlotLineLaws
 pub mod CountLaws
 pub mod TextLaws
 pub mod ReplyLaws
+pub mod OutputLaws

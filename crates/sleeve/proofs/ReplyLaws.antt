@@ -5,11 +5,11 @@ use native.Mathlib.Omega.{arith}
 use mathlib.Core.Path.{_≡_, refl, sym, ap, _∙_}
 use mathlib.Core.Bool.{Bool, true, false}
 use mathlib.Core.List.{List, [], _∷_, _++_}
-use lib.ListN.{length, take, drop, length-take}
+use lib.ListN.{length, take, drop, length-map, length-take}
 use lib.Dec.{eqb, leb}
 use borrow.Author.Tests.{eqb-true, le-leb, lt-leb}
 use Rattle.d64spec.specs.Lists.{Bytes, All, splice}
-use Rattle.d64spec.specs.Answers.{Address, Result, refused, done, wrongSize, wrongBuffer, unplaced, answerOf, _>>=_, _>>_, need}
+use Rattle.d64spec.specs.Answers.{Address, address, Result, refused, done, wrongSize, wrongBuffer, unplaced, answerOf, _>>=_, _>>_, need}
 use Rattle.d64spec.specs.Answers as answer
 use Rattle.d64spec.specs.Geometry.{layout35, sectorsOn}
 use Rattle.d64spec.specs.Directory.{Slot, occupiedIn}
@@ -21,7 +21,7 @@ use Rattle.answers.specs.declared.Fault.{Fault}
 use Rattle.answers.specs.declared.Fault.the-variants.{WrongBuffer}
 use Rattle.answers.specs.declared.Report.{Report}
 use Rattle.answers.specs.declared.Verdict.the-variants.{Fine, Refused}
-use Rattle.directory.specs.Directories.{DirectoryRead, sectorsOf, trackDirectory}
+use Rattle.directory.specs.Directories.{DirectoryRead, sectorCount, sectorsOf, trackDirectory}
 use Rattle.directory.specs.declared.Directory.{Directory}
 use Rattle.directory.proofs.SlotListLaws.{occupied-by-number}
 use Rattle.directory.proofs.Track18Laws.{sectors-18}
@@ -103,10 +103,15 @@ module _ (b text : Bytes) {r : Directory} (read : DirectoryRead b r) where
       let found : callListing layout35 b text ≡ refused (faultOf f) = listing-found b text ∙ rw (sym (read .walked), e) in
       record { reply = rw (same, found); sectors = ap (λ (x : Report). x .sectors) same }
 
-  module _ (size : length (r .sectors) ≡ 18) (fine : r .verdict ≡ Fine) where
+  module _ (fine : r .verdict ≡ Fine) where
     walked : trackDirectory b ≡ done (sectorsOf (r .sectors) (r .count))
     unfolding whereFine
     walked = sym (read .walked) ∙ rw fine
+
+    -- as many sectors as are counted
+    enough : r .count ≤ length (r .sectors)
+    unfolding sectorCount
+    enough = omega (arith, read .count, ap sectorCount walked, length-map (take (r .count) (r .sectors)) (λ s. address 18 s), length-take (r .count) (r .sectors))
 
     -- what the slots' listing asks
     pub sleeve-ready : ReadySlots b (r .sectors) (8 * r .count) (r .repeated)
@@ -120,5 +125,5 @@ module _ (b text : Bytes) {r : Directory} (read : DirectoryRead b r) where
     unfolding occupiedFrom
     sleeve-listed listed =
         let found : callListing layout35 b text ≡ listFound b (occupiedFrom b (r .sectors) 0 (8 * r .count)) text
-        = listing-found b text ∙ rw walked (ap (λ (l : List Slot). listFound b l text) (occupied-by-number b (r .sectors) (r .count) (omega (arith, read .few)))) in
+        = listing-found b text ∙ rw walked (ap (λ (l : List Slot). listFound b l text) (occupied-by-number b (r .sectors) (r .count) enough)) in
         record { reply = listed .reply ∙ ap (listingReply text) (sym found); sectors = listed .sectors }

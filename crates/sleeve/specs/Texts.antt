@@ -1,12 +1,12 @@
 -- The parts of the listing's text that the code writes one by one (01, Sleeve listing). The whole text is d64spec's `listingText`.
--- In order: digits; the occupied slots by number; their lines; what the code knows of a directory that was read; the listing of its slots.
+-- In order: digits; the occupied slots by number; their lines; what the code knows of a directory that was read; the listing of its slots; the program's buffer.
 use Prim.Native.Nat.{ℕ, _+_, _*_, _/_, _%_, _≤_, _<_}
 use mathlib.Core.Path.{_≡_}
 use mathlib.Core.Bool.{not}
 use mathlib.Core.List.{List, [], _∷_, map}
 use lib.ListN.{length}
 use lib.Dec.{leb}
-use Rattle.d64spec.specs.Lists.{Bytes, All, join, filter, range, splice}
+use Rattle.d64spec.specs.Lists.{Bytes, All, join, filter, range, splice, zeros}
 use Rattle.d64spec.specs.Answers.{Result, done, wrongBuffer, _>>_, need}
 use Rattle.d64spec.specs.Geometry.{layout35}
 use Rattle.d64spec.specs.Directory.{Slot, isEmpty}
@@ -62,3 +62,7 @@ pub record SlotsCounted (l : List Slot) (end : ℕ) (r : Checked) : Type 0 where
 pub record SlotsListed (b : Bytes) (l : List Slot) (text : Bytes) (r : Report) (text′ : Bytes) : Type 0 where
   pub reply : record { answer = answerTo (verdictOf (r .verdict)); listed = record { outputAfter = text′; reportedLength = r .length } } ≡ listingReply text (listFound b l text)
   pub sectors : r .sectors ≡ 0
+
+-- a text buffer with room for every listing (6,234 bytes always suffice)
+unfoldable pub blankText : Bytes
+blankText = zeros 6234

@@ -4,12 +4,11 @@ mod lines;
 mod slots;
 
 ghost use mathlib.Core.Path.{_≡_};
-ghost use mathlib.Core.List.{_∷_, []};
 ghost use lib.ListN.{length, take};
 ghost use Rattle.d64spec.specs.Geometry.{layout35};
 ghost use Rattle.d64spec.specs.Listing.{diskOfTrack18, freeTotal, listingText, refusalLine};
 ghost use Rattle.answers.specs.declared.Verdict.{Verdict};
-ghost use Rattle.sleeve.specs.Texts.{ReadySlots, RoomFor, SlotsListed, occupiedFrom};
+ghost use Rattle.sleeve.specs.Texts.{ReadySlots, RoomFor, SlotsListed, blankText, occupiedFrom};
 ghost use Rattle.sleeve.specs.Sleeves.{SleeveListed, SleevePrinted};
 use answers::Fault;
 use answers::Report;
@@ -119,6 +118,13 @@ fn print_refusal(number: u8) -> Printed
     Printed { text, length: 3 }
 }
 
+// A text buffer with room for every listing.
+fn blank_text() -> [u8; 6234]
+    ensures { λ r. ⌜ r ≡ blankText ⌝ }
+{
+    [0u8; 6234]
+}
+
 // What the program prints, given its whole standard input: the listing of an image's track 18, or the refusal's number.
 pub fn sleeve_output(input: &[u8]) -> Printed
     ensures { λ r. ⌜ SleevePrinted (now (input .entry)) r ⌝ }
@@ -126,7 +132,7 @@ pub fn sleeve_output(input: &[u8]) -> Printed
     if input.len() != 174848 {
         return print_refusal(1);
     }
-    let mut text = [0u8; 6234];
+    let mut text = blank_text();
     let report = list_track18(&input[91392..96256], &mut text);
     let verdict = report.verdict;
     match verdict {
