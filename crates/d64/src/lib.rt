@@ -29,10 +29,10 @@ fn report_of(verdict: Verdict) -> Report
     }
 }
 
-// Checks the image: steps 1 to 4. It reports length 0 and 0 sectors.
+// Checks the image: the first fault of steps 1 to 4 with its place, or 0. It reports length 0 and 0 sectors.
 #[no_mangle]
 pub extern "C" fn d64_check(image: &[u8], answer: &mut [u8]) -> u32
-    ensures { λ r. ⌜ HostServed (hostCall layout35 (now (image .entry)) (now (answer .entry)) check) r (now (image .entry)) [] (now (answer .exit)) ⌝ }
+    ensures { λ r. ⌜ HostServed (hostCall layout35 (now (image .entry)) (now (answer .entry)) check) r (now (image .exit)) [] (now (answer .exit)) ⌝ }
 {
     if answer.len() != BLOCK_BYTES {
         return WRONG_BUFFER;
@@ -43,10 +43,11 @@ pub extern "C" fn d64_check(image: &[u8], answer: &mut [u8]) -> u32
     answers::give_answer(report, answer)
 }
 
-// Reads the file of this name to the start of the output, and reports its length and the sectors visited.
+// Reads the file of this name to the start of the output, the rest of it as it was; reports its length and the sectors visited.
+// Refused with 1, 9, 2 to 8, 13 or 16, in this order; a refusal leaves the output and reports 0 and 0.
 #[no_mangle]
 pub extern "C" fn d64_read(image: &[u8], name: &[u8], out: &mut [u8], answer: &mut [u8]) -> u32
-    ensures { λ r. ⌜ HostServed (hostCall layout35 (now (image .entry)) (now (answer .entry)) (read (now (name .entry)) (now (out .entry)))) r (now (image .entry)) (now (out .exit)) (now (answer .exit)) ⌝ }
+    ensures { λ r. ⌜ HostServed (hostCall layout35 (now (image .entry)) (now (answer .entry)) (read (now (name .entry)) (now (out .entry)))) r (now (image .exit)) (now (out .exit)) (now (answer .exit)) ⌝ }
 {
     if answer.len() != BLOCK_BYTES {
         return WRONG_BUFFER;
@@ -107,7 +108,8 @@ fn give_entry(verdict: Verdict, filled: &[u8], entry: &mut [u8]) -> Verdict
     }
 }
 
-// Tells about the file at a position, counted from 0 among the occupied slots: 25 bytes at the start of the entry.
+// Tells about the file at a position, counted from 0 among the occupied slots: 25 bytes at the start of the entry, the rest of it as it
+// was. Refused with 1, 2 to 8, 13 or, for an entry of fewer than 25 bytes, 16, in this order; a refusal leaves the entry.
 #[no_mangle]
 pub extern "C" fn d64_tell(
     image: &[u8],
@@ -115,7 +117,7 @@ pub extern "C" fn d64_tell(
     entry: &mut [u8],
     answer: &mut [u8],
 ) -> u32
-    ensures { λ r. ⌜ HostServed (hostTell layout35 (now (image .entry)) (now (answer .entry)) position (now (entry .entry))) r (now (image .entry)) (now (entry .exit)) (now (answer .exit)) ⌝ }
+    ensures { λ r. ⌜ HostServed (hostTell layout35 (now (image .entry)) (now (answer .entry)) position (now (entry .entry))) r (now (image .exit)) (now (entry .exit)) (now (answer .exit)) ⌝ }
 {
     if answer.len() != BLOCK_BYTES {
         return WRONG_BUFFER;
@@ -129,10 +131,11 @@ pub extern "C" fn d64_tell(
     answers::give_answer(report, answer)
 }
 
-// Lists the 4,864 bytes of track 18 into the text, from its start, and reports the length of the listing.
+// Lists the 4,864 bytes of track 18 into the text, from its start, the rest of it as it was; reports the length of the listing.
+// Refused with 1, 2 to 6 or, for a text that is too short, 16; a refusal leaves the text and reports 0.
 #[no_mangle]
 pub extern "C" fn d64_listing(track18: &[u8], text: &mut [u8], answer: &mut [u8]) -> u32
-    ensures { λ r. ⌜ HostServed (hostListing layout35 (now (track18 .entry)) (now (answer .entry)) (now (text .entry))) r (now (track18 .entry)) (now (text .exit)) (now (answer .exit)) ⌝ }
+    ensures { λ r. ⌜ HostServed (hostListing layout35 (now (track18 .entry)) (now (answer .entry)) (now (text .entry))) r (now (track18 .exit)) (now (text .exit)) (now (answer .exit)) ⌝ }
 {
     if answer.len() != BLOCK_BYTES {
         return WRONG_BUFFER;
