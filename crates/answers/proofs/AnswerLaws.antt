@@ -10,7 +10,7 @@ use borrow.Author.Tests.{eq-eqb, ne-eqb}
 use Rattle.d64spec.specs.Lists.{Bytes}
 use Rattle.d64spec.specs.Answers.{answerOf}
 use Rattle.d64spec.specs.Answers as answer
-use Rattle.d64spec.specs.Host.{answerBlock}
+use Rattle.d64spec.specs.Host.{answerBlock, littleEndian}
 use Rattle.answers.specs.Faults.{faultOf, verdictOf, meant, answerTo, blockOf, Given}
 use Rattle.answers.specs.declared.Fault.{Fault}
 use Rattle.answers.specs.declared.Verdict.{Verdict}
@@ -25,15 +25,19 @@ answered-as is-k is-b right = ap meant is-b ∙ (right ∙ sym (ap (λ f. answer
 pub answered-to : {v k : Verdict} {a b : answer.Answer} → v ≡ k → a ≡ b → b ≡ answerTo (verdictOf k) → a ≡ answerTo (verdictOf v)
 answered-to is-k is-b right = is-b ∙ (right ∙ sym (ap (λ v. answerTo (verdictOf v)) is-k))
 
--- the block's bytes as the code computes them: each from the whole number, not from what the byte before it left
+-- four bytes as code computes them: each from the whole number, not from what the byte before it left
+pub four-low-first : (n : ℕ) → _≡_ {A = Bytes} (n % 256 ∷ n / 256 % 256 ∷ n / 65536 % 256 ∷ n / 16777216 % 256 ∷ []) (littleEndian 4 n)
+four-low-first n =
+    let third : n / 256 / 256 ≡ n / 65536 = omega arith in
+    let fourth : n / 256 / 256 / 256 ≡ n / 16777216 = omega arith in
+    rw (fourth, third)
+
+-- the block's nine bytes as the code computes them
 pub block-bytes-of : (a : answer.Answer) (n k : ℕ) → _≡_ {A = Bytes}
     (a .track ∷ a .sector ∷ a .slot ∷ n % 256 ∷ n / 256 % 256 ∷ n / 65536 % 256 ∷ n / 16777216 % 256 ∷ k % 256 ∷ k / 256 % 256 ∷ [])
     (blockOf a n k)
 unfolding answerBlock
-block-bytes-of a n k =
-    let third : n / 256 / 256 ≡ n / 65536 = omega arith in
-    let fourth : n / 256 / 256 / 256 ≡ n / 16777216 = omega arith in
-    rw (fourth, third)
+block-bytes-of a n k = ap (λ l. a .track ∷ a .sector ∷ a .slot ∷ (l ++ littleEndian 2 k)) (four-low-first n)
 
 -- a block that is not nine bytes: 16, and the block as it was
 pub given-misfit : (report : Report) (block : Bytes) → (length block ≡ 9 → ⊥) → Given report block 16 block

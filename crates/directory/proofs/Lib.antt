@@ -3,6 +3,7 @@ pub mod WalkLaws
 pub mod SlotBytesLaws
 pub mod SlotListLaws
 pub mod RepeatLaws
+pub mod EntryLaws
 pub mod WordLaws
 pub mod PairLaws
 pub mod SearchLaws

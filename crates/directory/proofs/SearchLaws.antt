@@ -16,8 +16,7 @@ use Rattle.d64spec.specs.Directory.{isEmpty, nameField}
 use Rattle.d64spec.proofs.MapLaws.{and-true}
 use Rattle.directory.specs.Directories.{slotBytes, fieldsBelow, repeats, firstRepeated}
 use Rattle.directory.specs.NameWords.{wordOf, hashOf, holdsPair}
-use Rattle.directory.proofs.SlotBytesLaws.{Small}
-use Rattle.directory.proofs.WordLaws.{equal-words}
+use Rattle.directory.proofs.WordLaws.{Thirty, equal-words}
 use Rattle.directory.proofs.PairLaws.{holds-add}
 
 pub hash-lt : (x y : ℕ) → hashOf x y < 4096
@@ -29,11 +28,6 @@ pub sector-lt : (ss : List ℕ) → All (λ s. s < 19) ss → (i : ℕ) → getD
 sector-lt [] all i = omega arith
 sector-lt (s ∷ ss) all zero = all .0
 sector-lt (s ∷ ss) all (suc i) = sector-lt ss (all .1) i
-
--- thirty bytes: what a slot has
-pub record Thirty (s : Bytes) : Type 0 where
-  pub long : length s ≡ 30
-  pub small : Small s
 
 -- The first n pairs are the words of the name fields of the occupied slots below k; their hashes are seen; and none of these slots repeats one.
 pub record Searching (b : Bytes) (ss : List ℕ) (end : ℕ) (seen xs ys : List ℕ) (n k : ℕ) : Type 0 where
@@ -128,7 +122,7 @@ module _ {b : Bytes} {ss : List ℕ} {end : ℕ} {seen xs ys : List ℕ} {n k : 
           seconds = length-set ys n y ∙ inv .seconds;
           held = λ t other.
               holds-add xs ys n x y (wordOf t 3) (wordOf t 11) room-x room-y
-              ∙ ap₂ _||_ (inv .held t other) (rw (low, high) (equal-words t s (other .long) (thirty .long) (other .small) (thirty .small)))
+              ∙ ap₂ _||_ (inv .held t other) (rw (low, high) (equal-words t s other thirty))
               ∙ one-more (equal (nameField t) (nameField s)) (nameCount (nameField t) (fieldsBelow b ss k))
               ∙ rw (add-one, occupied) (ap (λ (u : Bytes). ltb 0 (indicator (equal (nameField t) (nameField u)) + nameCount (nameField t) (fieldsBelow b ss k))) here);
           noted = λ v w e. rw hashed (seen-noted seen x y v w (holdsPair xs ys n v w) (inv .table) (inv .noted v w) (sym (holds-add xs ys n x y v w room-x room-y) ∙ e));

@@ -1,18 +1,15 @@
--- The bytes of one slot, as a part of track 18: where they are, how many they are, and that they are bytes (01, The directory).
+-- The bytes of one slot, as a part of track 18: where they are, and how many they are (01, The directory).
 -- Assumes nothing.
 use mathlib.Core.Path.{_≡_, refl, sym, ap, _∙_}
 use mathlib.Core.List.{List, [], _∷_}
 use Prim.Native.Nat.{ℕ, zero, suc, _+_, _*_, _/_, _%_, _≤_, _<_}
 use native.Mathlib.Omega.{arith}
-use native.Mathlib.Decide.{decLe}
-use lib.ListN.{length, getD, take, drop, length-take, length-drop, List·getD-eq-default}
-use lib.Seq.{drop-drop, getD-drop, getD-take, take-take}
-use Rattle.d64spec.specs.Lists.{Bytes, byte, part}
+use lib.ListN.{length, getD, take, drop, length-take, length-drop}
+use lib.Seq.{drop-drop, take-take}
+use Rattle.d64spec.specs.Lists.{Bytes, part}
 use Rattle.d64spec.specs.Image.{disk}
 use Rattle.d64spec.specs.Directory.{slotIn}
 use Rattle.directory.specs.Directories.{IsSlot, slotAt, slotBytes}
-
--- ---- parts
 
 -- a part that lies in the front of a list
 part-take : {A : Type 0} (a m n : ℕ) (l : List A) → a + m ≤ n → take m (drop a (take n l)) ≡ take m (drop a l)
@@ -20,21 +17,6 @@ part-take zero m n l h = take-take m n l (omega arith)
 part-take (suc a) m zero l h = absurd (omega arith)
 part-take (suc a) m (suc n) [] h = refl
 part-take (suc a) m (suc n) (x ∷ l) h = part-take a m n l (omega arith)
-
--- every number is a byte
-abbrev pub Small : Bytes → Type 0
-Small l = (i : ℕ) → byte l i < 256
-
-pub small-drop : (n : ℕ) (l : Bytes) → Small l → Small (drop n l)
-small-drop n l small i = rw (getD-drop n l i 0) (small (n + i))
-
-pub small-take : (n : ℕ) (l : Bytes) → Small l → Small (take n l)
-small-take n l small i = elim (decLe (suc i) n) [
-  | yes h ↦ rw (getD-take n l i 0 h) (small i)
-  | no h ↦ let past : byte (take n l) i ≡ 0 = List·getD-eq-default (take n l) 0 (omega (arith, length-take n l)) in omega arith
-]
-
--- ---- a slot
 
 module _ (b : Bytes) (ss : List ℕ) (k : ℕ) where
   -- they are 30 of track 18's

@@ -44,16 +44,16 @@ add-if2 : tie.Need-add-if2
 add-if2 c = omega (arith, c .shared-slice-known3 .given (c .before .before .before .before .args .k / 8))
 
 add-result : tie.Need-add-result
-add-result c = search needs
+add-result c = omega arith
 
 sub-result : tie.Need-sub-result
-sub-result c = search needs
+sub-result c = omega arith
 
 part-result-start : tie.Need-part-result-start
-part-result-start c = search needs
+part-result-start c = omega arith
 
 part-result-end : tie.Need-part-result-end
-part-result-end c = search needs
+part-result-end c = omega arith
 
 returns-2 : tie.Need-returns-2
 returns-2 c = rw add-sub-cancel-left (isSlot-part _ _ _)

@@ -3,12 +3,13 @@
 use mathlib.Core.Path.{_≡_, sym, _∙_}
 use mathlib.Core.Bool.{false}
 use mathlib.Core.Logic.{inl, inr}
-use Prim.Native.Nat.{_+_, _-_, _/_, _<_}
+use Prim.Native.Nat.{_-_, _/_, _<_}
 use native.Mathlib.Omega.{arith}
 use borrow.Author.Count.{falls}
 use borrow.Author.Needs.{needs}
 use Rattle.directory.specs.NameWords.{holdsPair}
-use Rattle.directory.proofs.SearchLaws.{Thirty, Searching, hash-lt, sector-lt, searching-start, searching-empty, searching-found, searching-new, searching-end, new-hash}
+use Rattle.directory.proofs.WordLaws.{Thirty}
+use Rattle.directory.proofs.SearchLaws.{Searching, hash-lt, sector-lt, searching-start, searching-empty, searching-found, searching-new, searching-end, new-hash}
 use Rattle.directory.proofs.repeats.first_repeated.Statement.{statement}
 use Rattle.directory.proofs.repeats.first_repeated.Tie as tie
 
