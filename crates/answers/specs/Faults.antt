@@ -1,5 +1,5 @@
 -- What the code's faults, verdicts, answers and reports mean (01, Answer numbers; Host calls).
--- In order: faults; verdicts; answers; reports and the block. The numbers themselves are d64spec's `answerOf`. Laws: proofs/BlockLaws.
+-- In order: faults; verdicts; answers; reports and the block. The numbers themselves are d64spec's `answerOf`. Laws: proofs/AnswerLaws.
 use Prim.Native.Nat.{ℕ}
 use mathlib.Core.Path.{_≡_}
 use mathlib.Core.Bool.{cond}

@@ -88,7 +88,7 @@ directory-few g v d l w =
 
 -- ---- the length of the text
 
-line-length : (b : Bytes) → length (line b) ≡ 2 * length b + 1
+pub line-length : (b : Bytes) → length (line b) ≡ 2 * length b + 1
 unfolding line
 line-length b = length-append (join (map (λ c. digit (c / 16) ∷ digit (c % 16) ∷ []) b)) (10 ∷ []) ∙ ap (λ (n : ℕ). n + 1) (go b)
   where

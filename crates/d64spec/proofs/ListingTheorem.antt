@@ -177,12 +177,16 @@ module _ (input : Bytes) where
   unfolding sleeveOutput rightSize refusalLine digit
   sleeve-size h = rw (ne-eqb (length input) (256 * total layout35) (λ e. h (e ∙ size35)))
 
+  -- GIVEN AN IMAGE: what the listing of its track 18 says, with room for 6,234 bytes
+  pub sleeve-image : length input ≡ 174848 → sleeveOutput layout35 input ≡ listingOutput (callListing layout35 (bytesOfTrack18 layout35 input) (zeros 6234))
+  sleeve-image e = sleeve-right layout35 input (e ∙ sym size35)
+
   -- GIVEN AN IMAGE WHOSE TRACK 18 CAN BE LISTED: exactly the listing
   pub sleeve-text : length input ≡ 174848 → Listable layout35 (bytesOfTrack18 layout35 input) (zeros 6234) → sleeveOutput layout35 input ≡ textOf layout35 (bytesOfTrack18 layout35 input)
-  sleeve-text e h = sleeve-right layout35 input (e ∙ sym size35) ∙ printed-text layout35 valid35 (bytesOfTrack18 layout35 input) (zeros 6234) h
+  sleeve-text e h = sleeve-image e ∙ printed-text layout35 valid35 (bytesOfTrack18 layout35 input) (zeros 6234) h
 
   -- GIVEN ANY OTHER IMAGE: the number of the first fault that track 18 shows
   pub sleeve-refused : length input ≡ 174848 → (Listable layout35 (bytesOfTrack18 layout35 input) (zeros 6234) → ⊥) → SleeveRefused layout35 (bytesOfTrack18 layout35 input) (zeros 6234) (sleeveOutput layout35 input)
   sleeve-refused e h =
-      subst (SleeveRefused layout35 (bytesOfTrack18 layout35 input) (zeros 6234)) (sym (sleeve-right layout35 input (e ∙ sym size35)))
+      subst (SleeveRefused layout35 (bytesOfTrack18 layout35 input) (zeros 6234)) (sym (sleeve-image e))
       (printed-refusal layout35 valid35 (bytesOfTrack18 layout35 input) (zeros 6234) (omega (arith, track18-length input e, sectors35)) (buffer-6234 (bytesOfTrack18 layout35 input) (zeros 6234) (le-of-eq (sym (length-replicate {A = ℕ} 6234 0)))) h)

@@ -1,8 +1,9 @@
 -- A name field as two numbers of 64 bits, and a hash of them: how equal names are found without comparing each with each.
 -- Nothing of document 01 is said here; that the code finds document 01's repeated names is `firstRepeated` (specs/Directories).
--- Laws: proofs/WordLaws (equal words are equal bytes).
-use Prim.Native.Nat.{ℕ, zero, suc, _+_, _*_, _/_, _%_}
-use mathlib.Core.Bool.{Bool, true, false, _&&_, _||_}
+-- Laws: proofs/WordLaws (equal words are equal bytes), PairLaws, SearchLaws.
+use Prim.Native.Nat.{ℕ, zero, suc, _+_, _*_, _/_, _%_, _<_}
+use mathlib.Core.Path.{_≡_}
+use mathlib.Core.Bool.{Bool, false, _&&_, _||_}
 use mathlib.Core.List.{List}
 use lib.ListN.{getD}
 use lib.Dec.{eqb}
@@ -11,6 +12,11 @@ use Rattle.d64spec.specs.Lists.{Bytes, byte}
 -- the number of the four bytes from a on, low byte first
 unfoldable pub halfOf : Bytes → ℕ → ℕ
 halfOf b a = byte b a + 256 * byte b (a + 1) + 65536 * byte b (a + 2) + 16777216 * byte b (a + 3)
+
+-- r is that number, which 32 bits hold
+pub record IsHalf (b : Bytes) (a r : ℕ) : Type 0 where
+  pub value : r ≡ halfOf b a
+  pub small : r < 4294967296
 
 -- the number of the eight bytes from a on, low byte first
 unfoldable pub wordOf : Bytes → ℕ → ℕ
@@ -28,4 +34,4 @@ hashOf x y =
 -- whether x and y stand at one place of the first n of xs and ys
 abbrev pub holdsPair : List ℕ → List ℕ → ℕ → ℕ → ℕ → Bool
 holdsPair xs ys zero x y = false
-holdsPair xs ys (suc n) x y = holdsPair xs ys n x y || (eqb (getD xs n 0) x && eqb (getD ys n 0) y)
+holdsPair xs ys (suc n) x y = holdsPair xs ys n x y || (eqb x (getD xs n 0) && eqb y (getD ys n 0))

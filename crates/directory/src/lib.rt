@@ -36,12 +36,12 @@ fn refuse(fault: Fault) -> Directory
     }
 }
 
-// Bytes 02 to 1F of slot k, eight to a directory sector; fewer, or none, where track 18 does not have them.
-pub fn slot_at<'a>(track18: &'a [u8], sectors: &[u8; 18], k: usize) -> &'a [u8]
+// Bytes 02 to 1F of slot k, with the sectors as a slice; past the last of them it is a slot of 18/0, as the definition has it.
+fn slot_of<'a>(track18: &'a [u8], sectors: &[u8], k: usize) -> &'a [u8]
     ensures { λ r. ⌜ IsSlot (now (track18 .entry)) (now (sectors .entry)) k (now r) ⌝ }
 {
     let i = k / 8;
-    if 17 < i {
+    if sectors.len() <= i {
         return entry::slot(sectors::sector(track18, 0), k % 8);
     }
     let s = sectors[i] as usize;
@@ -50,6 +50,13 @@ pub fn slot_at<'a>(track18: &'a [u8], sectors: &[u8; 18], k: usize) -> &'a [u8]
         return &track18[start..start + 30];
     }
     entry::slot(sectors::sector(track18, s), k % 8)
+}
+
+// Bytes 02 to 1F of slot k, eight to a directory sector; fewer, or none, where track 18 does not have them.
+pub fn slot_at<'a>(track18: &'a [u8], sectors: &[u8; 18], k: usize) -> &'a [u8]
+    ensures { λ r. ⌜ IsSlot (now (track18 .entry)) (now (sectors .entry)) k (now r) ⌝ }
+{
+    slot_of(track18, sectors, k)
 }
 
 // Kind and flags, name, name used by an earlier slot: what the check and the sleeve listing both ask of an occupied slot, in this order.

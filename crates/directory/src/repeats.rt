@@ -6,12 +6,12 @@ ghost use Prim.Native.Nat.{_≤_, _+_, _<_};
 ghost use lib.ListN.{length};
 ghost use Rattle.d64spec.specs.Lists.{All};
 ghost use Rattle.directory.specs.Directories.{firstRepeated};
-ghost use Rattle.directory.specs.NameWords.{halfOf, wordOf, hashOf, holdsPair};
+ghost use Rattle.directory.specs.NameWords.{IsHalf, wordOf, hashOf, holdsPair};
 
 // The number of four bytes, low byte first.
 fn half(bytes: &[u8], at: usize) -> u64
     requires { ⌜ at + 4 ≤ length (now bytes) ⌝ }
-    ensures { λ r. ⌜ r ≡ halfOf (now (bytes .entry)) at ⌝ }
+    ensures { λ r. ⌜ IsHalf (now (bytes .entry)) at r ⌝ }
 {
     bytes[at] as u64
         + 256 * (bytes[at + 1] as u64)

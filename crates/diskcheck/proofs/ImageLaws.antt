@@ -1,21 +1,20 @@
 -- The whole check: the size, the directory of track 18, then the slots and the map, each with the table that the step before it left (01, Order of the check).
--- In order: the definition's check with the owner table; the directory as the code reads it; the cases of the code.
+-- In order: the definition's check with the owner table; the slots, then the map; refused images; images whose track 18 the code has read.
 use Prim.Native.Nat.{ℕ, zero, suc, _*_, _≤_, _<_}
 use native.Mathlib.Omega.{arith}
-use mathlib.Core.Path.{_≡_, refl, sym, ap, _∙_, fun-ext}
+use mathlib.Core.Path.{_≡_, refl, sym, ap, _∙_}
 use mathlib.Core.Bool.{Bool}
 use mathlib.Core.List.{List, [], _∷_, map}
 use lib.ListN.{length, take, drop}
 use lib.Dec.{eqb}
 use borrow.Author.Tests.{eq-eqb, ne-eqb}
 use Rattle.d64spec.specs.Lists.{Bytes, All, count, range, zeros}
-use Rattle.d64spec.specs.Answers.{Address, wrongMapEntry, Result, refused, done, _>>=_, _>>_, need}
+use Rattle.d64spec.specs.Answers.{Address, Result, refused, done, _>>=_, _>>_}
 use Rattle.d64spec.specs.Geometry.{layout35, sectorNumber, sectorsOn, total, tracks, mapAddress, directoryStart}
-use Rattle.d64spec.specs.Image.{Disk, disk}
+use Rattle.d64spec.specs.Image.{disk}
 use Rattle.d64spec.specs.Chain.{to, directoryLink, steps}
 use Rattle.d64spec.specs.Directory.{Slot, File, occupiedIn}
 use Rattle.d64spec.specs.Owner.{claimsOf}
-use Rattle.d64spec.specs.Map.{entryCorrect}
 use Rattle.d64spec.specs.Check.{DirectoryContents, checkDirectory, checkSlots, checkMap, checkDisk, checkImage, rightSize}
 use Rattle.d64spec.specs.Listing.{bytesOfTrack18}
 use Rattle.d64spec.proofs.BoundLaws.{sectorNumber-lt, map-on, directoryLink-on}
@@ -26,7 +25,7 @@ use Rattle.answers.specs.declared.Fault.the-variants.{WrongSize}
 use Rattle.answers.specs.declared.Verdict.{Verdict}
 use Rattle.answers.specs.declared.Verdict.the-variants.{Fine, Refused}
 use Rattle.answers.specs.Faults.{faultOf, verdictOf, whereFine}
-use Rattle.owners.specs.OwnerTable.{owned, freeBy, directoryTable, ownerTable}
+use Rattle.owners.specs.OwnerTable.{owned, directoryTable, ownerTable}
 use Rattle.owners.proofs.WalkTable.{walk-lt}
 use Rattle.owners.proofs.SlotsTable.{slots-alike, slots-lt}
 use Rattle.owners.proofs.ClaimLaws.{length-directoryTable, directory-alike, freeBy-claims}
@@ -34,6 +33,7 @@ use Rattle.directory.specs.declared.Directory.{Directory}
 use Rattle.directory.specs.Directories.{sectorsOf, firstRepeated, trackDirectory, sectorCount, tableAfter, DirectoryRead}
 use Rattle.directory.proofs.Track18Laws.{directory-of-track18, sectors-18}
 use Rattle.mapcheck.specs.MapChecks.{mapVerdict}
+use Rattle.mapcheck.proofs.StepLaws.{verdict-same}
 use Rattle.diskcheck.specs.declared.Checked.{Checked}
 use Rattle.diskcheck.specs.SlotChecks.{occupiedFrom, tableWithFiles, slotsStep, SlotsReady}
 use Rattle.diskcheck.specs.ImageChecks.{Found, foundIn, directoryCount, tableFound, ImageChecked, restStep}
@@ -44,58 +44,64 @@ use Rattle.diskcheck.proofs.TrackLaws.{track18-lent, map-lent, sectorsO
 map-lt : sectorNumber layout35 mapAddress < total layout35
 map-lt = sectorNumber-lt layout35 mapAddress (map-on layout35 (valid35 .directory))
 
--- step 4 reads the map sector only
-map-sector : (d : Disk) (free : Address → Bool) (l : List ℕ) → checkMap layout35 d free l ≡ checkMap layout35 (λ n. d (sectorNumber layout35 mapAddress)) free l
-map-sector d free [] = refl
-map-sector d free (t ∷ l) = ap (λ (r : Result (Unit {0})). need (entryCorrect layout35 free (d (sectorNumber layout35 mapAddress)) t) (wrongMapEntry t) >> r) (map-sector d free l)
-
 found-then : (x : Result (Unit {0})) (c : DirectoryContents) → foundIn (x >> done c) ≡ (x >> foundIn (done c))
 unfolding foundIn
 found-then (refused f) c = refl
 found-then (done u) c = refl
 
 module _ (img : Bytes) where
-  -- the slots and the map after a directory of these sectors
+  -- step 3 after a directory of these sectors, from the table that its walk leaves
+  abbrev slotsAfter : List Address → Result (List File)
+  slotsAfter ds = checkSlots layout35 (disk img) (owned (directoryTable layout35 ds)) [] (occupiedIn layout35 (disk img) ds)
+
+  -- step 4 with a table, and what is found
+  abbrev mapAfter : List Address → List ℕ → Result Found
+  mapAfter ds own = mapVerdict (disk img (sectorNumber layout35 mapAddress)) own >> done (record { directory = ds; table = own })
+
+  -- both
   abbrev afterDirectory : List Address → Result Found
-  afterDirectory ds =
-      tableWithFiles (directoryTable layout35 ds) (checkSlots layout35 (disk img) (owned (directoryTable layout35 ds)) [] (occupiedIn layout35 (disk img) ds))
-      >>= (λ own. mapVerdict (disk img (sectorNumber layout35 mapAddress)) own >> done (record { directory = ds; table = own }))
+  afterDirectory ds = tableWithFiles (directoryTable layout35 ds) (slotsAfter ds) >>= (λ own. mapAfter ds own)
 
-  abbrev claimed : List Address → List File → Address → Bool
-  claimed ds fs r = eqb (count (sectorNumber layout35 r) (claimsOf layout35 ds fs)) 0
+  -- nobody claims the sector
+  abbrev unclaimed : List Address → List File → Address → Bool
+  unclaimed ds fs r = eqb (count (sectorNumber layout35 r) (claimsOf layout35 ds fs)) 0
 
+  -- step 4 as the definition has it, after these files
   abbrev afterFiles : List Address → Result (List File) → Result DirectoryContents
-  afterFiles ds x = x >>= (λ fs. checkMap layout35 (disk img) (claimed ds fs) (range 1 (tracks layout35)) >> done (record { walked = ds; found = fs }))
+  afterFiles ds x = x >>= (λ fs. checkMap layout35 (disk img) (unclaimed ds fs) (range 1 (tracks layout35)) >> done (record { walked = ds; found = fs }))
+
+  -- step 3 as the definition has it, from the claims of the map and the directory
+  abbrev slotsFromClaims : List Address → Result (List File)
+  slotsFromClaims ds = checkSlots layout35 (disk img) (sectorNumber layout35 mapAddress ∷ map (sectorNumber layout35) ds) [] (occupiedIn layout35 (disk img) ds)
 
   module _ (ds : List Address) (on : All (λ x. x < total layout35) (map (sectorNumber layout35) ds)) where
-    files-found : (x : Result (List File)) → checkSlots layout35 (disk img) (owned (directoryTable layout35 ds)) [] (occupiedIn layout35 (disk img) ds) ≡ x
-        → foundIn (afterFiles ds x)
-        ≡ (tableWithFiles (directoryTable layout35 ds) x >>= (λ own. mapVerdict (disk img (sectorNumber layout35 mapAddress)) own >> done (record { directory = ds; table = own })))
-    unfolding foundIn tableWithFiles mapVerdict ownerTable
+    files-found : (x : Result (List File)) → slotsAfter ds ≡ x → foundIn (afterFiles ds x) ≡ (tableWithFiles (directoryTable layout35 ds) x >>= (λ own. mapAfter ds own))
+    unfolding foundIn tableWithFiles ownerTable
     files-found (refused f) e = refl
     files-found (done fs) e =
         let files-on = slots-lt layout35 (disk img) (owned (directoryTable layout35 ds)) [] (occupiedIn layout35 (disk img) ds) fs e in
-        let same : (r : Address) → claimed ds fs r ≡ freeBy layout35 (ownerTable layout35 ds fs) r = λ r. sym (freeBy-claims layout35 map-lt ds on fs files-on r) in
-        found-then (checkMap layout35 (disk img) (claimed ds fs) (range 1 (tracks layout35))) (record { walked = ds; found = fs })
+        found-then (checkMap layout35 (disk img) (unclaimed ds fs) (range 1 (tracks layout35))) (record { walked = ds; found = fs })
         ∙ ap (λ (x : Result (Unit {0})). x >> done (record { directory = ds; table = ownerTable layout35 ds fs }))
-        (map-sector (disk img) (claimed ds fs) (range 1 (tracks layout35))
-        ∙ ap (λ (free : Address → Bool). checkMap layout35 (λ n. disk img (sectorNumber layout35 mapAddress)) free (range 1 (tracks layout35))) (fun-ext same))
+        (sym (verdict-same (disk img) (ownerTable layout35 ds fs) (unclaimed ds fs) (λ r h. freeBy-claims layout35 map-lt ds on fs files-on r)))
 
-    slots-found : foundIn (afterFiles ds (checkSlots layout35 (disk img) (sectorNumber layout35 mapAddress ∷ map (sectorNumber layout35) ds) [] (occupiedIn layout35 (disk img) ds))) ≡ afterDirectory ds
+    slots-found : foundIn (afterFiles ds (slotsFromClaims ds)) ≡ afterDirectory ds
     slots-found =
+        let o : List ℕ = sectorNumber layout35 mapAddress ∷ map (sectorNumber layout35) ds in
         ap (λ (x : Result (List File)). foundIn (afterFiles ds x))
-        (slots-alike layout35 (disk img) (sectorNumber layout35 mapAddress ∷ map (sectorNumber layout35) ds) (owned (directoryTable layout35 ds)) [] (occupiedIn layout35 (disk img) ds) (directory-alike layout35 map-lt ds on))
-        ∙ files-found (checkSlots layout35 (disk img) (owned (directoryTable layout35 ds)) [] (occupiedIn layout35 (disk img) ds)) refl
+        (slots-alike layout35 (disk img) o (owned (directoryTable layout35 ds)) [] (occupiedIn layout35 (disk img) ds) (directory-alike layout35 map-lt ds on))
+        ∙ files-found (slotsAfter ds) refl
 
   -- THE DEFINITION'S CHECK is the directory's walk, then the rest from the table that the walk leaves
   disk-found : foundIn (checkDisk layout35 (disk img)) ≡ (checkDirectory layout35 (disk img) >>= (λ ds. afterDirectory ds))
   unfolding checkDisk checkDirectory foundIn
   disk-found = go (checkDirectory layout35 (disk img)) refl
     where
-      go : (w : Result (List Address)) → checkDirectory layout35 (disk img) ≡ w
-          → foundIn (w >>= (λ ds. afterFiles ds (checkSlots layout35 (disk img) (sectorNumber layout35 mapAddress ∷ map (sectorNumber layout35) ds) [] (occupiedIn layout35 (disk img) ds)))) ≡ (w >>= (λ ds. afterDirectory ds))
+      go : (w : Result (List Address)) → checkDirectory layout35 (disk img) ≡ w → foundIn (w >>= (λ ds. afterFiles ds (slotsFromClaims ds))) ≡ (w >>= (λ ds. afterDirectory ds))
       go (refused f) e = refl
-      go (done ds) e = slots-found ds (walk-lt layout35 (directoryLink layout35) (disk img) (directoryLink-on layout35) (steps layout35) (sectorNumber layout35 mapAddress ∷ []) mapAddress 255 (to directoryStart) ds (valid35 .directory) e)
+      go (done ds) e =
+          slots-found ds
+          (walk-lt layout35 (directoryLink layout35) (disk img) (directoryLink-on layout35) (steps layout35) (sectorNumber layout35 mapAddress ∷ []) mapAddress 255 (to directoryStart) ds
+          (valid35 .directory) e)
 
   -- the rest by slot numbers
   rest-found : (ss : List ℕ) (n : ℕ) → All (λ s. s < 19) ss → n ≤ length ss
@@ -104,8 +110,9 @@ module _ (img : Bytes) where
   rest-found ss n inside whole =
       let ds : List Address = sectorsOf ss n in
       let own : List ℕ = directoryTable layout35 ds in
-      ap (λ (l : List Slot). tableWithFiles own (checkSlots layout35 (disk img) (owned own) [] l) >>= (λ own. mapVerdict (disk img (sectorNumber layout35 mapAddress)) own >> done (record { directory = ds; table = own }))) (occupied-by-track18 img ss n inside whole)
-      ∙ regroup (tableWithFiles own (checkSlots layout35 (disk img) (owned own) [] (occupiedFrom img ss 0 (8 * n)))) (mapVerdict (disk img (sectorNumber layout35 mapAddress))) (λ own. record { directory = ds; table = own })
+      ap (λ (l : List Slot). tableWithFiles own (checkSlots layout35 (disk img) (owned own) [] l) >>= (λ own. mapAfter ds own)) (occupied-by-track18 img ss n inside whole)
+      ∙ regroup (tableWithFiles own (checkSlots layout35 (disk img) (owned own) [] (occupiedFrom img ss 0 (8 * n)))) (mapVerdict (disk img (sectorNumber layout35 mapAddress)))
+      (λ own. record { directory = ds; table = own })
     where
       regroup : (x : Result (List ℕ)) (m : List ℕ → Result (Unit {0})) (f : List ℕ → Found) → (x >>= (λ o. m o >> done (f o))) ≡ ((x >>= (λ o. m o >> done o)) >>= (λ o. done (f o)))
       regroup (refused g) m f = refl
@@ -124,11 +131,11 @@ module _ (img own ss : List ℕ) (n : ℕ) (own′ : List ℕ) where
   slots-refused f e = ap (λ (x : Result (List ℕ)). x >>= (λ o. mapVerdict (disk img (sectorNumber layout35 mapAddress)) o >> done o)) e
 
   -- no fault there: the map decides
-  pub slots-fine : (v : Verdict) → whereFine Fine own′ ≡ slotsStep img own ss 0 (8 * n) → verdictOf v ≡ mapVerdict (take 256 (drop 91392 img)) own′ → whereFine v own′ ≡ restStep img own ss n
+  pub slots-fine : (v : Verdict) (m : Bytes) → whereFine Fine own′ ≡ slotsStep img own ss 0 (8 * n) → verdictOf v ≡ mapVerdict m own′ → m ≡ take 256 (drop 91392 img) → whereFine v own′ ≡ restStep img own ss n
   unfolding whereFine restStep verdictOf
-  slots-fine v e m =
+  slots-fine v m e decides sector =
       tables v
-      ∙ ap (λ (x : Result (Unit {0})). x >> done own′) (m ∙ ap (λ (b : Bytes). mapVerdict b own′) (map-lent img))
+      ∙ ap (λ (x : Result (Unit {0})). x >> done own′) (decides ∙ ap (λ (b : Bytes). mapVerdict b own′) (sector ∙ map-lent img))
       ∙ ap (λ (x : Result (List ℕ)). x >>= (λ o. mapVerdict (disk img (sectorNumber layout35 mapAddress)) o >> done o)) e
     where
       tables : (v : Verdict) → whereFine v own′ ≡ (verdictOf v >> done own′)
@@ -226,16 +233,16 @@ module _ (img : Bytes) {d : Directory} (size : length img ≡ 174848) (read : Di
       rest-refused f e = sym (rest-told (Refused f) e)
 
       -- no fault
-      pub checked-fine : whereFine Fine own ≡ restStep img (d .owners) (d .sectors) (d .count)
-          → ImageChecked img (record { verdict = Fine; sectors = d .sectors; count = d .count; owners = own })
+      pub checked-fine : {r : Checked} → whereFine Fine own ≡ restStep img (d .owners) (d .sectors) (d .count)
+          → r ≡ record { verdict = Fine; sectors = d .sectors; count = d .count; owners = own } → ImageChecked img r
       unfolding whereFine directoryCount tableFound sectorCount
-      checked-fine e =
+      checked-fine e is =
           let found = rest-told Fine e in
-          record {
+          rw is (record {
             told = found;
             count = read .count ∙ ap sectorCount (directory-same ∙ directory-fine .walked) ∙ ap directoryCount found;
             owners = ap tableFound found;
             rest = read .rest;
             few = read .few;
             inside = read .inside;
-          }
+          })

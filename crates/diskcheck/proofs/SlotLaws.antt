@@ -75,7 +75,11 @@ pub number-at : (b ss : List ℕ) (k : ℕ) → slotAt b ss k .number ≡ k
 unfolding slotAt slotIn
 number-at b ss k = omega arith
 
-holder-at : (b ss : List ℕ) (k : ℕ) → slotAt b ss k .holder ≡ address 18 (getD ss (k / 8) 0)
+-- the directory sector that holds slot k
+abbrev holderOf : List ℕ → ℕ → Address
+holderOf ss k = address 18 (getD ss (k / 8) 0)
+
+holder-at : (b ss : List ℕ) (k : ℕ) → slotAt b ss k .holder ≡ holderOf ss k
 unfolding slotAt slotIn
 holder-at b ss k = refl
 
@@ -104,7 +108,7 @@ module _ (img own ss b : List ℕ) (k repeated : ℕ) (ready : SlotReady img own
 
   module _ (occupied : getD b 0 0 ≡ 0 → ⊥) where
     -- an occupied slot is its entry, then its chain and its count
-    slot-parts : slotStep img own ss k ≡ (entryVerdict b (address 18 (getD ss (k / 8) 0)) k (eqb k repeated) >> fileStep img own b (address 18 (getD ss (k / 8) 0)) k)
+    slot-parts : slotStep img own ss k ≡ (entryVerdict b (holderOf ss k) k (eqb k repeated) >> fileStep img own b (holderOf ss k) k)
     unfolding slotStep checkSlot checkChain chainWalk firstLink fileStep
     slot-parts =
         let s : Slot = imageSlot img ss k in
@@ -116,12 +120,12 @@ module _ (img own ss b : List ℕ) (k repeated : ℕ) (ready : SlotReady img own
 
     module _ (own′ : List ℕ) where
       -- a refused entry
-      pub slot-refused : (f : code.Fault) → verdictOf (Refused f) ≡ entryVerdict b (address 18 (getD ss (k / 8) 0)) k (eqb k repeated) → whereFine (Refused f) own′ ≡ slotStep img own ss k
+      pub slot-refused : (f : code.Fault) → verdictOf (Refused f) ≡ entryVerdict b (holderOf ss k) k (eqb k repeated) → whereFine (Refused f) own′ ≡ slotStep img own ss k
       unfolding verdictOf whereFine
-      slot-refused f e = ap (λ (v : Result (Unit {0})). v >> fileStep img own b (address 18 (getD ss (k / 8) 0)) k) e ∙ sym slot-parts
+      slot-refused f e = ap (λ (v : Result (Unit {0})). v >> fileStep img own b (holderOf ss k) k) e ∙ sym slot-parts
 
       -- an entry that passes, and what its chain and its count give
-      pub slot-file : (v : Verdict) → verdictOf Fine ≡ entryVerdict b (address 18 (getD ss (k / 8) 0)) k (eqb k repeated)
-          → whereFine v own′ ≡ fileStep img own b (address 18 (getD ss (k / 8) 0)) k → whereFine v own′ ≡ slotStep img own ss k
+      pub slot-file : (v : Verdict) → verdictOf Fine ≡ entryVerdict b (holderOf ss k) k (eqb k repeated)
+          → whereFine v own′ ≡ fileStep img own b (holderOf ss k) k → whereFine v own′ ≡ slotStep img own ss k
       unfolding verdictOf
-      slot-file v e h = h ∙ ap (λ (v : Result (Unit {0})). v >> fileStep img own b (address 18 (getD ss (k / 8) 0)) k) e ∙ sym slot-parts
+      slot-file v e h = h ∙ ap (λ (v : Result (Unit {0})). v >> fileStep img own b (holderOf ss k) k) e ∙ sym slot-parts

@@ -1,5 +1,5 @@
 -- Step 3 of the check by slot numbers, with the owner table (01, Order of the check, 3).
--- In order: slots by number; a file's chain and count; one slot; all slots; what the steps rely on. That they are d64spec's `checkSlots`: proofs/SlotLaws.
+-- In order: slots by number; a file's chain and count; one slot; all slots; what the steps rely on. Laws: proofs/SlotLaws, SlotsLaws.
 use Prim.Native.Nat.{ℕ, _*_, _≤_, _<_}
 use mathlib.Core.Path.{_≡_}
 use mathlib.Core.Bool.{true, false, cond, not}

@@ -1,3 +1,4 @@
 pub mod MaskLaws
 pub mod SurveyLaws
 pub mod TrackLaws
+pub mod StepLaws

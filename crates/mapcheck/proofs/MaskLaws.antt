@@ -7,7 +7,7 @@ use mathlib.Core.Path.{_≡_, refl, sym, ap, _∙_}
 use mathlib.Core.List.{map}
 use Rattle.d64spec.specs.Lists.{Bytes, byte, range, sum}
 use Rattle.d64spec.proofs.MapWriteLaws.{sum-same}
-use Rattle.mapentry.specs.MapEntry.{bitOf, entryBit}
+use Rattle.mapentry.specs.MapEntry.{entryBit}
 use Rattle.mapentry.proofs.ShapeLaws.{EntryShape}
 use Rattle.mapentry.proofs.OnesLaws.{sum-map-last}
 use Rattle.bamlaws.proofs.BitChangeLaws.{byte-together}

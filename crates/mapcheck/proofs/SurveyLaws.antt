@@ -1,5 +1,5 @@
 -- What the survey of a track's sectors keeps: the bits and the count of the sectors passed. In order: one bit; the sizes; the loop. Assumes nothing.
-use Prim.Native.Nat.{ℕ, suc, _+_, _*_, _%_, _^_, _≤_, _<_}
+use Prim.Native.Nat.{ℕ, _+_, _*_, _%_, _^_, _≤_, _<_}
 use native.Mathlib.Omega.{arith}
 use native.Mathlib.Nat.{pow-le-pow-right}
 use native.Mathlib.Numerals.{add-one}
@@ -75,27 +75,22 @@ module _ {own : List ℕ} {first n mask count s : ℕ} (c : Surveying own first 
   surveying-count-le = omega (arith, c .counted, count-le own first s)
 
   module _ {mask′ count′ : ℕ} (h : s < n) where
-    -- a free sector: its bit is put above the others, and it is counted
-    pub surveying-free : getD own (first + s) 0 ≡ 0 → mask′ ≡ mask + 2 ^ s → count′ ≡ count + 1 → Surveying own first n mask′ count′ (s + 1)
-    surveying-free e m k =
-        let bit : freeBit own first s ≡ 1 = free-bit-free own first s e in
-        let placed : freeBit own first s * 2 ^ s ≡ 1 * 2 ^ s = ap (λ (x : ℕ). x * 2 ^ s) bit in
+    moved : {b : ℕ} → freeBit own first s ≡ b → mask′ ≡ mask + b * 2 ^ s → count′ ≡ count + b → Surveying own first n mask′ count′ (s + 1)
+    moved bit m k =
+        let placed = ap (λ (x : ℕ). x * 2 ^ s) bit in
         record {
           passed = omega arith;
           masked = omega (arith, c .masked, mask-more own first s);
           counted = omega (arith, c .counted, count-more own first s);
         }
 
+    -- a free sector: its bit is put above the others, and it is counted
+    pub surveying-free : getD own (first + s) 0 ≡ 0 → mask′ ≡ mask + 2 ^ s → count′ ≡ count + 1 → Surveying own first n mask′ count′ (s + 1)
+    surveying-free e m k = moved (free-bit-free own first s e) (omega arith) k
+
     -- an owned one: nothing is added
     pub surveying-owned : (getD own (first + s) 0 ≡ 0 → ⊥) → mask′ ≡ mask → count′ ≡ count → Surveying own first n mask′ count′ (s + 1)
-    surveying-owned e m k =
-        let bit : freeBit own first s ≡ 0 = free-bit-owned own first s e in
-        let placed : freeBit own first s * 2 ^ s ≡ 0 * 2 ^ s = ap (λ (x : ℕ). x * 2 ^ s) bit in
-        record {
-          passed = omega arith;
-          masked = omega (arith, c .masked, mask-more own first s);
-          counted = omega (arith, c .counted, count-more own first s);
-        }
+    surveying-owned e m k = moved (free-bit-owned own first s e) (omega arith) (omega arith)
 
   pub surveying-finished : n ≤ s → Surveyed own first n (record { mask = mask; count = count })
   surveying-finished h =

@@ -7,7 +7,7 @@ use mathlib.Core.Bool.{Bool, true, false, _&&_, not}
 use mathlib.Core.List.{List}
 use lib.ListN.{length}
 use lib.Dec.{eqb}
-use borrow.Author.Tests.{lt-ltb, le-ltb, eqb-true, eq-eqb, not-false}
+use borrow.Author.Tests.{lt-ltb, le-ltb, eqb-true, eq-eqb, ne-eqb, not-false}
 use Rattle.d64spec.specs.Lists.{Bytes, byte, range}
 use Rattle.d64spec.specs.Answers.{Address}
 use Rattle.d64spec.specs.Geometry.{Geometry, layout35, firstOn, sectorsOn, sectorNumber}
@@ -21,7 +21,8 @@ use Rattle.mapentry.proofs.ShapeLaws.{EntryShape}
 use Rattle.mapentry.proofs.OnesLaws.{entry-bit-le}
 use Rattle.mapsector.specs.MapSector.{mapEntry, fourBytes}
 use Rattle.bamlaws.proofs.EntryChangeLaws.{bit-map-entry}
-use Rattle.mapcheck.specs.MapChecks.{binary, freeBit, freeMask, freeCount, bitmapOf, trackCorrect}
+use Rattle.mapcheck.specs.MapChecks.{binary, freeBit, freeMask, freeCount, Surveyed, bitmapOf, trackCorrect}
+use Rattle.mapcheck.specs.declared.FreeSectors.{FreeSectors}
 use Rattle.mapcheck.proofs.MaskLaws.{binary-same, bits-same, binary-past, bitmap-binary}
 
 -- ---- tests
@@ -125,3 +126,22 @@ module _ (m : Bytes) (own : List ℕ) (t : ℕ) where
     pub track-same : trackCorrect entry own t ≡ entryCorrect layout35 free m t
     unfolding trackCorrect entryCorrect
     track-same = and-same _ _ _ _ bitmap-test count-test
+
+-- ---- the same from what the survey gives
+
+module _ (e : Bytes) (own : List ℕ) (t : ℕ) {first n : ℕ} {r : FreeSectors} (from : first ≡ firstOn layout35 t) (to : n ≡ sectorsOn layout35 t) (found : Surveyed own first n r) where
+  mask-found : r .mask ≡ freeMask own (firstOn layout35 t) (sectorsOn layout35 t)
+  mask-found = found .mask ∙ ap₂ (λ (x y : ℕ). freeMask own x y) from to
+
+  count-found : r .count ≡ freeCount own (firstOn layout35 t) (sectorsOn layout35 t)
+  count-found = found .count ∙ ap₂ (λ (x y : ℕ). freeCount own x y) from to
+
+  -- another bitmap than the free sectors' is wrong
+  pub track-wrong : (bitmapOf e ≡ r .mask → ⊥) → false ≡ trackCorrect e own t
+  unfolding trackCorrect
+  track-wrong other = let test = ne-eqb (bitmapOf e) _ (λ q. other (q ∙ sym mask-found)) in rw test
+
+  -- and where it is theirs, the count decides
+  pub track-by-count : bitmapOf e ≡ r .mask → eqb (byte e 0) (r .count) ≡ trackCorrect e own t
+  unfolding trackCorrect
+  track-by-count same = let test = eq-eqb (bitmapOf e) _ (same ∙ mask-found) in rw test (ap (eqb (byte e 0)) count-found)

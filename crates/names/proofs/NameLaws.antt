@@ -1,23 +1,33 @@
 -- Names and the field that holds one: the name rule by the first $A0, and when two names are equal (01, The directory).
--- In order: a field against a name filled up; the name rule, case by case; the two comparisons where names keep the rule.
+-- In order: the field of a slot; a field against a name filled up; the name rule, case by case; the two comparisons where names keep the rule.
 -- A field is given as any list f that is a slot's bytes 05 to 14. Laws of the bytes alone: PaddingLaws. Assumes nothing.
 use mathlib.Core.Path.{_≡_, refl, sym, ap, ap₂, _∙_}
 use mathlib.Core.Bool.{Bool, true, false, _&&_, not, and-false}
 use mathlib.Core.List.{_++_}
-use Prim.Native.Nat.{ℕ, _+_, _-_, _≤_}
+use Prim.Native.Nat.{ℕ, _+_, _-_, _≤_, _<_}
 use native.Mathlib.Omega.{arith}
-use lib.ListN.{length, take, drop, replicate, length-append, length-take, length-replicate, take-append-drop}
-use lib.Seq.{drop-append-seam}
+use lib.ListN.{length, getD, take, drop, replicate, length-append, length-take, length-drop, length-replicate, take-append-drop}
+use lib.Seq.{drop-append-seam, getD-take, getD-drop}
 use lib.Dec.{eqb}
-use borrow.Author.Tests.{eq-eqb, ne-eqb}
-use Rattle.d64spec.specs.Lists.{Bytes, equal}
+use borrow.Author.Tests.{ne-eqb}
+use Rattle.d64spec.specs.Lists.{Bytes, byte, equal}
 use Rattle.d64spec.specs.Directory.{nameField, nameOf, padded, validName}
 use Rattle.d64spec.specs.Reply.{validNameArgument}
-use Rattle.names.specs.Names.{nameLength}
+use Rattle.names.specs.Names.{nameLength, paddedOnce}
 use Rattle.d64spec.proofs.ListLaws.{eq-of-equal}
 use Rattle.d64spec.proofs.RuleLaws.{name-exact, name-argument-exact}
 use Rattle.parts.proofs.EqualLaws.{equal-iff, equal-lengths-differ, equal-append}
-use Rattle.names.proofs.PaddingLaws.{letters, count-letters, nameLength-append-padding, letters-append-padding, letters-of-padding, length-take-nameLength}
+use Rattle.names.proofs.PaddingLaws.{letters, count-letters, nameLength-append-padding, letters-append-padding, letters-of-padding, length-take-nameLength, nameLength-drop-padding, nameLength-drop-letter, paddedOnce-nameLength}
+
+-- ---- the field of a slot
+
+-- it has 16 bytes where the slot has byte 14
+pub length-nameField : (s : Bytes) → 19 ≤ length s → length (nameField s) ≡ 16
+length-nameField s whole = simp (length-take, length-drop) (omega arith)
+
+-- byte i of the field is byte 3 + i of what is lent
+pub byte-nameField : (s : Bytes) (n i : ℕ) → n ≡ 3 + i → i < 16 → byte s n ≡ byte (nameField s) i
+byte-nameField s n i e h = ap (byte s) e ∙ sym (getD-take 16 (drop 3 s) i 0 h ∙ getD-drop 3 s i 0)
 
 -- ---- a field against a name filled up
 
@@ -80,18 +90,18 @@ module _ (b f : Bytes) (field : f ≡ nameField b) where
           ap (λ (k : ℕ). not (eqb k 0) && true) (ap length kept ∙ length-take-nameLength f)
       go false e = and-false (not (eqb (length (letters f)) 0)) ∙ sym (and-false (not (eqb (nameLength f) 0)))
 
-  -- n bytes stand before the first $A0: whether there are any decides
-  module _ (n : ℕ) (found : n ≡ nameLength f) where
-    by-test : {t : Bool} → eqb n 0 ≡ t → validName b ≡ (not t && equal (drop n f) (replicate (16 - n) 0xA0))
-    by-test e =
-        validName-nameLength ∙ ap (λ (k : ℕ). not (eqb k 0) && equal (drop k f) (replicate (16 - k) 0xA0)) (sym found)
-        ∙ ap (λ (t : Bool). not t && equal (drop n f) (replicate (16 - n) 0xA0)) e
+  -- THE NAME RULE BY NEIGHBOURS: the first byte is not $A0, and no other byte stands behind one
+  module _ (fits : length f ≡ 16) where
+    pub validName-first : getD f 0 0 ≡ 0xA0 → validName b ≡ false
+    validName-first e = validName-nameLength ∙ rw (none e)
+      where
+        none : getD f 0 0 ≡ 0xA0 → nameLength f ≡ 0
+        none e = nameLength-drop-padding f 0 (omega arith) e
 
-    pub validName-none : n ≡ 0 → validName b ≡ false
-    validName-none e = by-test (eq-eqb n 0 e)
-
-    pub validName-some : (n ≡ 0 → ⊥) → validName b ≡ equal (drop n f) (replicate (16 - n) 0xA0)
-    validName-some e = by-test (ne-eqb n 0 e)
+    pub validName-neighbours : (getD f 0 0 ≡ 0xA0 → ⊥) → validName b ≡ paddedOnce f
+    validName-neighbours e =
+        let some = nameLength-drop-letter f 0 (omega arith) e in
+        validName-nameLength ∙ rw (ne-eqb (nameLength f) 0 (λ z. omega arith)) (sym (rw fits at (paddedOnce-nameLength f)))
 
 -- ---- the two comparisons, where names keep the rule
 

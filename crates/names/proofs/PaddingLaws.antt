@@ -1,18 +1,18 @@
 -- Bytes and $A0, the padding of names: which bytes are not $A0, and where the first $A0 is (01, The directory).
--- In order: the bytes that are not $A0; the first $A0; both where only padding follows it; the first $A0 from an index on.
+-- In order: the bytes that are not $A0; the first $A0; both where only padding follows it; the first $A0 from an index on; neighbours.
 -- Not here: names and the field that holds one (NameLaws). Assumes nothing.
 use mathlib.Core.Path.{_≡_, refl, sym, ap, ap₂, _∙_}
-use mathlib.Core.Bool.{Bool, true, false, cond, not}
+use mathlib.Core.Bool.{Bool, true, false, cond, not, _&&_, _||_, or-true}
 use mathlib.Core.List.{[], _∷_, _++_, append-nil}
-use Prim.Native.Nat.{ℕ, zero, suc, _+_, _≤_, _<_}
+use Prim.Native.Nat.{ℕ, zero, suc, _+_, _-_, _≤_, _<_}
 use native.Mathlib.Omega.{arith}
 use native.Mathlib.Numerals.{add-one}
 use lib.ListN.{length, getD, take, drop, replicate, take-append-drop, drop-of-length-le}
 use lib.Seq.{drop-cons, take-length, length-take-le}
 use lib.Dec.{eqb}
 use borrow.Author.Tests.{eq-eqb, ne-eqb, eqb-true, eqb-false}
-use Rattle.d64spec.specs.Lists.{Bytes, indicator, filter, count}
-use Rattle.names.specs.Names.{nameLength}
+use Rattle.d64spec.specs.Lists.{Bytes, indicator, filter, count, equal}
+use Rattle.names.specs.Names.{nameLength, paddedOnce}
 
 -- ---- the bytes that are not $A0
 
@@ -55,7 +55,7 @@ letters-of-count (c ∷ l) h = rw (letter-of-count c l h) (ap (λ (m : Bytes). c
 
 -- ---- the first $A0
 
-pub nameLength-le : (s : Bytes) → nameLength s ≤ length s
+nameLength-le : (s : Bytes) → nameLength s ≤ length s
 nameLength-le [] = omega arith
 nameLength-le (c ∷ l) = go (eqb c 0xA0) (nameLength-le l)
   where
@@ -113,3 +113,45 @@ module _ (s : Bytes) (i : ℕ) where
 
   pub nameLength-drop-end : length s ≤ i → nameLength (drop i s) ≡ 0
   nameLength-drop-end h = rw (drop-of-length-le s {i = i} h)
+
+-- ---- neighbours
+
+-- only padding follows the first $A0 exactly where no other byte stands behind one
+pub paddedOnce-nameLength : (f : Bytes) → paddedOnce f ≡ equal (drop (nameLength f) f) (replicate (length f - nameLength f) 0xA0)
+paddedOnce-nameLength [] = refl
+paddedOnce-nameLength (c ∷ []) = go (eqb c 0xA0) refl
+  where
+    go : (t : Bool) → eqb c 0xA0 ≡ t → true ≡ equal (drop (cond t 0 1) (c ∷ [])) (replicate (1 - cond t 0 1) 0xA0)
+    go true e = sym (rw e)
+    go false e = refl
+paddedOnce-nameLength (c ∷ d ∷ l) = go (eqb c 0xA0) refl (eqb d 0xA0) refl (paddedOnce-nameLength (d ∷ l))
+  where
+    -- the bytes from d on, where they start with $A0
+    rest : eqb d 0xA0 ≡ true → equal (drop (nameLength (d ∷ l)) (d ∷ l)) (replicate (length (d ∷ l) - nameLength (d ∷ l)) 0xA0) ≡ equal l (replicate (length l) 0xA0)
+    rest e = let z : suc (length l) - 0 ≡ suc (length l) = omega arith in rw e (rw z (rw e))
+
+    go : (t : Bool) → eqb c 0xA0 ≡ t → (u : Bool) → eqb d 0xA0 ≡ u
+        → paddedOnce (d ∷ l) ≡ equal (drop (nameLength (d ∷ l)) (d ∷ l)) (replicate (length (d ∷ l) - nameLength (d ∷ l)) 0xA0)
+        → ((not t || u) && paddedOnce (d ∷ l))
+        ≡ equal (drop (cond t 0 (suc (nameLength (d ∷ l)))) (c ∷ d ∷ l)) (replicate (length (c ∷ d ∷ l) - cond t 0 (suc (nameLength (d ∷ l)))) 0xA0)
+    go false e u h same = let z : suc (suc (length l)) - suc (nameLength (d ∷ l)) ≡ suc (length l) - nameLength (d ∷ l) = omega arith in rw z same
+    go true e true h same = let z : suc (suc (length l)) - 0 ≡ suc (suc (length l)) = omega arith in rw z (rw (e, h) (same ∙ rest h))
+    go true e false h same = let z : suc (suc (length l)) - 0 ≡ suc (suc (length l)) = omega arith in rw z (rw (e, h))
+
+-- the byte at index i, and its neighbour
+module _ (f : Bytes) (i : ℕ) (more : i + 1 < length f) where
+  paddedOnce-next : paddedOnce (drop i f) ≡ ((not (eqb (getD f i 0) 0xA0) || eqb (getD f (i + 1) 0) 0xA0) && paddedOnce (drop (i + 1) f))
+  paddedOnce-next = rw add-one (rw (drop-cons f i 0 (omega arith), drop-cons f (suc i) 0 (omega arith)))
+
+  pub paddedOnce-letter : (getD f i 0 ≡ 0xA0 → ⊥) → paddedOnce (drop i f) ≡ paddedOnce (drop (i + 1) f)
+  paddedOnce-letter e = paddedOnce-next ∙ rw (ne-eqb (getD f i 0) 0xA0 e)
+
+  pub paddedOnce-padding : getD f (i + 1) 0 ≡ 0xA0 → paddedOnce (drop i f) ≡ paddedOnce (drop (i + 1) f)
+  paddedOnce-padding e = paddedOnce-next ∙ rw (eq-eqb (getD f (i + 1) 0) 0xA0 e, or-true)
+
+  pub paddedOnce-broken : getD f i 0 ≡ 0xA0 → (getD f (i + 1) 0 ≡ 0xA0 → ⊥) → paddedOnce (drop i f) ≡ false
+  paddedOnce-broken e k = paddedOnce-next ∙ rw (eq-eqb (getD f i 0) 0xA0 e, ne-eqb (getD f (i + 1) 0) 0xA0 k)
+
+-- the last byte has no neighbour
+pub paddedOnce-last : (f : Bytes) (i : ℕ) → length f ≡ i + 1 → paddedOnce (drop i f) ≡ true
+paddedOnce-last f i e = rw (drop-cons f i 0 (omega arith)) (rw (drop-of-length-le f {i = suc i} (omega arith)))

@@ -1,7 +1,7 @@
 -- What the contracts of names cite beside document 01's own definitions (01, The directory).
 -- Not here: nameField, validName (d64spec, Directory), validNameArgument (d64spec, Reply). Laws: proofs/PaddingLaws, NameLaws.
 use Prim.Native.Nat.{ℕ, suc}
-use mathlib.Core.Bool.{cond}
+use mathlib.Core.Bool.{Bool, true, cond, not, _&&_, _||_}
 use mathlib.Core.List.{[], _∷_}
 use lib.Dec.{eqb}
 use Rattle.d64spec.specs.Lists.{Bytes}
@@ -10,3 +10,9 @@ use Rattle.d64spec.specs.Lists.{Bytes}
 abbrev pub nameLength : Bytes → ℕ
 nameLength [] = 0
 nameLength (c ∷ l) = cond (eqb c 0xA0) 0 (suc (nameLength l))
+
+-- no other byte stands right behind a $A0 (01, The directory: then only $A0)
+abbrev pub paddedOnce : Bytes → Bool
+paddedOnce [] = true
+paddedOnce (c ∷ []) = true
+paddedOnce (c ∷ d ∷ l) = (not (eqb c 0xA0) || eqb d 0xA0) && paddedOnce (d ∷ l)

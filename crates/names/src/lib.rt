@@ -7,7 +7,7 @@ ghost use lib.ListN.{length, drop, replicate};
 ghost use Rattle.d64spec.specs.Lists.{equal};
 ghost use Rattle.d64spec.specs.Directory.{nameField, padded, validName};
 ghost use Rattle.d64spec.specs.Reply.{validNameArgument};
-ghost use Rattle.names.specs.Names.{nameLength};
+ghost use Rattle.names.specs.Names.{nameLength, paddedOnce};
 
 // What a name shorter than 16 bytes is filled up with.
 const PADDING: [u8; 16] = [0xA0; 16];
@@ -41,19 +41,34 @@ pub fn name_field(slot: &[u8]) -> &[u8]
     parts::clipped(slot, 3, 16)
 }
 
+// Whether no other byte stands behind a $A0 in a slot's name: two neighbours are asked at a time.
+fn padded_once(slot: &[u8]) -> bool
+    requires { ⌜ 19 ≤ length (now slot) ⌝ }
+    ensures { λ r. ⌜ r ≡ paddedOnce (nameField (now (slot .entry))) ⌝ }
+{
+    let mut i: usize = 0;
+    while i < 15 {
+        if slot[i + 3] == 0xA0 {
+            if slot[i + 4] != 0xA0 {
+                return false;
+            }
+        }
+        i += 1;
+    }
+    true
+}
+
 // Whether a slot's name keeps the rule: 1 to 16 bytes that are not $A0, then only $A0.
 pub fn valid_name(slot: &[u8]) -> bool
     ensures { λ r. ⌜ r ≡ validName (now (slot .entry)) ⌝ }
 {
-    let field = name_field(slot);
-    if field.len() != 16 {
+    if slot.len() < 19 {
         return false;
     }
-    let letters = name_length(field);
-    if letters == 0 {
+    if slot[3] == 0xA0 {
         return false;
     }
-    padded_from(field, letters)
+    padded_once(slot)
 }
 
 // Whether two slots have the same name, where both names keep the rule: their name fields are then equal.

@@ -1,21 +1,148 @@
 // The sleeve listing (01, Sleeve listing): the library call on any bytes and any text buffer, and what the program prints.
-ghost use mathlib.Core.Path.{_≡_};
-ghost use Rattle.sleeve.specs.Sleeves.{SleeveListed, SleevePrinted};
-use answers::Report;
+// Every refusal is made before the first byte of the text is written.
+mod lines;
+mod slots;
 
-// What the program prints: the first `length` bytes of the text.
+ghost use mathlib.Core.Path.{_≡_};
+ghost use lib.ListN.{length};
+ghost use Rattle.d64spec.specs.Geometry.{layout35};
+ghost use Rattle.d64spec.specs.Listing.{diskOfTrack18, freeTotal, listingText, refusalLine};
+ghost use Rattle.answers.specs.declared.Verdict.{Verdict};
+ghost use Rattle.sleeve.specs.Texts.{Prints, ReadySlots, RoomFor, SlotsListed, blankText, occupiedFrom};
+ghost use Rattle.sleeve.specs.Sleeves.{SleeveListed, SleevePrinted};
+use answers::Fault;
+use answers::Report;
+use answers::Verdict;
+
+// What the program prints: the first `length` bytes of the text, which is never shorter.
 pub struct Printed {
     pub text: [u8; 6234],
     pub length: usize,
+}
+
+// The map's count bytes added, as they stand, but for track 18's.
+fn free_total(map: &[u8]) -> u16
+    requires { ⌜ length (now map) ≡ 256 ⌝ }
+    ensures { λ r. ⌜ r ≡ freeTotal layout35 (now (map .entry)) ⌝ }
+{
+    let mut sum: u16 = 0;
+    let mut t: usize = 1;
+    while t < 36 {
+        if t != 18 {
+            sum += map[4 * t] as u16;
+        }
+        t += 1;
+    }
+    sum
+}
+
+// Fills the text: the disk's name and id, a line for each occupied slot below `end`, the free sectors.
+fn write_text(track18: &[u8], sectors: &[u8; 18], end: usize, text: &mut [u8])
+    requires { ⌜ RoomFor (now track18) (now sectors) end (now text) 42 ⌝ }
+    ensures { λ _. ⌜ now (text .exit) ≡ listingText layout35 (diskOfTrack18 layout35 (now (track18 .entry))) (occupiedFrom (now (track18 .entry)) (now (sectors .entry)) 0 end) ⌝ }
+{
+    let map = &track18[0..256];
+    let last = text.len() - 5;
+    lines::write_line(&map[144..160], &map[162..164], &mut text[0..37]);
+    slots::write_slots(track18, sectors, end, &mut text[37..last]);
+    let free = free_total(map);
+    let high = [(free / 256) as u8];
+    let low = [(free % 256) as u8];
+    lines::write_line(&high, &low, &mut text[last..]);
+}
+
+// A report of a refusal: length 0 and 0 sectors.
+fn refuse(fault: Fault) -> Report
+    ensures { λ r. ⌜ r ≡ record { verdict = Verdict.Refused fault; length = 0; sectors = 0 } ⌝ }
+{
+    Report {
+        verdict: Verdict::Refused(fault),
+        length: 0,
+        sectors: 0,
+    }
+}
+
+// Lists the slots of a directory that was read: refused with 4 to 6 or, last, 16.
+fn list_slots(
+    track18: &[u8],
+    sectors: &[u8; 18],
+    end: usize,
+    repeated: usize,
+    text: &mut [u8],
+) -> Report
+    requires { ⌜ ReadySlots (now track18) (now sectors) end repeated ⌝ }
+    ensures { λ r. ⌜ SlotsListed (now (track18 .entry)) (occupiedFrom (now (track18 .entry)) (now (sectors .entry)) 0 end) (now (text .entry)) r (now (text .exit)) ⌝ }
+{
+    let checked = slots::check_slots(track18, sectors, end, repeated);
+    let verdict = checked.verdict;
+    match verdict {
+        Verdict::Refused(fault) => refuse(fault),
+        Verdict::Fine => {
+            let length = 43 * checked.files + 42;
+            if text.len() < length {
+                return refuse(Fault::WrongBuffer);
+            }
+            write_text(track18, sectors, end, &mut text[0..length]);
+            Report {
+                verdict: Verdict::Fine,
+                length: length as u32,
+                sectors: 0,
+            }
+        }
+    }
 }
 
 // Lists track 18's bytes into the text buffer, from its start; the rest of it stays. Refused with 1, 2 to 6 or, last, 16.
 pub fn list_track18(track18: &[u8], text: &mut [u8]) -> Report
     ensures { λ r. ⌜ SleeveListed (now (track18 .entry)) (now (text .entry)) r (now (text .exit)) ⌝ }
 {
-    Report {
-        verdict: answers::Verdict::Fine,
-        length: 0,
-        sectors: 0,
+    let read = directory::read_directory(track18);
+    let verdict = read.verdict;
+    match verdict {
+        Verdict::Refused(fault) => refuse(fault),
+        Verdict::Fine => {
+            let sectors = read.sectors;
+            list_slots(track18, &sectors, 8 * read.count, read.repeated, text)
+        }
+    }
+}
+
+// A refusal, printed: one line of two digits.
+fn print_refusal(number: u8) -> Printed
+    ensures { λ r. ⌜ Prints (refusalLine number) r ⌝ }
+{
+    let mut text = [0u8; 6234];
+    text[0] = lines::digit(number / 10);
+    text[1] = lines::digit(number % 10);
+    text[2] = 10;
+    Printed { text, length: 3 }
+}
+
+// A text buffer with room for every listing.
+fn blank_text() -> [u8; 6234]
+    ensures { λ r. ⌜ r ≡ blankText ⌝ }
+{
+    [0u8; 6234]
+}
+
+// What the program prints, given its whole standard input: the listing of an image's track 18, or the refusal's number.
+pub fn sleeve_output(input: &[u8]) -> Printed
+    ensures { λ r. ⌜ SleevePrinted (now (input .entry)) r ⌝ }
+{
+    if input.len() != 174848 {
+        return print_refusal(1);
+    }
+    let mut text = blank_text();
+    let report = list_track18(&input[91392..96256], &mut text);
+    let verdict = report.verdict;
+    match verdict {
+        Verdict::Refused(fault) => {
+            let answer = answers::answer_of(fault);
+            print_refusal(answer.number)
+        }
+        Verdict::Fine => Printed {
+            text,
+            length: report.length as usize,
+        },
     }
 }

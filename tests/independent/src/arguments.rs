@@ -134,6 +134,7 @@ pub fn request(rng: &mut Rng, contents: Option<&Contents>) -> Request {
         8 | 9 => Call::Scratch { name },
         10 => Call::Tell {
             position: position(rng, files.len()),
+            room: entry_room(rng),
         },
         _ => Call::Listing {
             room: room(rng, 42 + 43 * files.len()),
@@ -142,14 +143,15 @@ pub fn request(rng: &mut Rng, contents: Option<&Contents>) -> Request {
     with_block(rng, call)
 }
 
-/// A call with a block; tell and the listing have none, which counts as one
-/// of nine bytes.
+/// A call with a block of any size.
 pub fn with_block(rng: &mut Rng, call: Call) -> Request {
-    let block = match call {
-        Call::Tell { .. } | Call::Listing { .. } => 9,
-        _ => block(rng),
-    };
+    let block = block(rng);
     Request { call, block }
+}
+
+/// The size of the entry lent to tell; mostly as long as it has to be.
+pub fn entry_room(rng: &mut Rng) -> usize {
+    rng.pick(&[25, 25, 25, 25, 24, 26, 0, 1, 100])
 }
 
 /// A position for tell: on the files, just past them, far off.

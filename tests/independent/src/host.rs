@@ -1,11 +1,17 @@
-//! The five host calls (01, What the calls do, Host calls): the answer goes
-//! to nine lent bytes, and its number is returned. A block of any other size
-//! gives 16 before all else, and nothing is written.
+//! The host calls (01, What the calls do, Host calls): the answer goes to
+//! nine lent bytes, and its number is returned. A block of any other size
+//! gives 16 before all else, and nothing is written. Tell and the listing have
+//! the same form, though 01 asks it of the other five only.
 
-use crate::answer::{Answer, NO_ROOM};
-use crate::{calls, check as checking};
+use crate::answer::{Answer, DONE, NO_ROOM};
+use crate::calls::Told;
+use crate::{calls, check as checking, listing as sleeve};
 
 pub const BLOCK_BYTES: usize = 9;
+
+/// What tell writes: type byte, 16 name bytes, track, sector, count in two
+/// bytes, length in four, low byte first.
+pub const ENTRY_BYTES: usize = 25;
 
 /// Track, sector, slot, length in four bytes, sectors in two, low byte first.
 pub fn block_of(answer: &Answer) -> [u8; BLOCK_BYTES] {
@@ -22,6 +28,16 @@ pub fn block_of(answer: &Answer) -> [u8; BLOCK_BYTES] {
         sectors[0],
         sectors[1],
     ]
+}
+
+pub fn entry_of(told: &Told) -> [u8; ENTRY_BYTES] {
+    let mut entry = [0; ENTRY_BYTES];
+    entry[0] = told.kind;
+    entry[1..17].copy_from_slice(&told.name);
+    (entry[17], entry[18]) = (told.track, told.sector);
+    entry[19..21].copy_from_slice(&told.count.to_le_bytes());
+    entry[21..25].copy_from_slice(&told.length.to_le_bytes());
+    entry
 }
 
 /// Runs a call only if the block has nine bytes.
@@ -52,4 +68,24 @@ pub fn store(image: &mut [u8], name: &[u8], kind: u32, data: &[u8], block: &mut 
 
 pub fn scratch(image: &mut [u8], name: &[u8], block: &mut [u8]) -> u32 {
     with_block(block, || calls::scratch(image, name))
+}
+
+/// Writes what tell tells at the start of `entry`. A short one is refused
+/// last, like any output; a refusal leaves it as it was.
+pub fn tell(image: &[u8], position: usize, entry: &mut [u8], block: &mut [u8]) -> u32 {
+    with_block(block, || {
+        let (answer, told) = calls::tell(image, position);
+        if answer.number != DONE {
+            return answer;
+        }
+        let Some(entry) = entry.first_chunk_mut() else {
+            return Answer::refusal(NO_ROOM);
+        };
+        *entry = entry_of(&told);
+        answer
+    })
+}
+
+pub fn listing(track18: &[u8], text: &mut [u8], block: &mut [u8]) -> u32 {
+    with_block(block, || sleeve::listing(track18, text))
 }

@@ -1,12 +1,12 @@
 //! The sleeve listing (01, Sleeve listing): it looks at track 18 alone, at no
 //! first link, count, chain or map bit.
 
-use crate::answer::{NO_ROOM, WRONG_SIZE};
+use crate::answer::{Answer, DONE, NO_ROOM, WRONG_SIZE};
 use crate::check::{check_entry, Names};
 use crate::disk::{
     free_off_track_18, is_empty, slot_in, track_18, walk_directory, Directory, Slot, Track18,
 };
-use crate::geometry::{IMAGE_BYTES, TRACK_18_BYTES, TRACK_18_OFFSET};
+use crate::geometry::{DIRECTORY_TRACK, IMAGE_BYTES, TRACK_18_BYTES, TRACK_18_OFFSET};
 
 /// Room that always suffices: 37 + 144 * 43 + 5.
 pub const LONGEST: usize = 6_234;
@@ -15,46 +15,45 @@ const FIRST_LINE: usize = 2 * 18 + 1;
 const FILE_LINE: usize = 2 * 21 + 1;
 const LAST_LINE: usize = 2 * 2 + 1;
 
-/// The answer number and the text's length, 0 if refused. A place isn't
-/// reported: the papers fix none for this call.
-#[derive(Clone, Copy, PartialEq, Eq, Debug)]
-pub struct Listed {
-    pub number: u8,
-    pub length: usize,
-}
-
 /// Lists the 4,864 bytes of track 18 into `text`, from its start; the rest of
-/// `text` is left.
-pub fn listing(track18: &[u8], text: &mut [u8]) -> Listed {
+/// `text` is left. The answer's length is the text's, and it visits no sector
+/// of a file. A fault has the place that the check gives it: the papers fix
+/// none for this call.
+pub fn listing(track18: &[u8], text: &mut [u8]) -> Answer {
     match try_listing(track18, text) {
-        Ok(length) => Listed { number: 0, length },
-        Err(number) => Listed { number, length: 0 },
+        Ok(length) => Answer::done(length as u32, 0),
+        Err(refusal) => refusal,
     }
 }
 
-fn try_listing(bytes: &[u8], text: &mut [u8]) -> Result<usize, u8> {
-    let track18 = track_18(bytes).ok_or(WRONG_SIZE)?;
-    let directory = walk_directory(track18).map_err(|fault| fault.number)?;
+fn try_listing(bytes: &[u8], text: &mut [u8]) -> Result<usize, Answer> {
+    let track18 = track_18(bytes).ok_or(Answer::refusal(WRONG_SIZE))?;
+    let directory = walk_directory(track18)?;
     let mut names = Names::new();
     let mut files = 0;
-    for slot in occupied(track18, &directory) {
-        check_entry(slot, &mut names)?;
+    for (index, slot) in occupied(track18, &directory) {
+        let holder = directory.sector_of(index);
+        let here = |number| Answer::fault(number, DIRECTORY_TRACK, holder, index as u8);
+        check_entry(slot, &mut names).map_err(here)?;
         files += 1;
     }
     let length = FIRST_LINE + files * FILE_LINE + LAST_LINE;
-    let text = text.get_mut(..length).ok_or(NO_ROOM)?;
+    let text = text.get_mut(..length).ok_or(Answer::refusal(NO_ROOM))?;
     write_lines(track18, &directory, text);
     Ok(length)
 }
 
-/// The occupied slots in directory order.
+/// The occupied slots in directory order, each with its number.
 fn occupied<'a>(
     track18: &'a Track18,
     directory: &'a Directory,
-) -> impl Iterator<Item = &'a Slot> + 'a {
+) -> impl Iterator<Item = (usize, &'a Slot)> + 'a {
     (0..directory.slots())
-        .map(|index| slot_in(&track18[usize::from(directory.sector_of(index))], index))
-        .filter(|slot| !is_empty(slot))
+        .map(|index| {
+            let sector = &track18[usize::from(directory.sector_of(index))];
+            (index, slot_in(sector, index))
+        })
+        .filter(|(_, slot)| !is_empty(slot))
 }
 
 /// Writes the whole text; `text` has exactly its length.
@@ -63,10 +62,8 @@ fn write_lines(track18: &Track18, directory: &Directory, text: &mut [u8]) {
     let (first, rest) = text.split_at_mut(FIRST_LINE);
     write_line(first, &[&map[0x90..0xA0], &map[0xA2..0xA4]]);
     let (files, last) = rest.split_at_mut(rest.len() - LAST_LINE);
-    for (line, slot) in files
-        .chunks_mut(FILE_LINE)
-        .zip(occupied(track18, directory))
-    {
+    let lines = files.chunks_mut(FILE_LINE);
+    for (line, (_, slot)) in lines.zip(occupied(track18, directory)) {
         write_line(line, &[&slot[0x02..0x15], &slot[0x1E..0x20]]);
     }
     let free = free_off_track_18(map) as u16;
@@ -94,13 +91,10 @@ pub fn sleeve_output(input: &[u8]) -> Vec<u8> {
         let track18 = &input[TRACK_18_OFFSET..TRACK_18_OFFSET + TRACK_18_BYTES];
         listing(track18, &mut text)
     } else {
-        Listed {
-            number: WRONG_SIZE,
-            length: 0,
-        }
+        Answer::refusal(WRONG_SIZE)
     };
-    if listed.number == 0 {
-        text.truncate(listed.length);
+    if listed.number == DONE {
+        text.truncate(listed.length as usize);
         text
     } else {
         format!("{:02}\n", listed.number).into_bytes()

@@ -157,6 +157,7 @@ fn other(rng: &mut Rng, guess: &Guess, names: &[Vec<u8>]) -> Call {
         1..=4 => Call::Check,
         5..=9 => Call::Tell {
             position: arguments::position(rng, names.len()),
+            room: arguments::entry_room(rng),
         },
         10..=12 => Call::Listing {
             room: arguments::room(rng, 42 + 43 * names.len()),

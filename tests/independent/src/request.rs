@@ -1,12 +1,10 @@
 //! Calls as data, so that one list of them can be run on two libraries.
 
-use crate::calls::Told;
 use crate::geometry::{IMAGE_BYTES, TRACK_18_BYTES, TRACK_18_OFFSET};
-use crate::listing::Listed;
-use crate::{calls, host, listing};
+use crate::host;
 
-/// A library under test: the five host calls, and if it has them, tell and
-/// the sleeve listing, which have no answer block.
+/// A library under test: the five host calls, and if it has them in the same
+/// form, tell and the sleeve listing.
 pub trait Library {
     fn check(&self, image: &[u8], block: &mut [u8]) -> u32;
     fn format(&self, image: &mut [u8], name: &[u8], id1: u8, id2: u8, block: &mut [u8]) -> u32;
@@ -14,10 +12,16 @@ pub trait Library {
     fn store(&self, image: &mut [u8], name: &[u8], kind: u32, data: &[u8], block: &mut [u8])
         -> u32;
     fn scratch(&self, image: &mut [u8], name: &[u8], block: &mut [u8]) -> u32;
-    fn tell(&self, _image: &[u8], _position: usize) -> Option<(u32, Told)> {
+    fn tell(
+        &self,
+        _image: &[u8],
+        _position: usize,
+        _entry: &mut [u8],
+        _block: &mut [u8],
+    ) -> Option<u32> {
         None
     }
-    fn listing(&self, _track18: &[u8], _text: &mut [u8]) -> Option<Listed> {
+    fn listing(&self, _track18: &[u8], _text: &mut [u8], _block: &mut [u8]) -> Option<u32> {
         None
     }
 }
@@ -48,12 +52,17 @@ impl Library for Independent {
     fn scratch(&self, image: &mut [u8], name: &[u8], block: &mut [u8]) -> u32 {
         host::scratch(image, name, block)
     }
-    fn tell(&self, image: &[u8], position: usize) -> Option<(u32, Told)> {
-        let (answer, told) = calls::tell(image, position);
-        Some((u32::from(answer.number), told))
+    fn tell(
+        &self,
+        image: &[u8],
+        position: usize,
+        entry: &mut [u8],
+        block: &mut [u8],
+    ) -> Option<u32> {
+        Some(host::tell(image, position, entry, block))
     }
-    fn listing(&self, track18: &[u8], text: &mut [u8]) -> Option<Listed> {
-        Some(listing::listing(track18, text))
+    fn listing(&self, track18: &[u8], text: &mut [u8], block: &mut [u8]) -> Option<u32> {
+        Some(host::listing(track18, text, block))
     }
 }
 
@@ -80,10 +89,21 @@ pub enum Call {
     },
     Tell {
         position: usize,
+        room: usize,
     },
     Listing {
         room: usize,
     },
+}
+
+impl Call {
+    /// The size of the output that the call is lent; 0 if it has none.
+    pub fn room(&self) -> usize {
+        match *self {
+            Call::Read { room, .. } | Call::Tell { room, .. } | Call::Listing { room } => room,
+            _ => 0,
+        }
+    }
 }
 
 /// A call, and the size of the answer block lent for it.
@@ -113,9 +133,6 @@ pub struct Reply {
     pub number: u32,
     pub block: Vec<u8>,
     pub out: Vec<u8>,
-    pub told: Told,
-    /// Length of a listing's text.
-    pub listed: usize,
 }
 
 /// Lent memory starts with bytes that no call writes by chance all over.
@@ -135,34 +152,20 @@ impl Reply {
 
 /// Runs one request. `None` if the library doesn't offer the call.
 pub fn perform(library: &dyn Library, image: &mut [u8], request: &Request) -> Option<Reply> {
-    let room = match request.call {
-        Call::Read { room, .. } | Call::Listing { room } => room,
-        _ => 0,
-    };
     let mut reply = Reply {
         number: 0,
         block: lent(request.block),
-        out: lent(room),
-        told: Told::default(),
-        listed: 0,
+        out: lent(request.call.room()),
     };
-    let block = &mut reply.block;
+    let (out, block) = (&mut reply.out, &mut reply.block);
     reply.number = match &request.call {
         Call::Check => library.check(image, block),
         Call::Format { name, id1, id2 } => library.format(image, name, *id1, *id2, block),
-        Call::Read { name, .. } => library.read(image, name, &mut reply.out, block),
+        Call::Read { name, .. } => library.read(image, name, out, block),
         Call::Store { name, kind, data } => library.store(image, name, *kind, data, block),
         Call::Scratch { name } => library.scratch(image, name, block),
-        Call::Tell { position } => {
-            let (number, told) = library.tell(image, *position)?;
-            reply.told = told;
-            number
-        }
-        Call::Listing { .. } => {
-            let listed = library.listing(track_18_of(image), &mut reply.out)?;
-            reply.listed = listed.length;
-            u32::from(listed.number)
-        }
+        Call::Tell { position, .. } => library.tell(image, *position, out, block)?,
+        Call::Listing { .. } => library.listing(track_18_of(image), out, block)?,
     };
     Some(reply)
 }

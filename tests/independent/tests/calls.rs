@@ -8,9 +8,9 @@ use independent::check::check;
 use independent::generate::{generate, kinds, sound, SOUND};
 use independent::host::block_of;
 use independent::naive::contents;
-use independent::request::{lent, perform, Call, Independent, Reply, Request};
+use independent::request::{lent, perform, track_18_of, Call, Independent, Reply, Request};
 use independent::rng::{for_seeds, Rng};
-use independent::{answer::Answer, arguments, calls::Told};
+use independent::{answer::Answer, arguments};
 use std::collections::BTreeMap;
 
 /// Compares one call with the model; gives its number.
@@ -33,35 +33,28 @@ fn compare(image: &[u8], request: &Request, what: &str) -> u32 {
     number
 }
 
-/// The output buffer, the listing's length, and what tell tells. The buffer
-/// past what is to be written, and all of it after a refusal, is as lent.
+/// The output buffer. The part past what is to be written, and all of it
+/// after a refusal, is as lent.
 fn compare_output(image: &[u8], request: &Request, reply: &Reply, shown: &str) {
-    let (mut written, mut told) = (Vec::new(), Told::default());
+    let mut written = Vec::new();
     if reply.number == 0 {
         written = model::output(image, &request.call);
-        if let Call::Tell { position } = request.call {
-            told = model::told(&contents(image).unwrap().files[position]);
-        }
     }
     let mut out = lent(reply.out.len());
     out[..written.len()].copy_from_slice(&written);
     assert!(reply.out == out, "output bytes, {shown}");
-    assert_eq!(reply.told, told, "{shown}");
-    if matches!(request.call, Call::Listing { .. }) {
-        assert_eq!(reply.listed, written.len(), "{shown}");
-    }
 }
 
 fn compare_block(image: &[u8], request: &Request, reply: &Reply, shown: &str) {
-    let written = match &request.call {
-        Call::Tell { .. } | Call::Listing { .. } => false,
-        _ => request.block == 9,
-    };
     let expected = match reply.number {
-        _ if !written => lent(request.block),
+        _ if request.block != 9 => lent(request.block),
         0 => {
             let (length, sectors) = model::report(image, &request.call);
             block_of(&Answer::done(length, sectors)).to_vec()
+        }
+        2..=8 if matches!(request.call, Call::Listing { .. }) => {
+            let fault = model::listing(track_18_of(image)).unwrap_err();
+            block_of(&fault).to_vec()
         }
         number @ 2..=8 => {
             let fault = check(image);

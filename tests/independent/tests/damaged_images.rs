@@ -97,20 +97,20 @@ fn the_listing_of_any_bytes() {
             let listed = listing(track18, &mut text);
             match &expected {
                 Ok(wanted) if wanted.len() <= room => {
-                    assert_eq!((listed.number, listed.length), (0, wanted.len()), "{kind}");
+                    assert_eq!(listed, Answer::done(wanted.len() as u32, 0), "{kind}");
                     assert_eq!(text[..wanted.len()], *wanted.as_bytes(), "{kind}");
                     assert_eq!(text[wanted.len()..], lent(room)[wanted.len()..], "{kind}");
                 }
                 _ => {
-                    let number = expected.clone().err().unwrap_or(16);
-                    assert_eq!((listed.number, listed.length), (number, 0), "{kind}");
+                    let refusal = expected.clone().err().unwrap_or(Answer::refusal(16));
+                    assert_eq!(listed, refusal, "{kind}");
                     assert_eq!(text, lent(room), "{kind}");
                 }
             }
             let printed = match expected {
                 _ if made.image.len() != 174_848 => "01\n".to_string(),
                 Ok(text) => text,
-                Err(number) => format!("{number:02}\n"),
+                Err(refusal) => format!("{:02}\n", refusal.number),
             };
             assert_eq!(sleeve_output(&made.image), printed.as_bytes(), "{kind}");
         }

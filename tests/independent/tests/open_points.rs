@@ -483,13 +483,14 @@ fn point_23_a_short_text_buffer_comes_last() {
     let track18 = offset(18, 0)..offset(18, 0) + 4_864;
     let mut text = lent(LONGEST - 1);
     let listed = listing(&image[track18.clone()], &mut text);
-    assert_eq!((listed.number, listed.length), (16, 0));
+    assert_eq!(listed, Answer::refusal(16));
     assert_eq!(text, lent(LONGEST - 1));
     let mut text = lent(LONGEST + 1);
     let listed = listing(&image[track18.clone()], &mut text);
-    assert_eq!((listed.number, listed.length), (0, LONGEST));
+    assert_eq!(listed, Answer::done(LONGEST as u32, 0));
     assert_eq!(text[LONGEST..], lent(LONGEST + 1)[LONGEST..]);
     set(&mut image, 18, 18, 7 * SLOT + 2, &[0x84]);
-    assert_eq!(listing(&image[track18], &mut []).number, 4);
-    assert_eq!(listing(&image[..4_863], &mut []).number, 1);
+    let fault = Answer::fault(4, 18, 18, 143);
+    assert_eq!(listing(&image[track18], &mut []), fault);
+    assert_eq!(listing(&image[..4_863], &mut []), Answer::refusal(1));
 }

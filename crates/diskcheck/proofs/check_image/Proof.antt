@@ -1,5 +1,6 @@
 -- `diskcheck::check_image` meets its contract. In order: the size; the directory of track 18; the slots and the map.
 use native.Mathlib.Omega.{arith}
+use mathlib.Core.Path.{refl}
 use borrow.Author.Needs.{needs}
 use Rattle.diskcheck.proofs.ImageLaws.{checked-refused, size-wrong, directory-refused, directory-ready, rest-refused, checked-fine}
 use Rattle.diskcheck.proofs.check_image.Statement.{statement}
@@ -67,7 +68,7 @@ returns-4 c =
     let r = c .before .before in
     let t = r .before .before .before .before .before in
     let d = t .before .before in
-    checked-fine _ (omega (arith, d .before .before .if1 .left)) (d .read-directory .ensures) (t .enum-told .given .1) _ (rw (c .enum-told2 .given .1) at (r .check-rest .ensures))
+    checked-fine _ (omega (arith, d .before .before .if1 .left)) (d .read-directory .ensures) (t .enum-told .given .1) _ (rw (c .enum-told2 .given .1) at (r .check-rest .ensures)) refl
 
 pub check-image-spec : {M : Type 1} → statement M
 check-image-spec =

@@ -1,4 +1,5 @@
 -- `diskcheck::check_rest` meets its contract: a fault of the slots is the verdict, else the map's.
+use mathlib.Core.Path.{refl}
 use borrow.Author.Needs.{needs}
 use Rattle.diskcheck.proofs.ImageLaws.{slots-refused, slots-fine}
 use Rattle.diskcheck.proofs.check_rest.Statement.{statement}
@@ -34,7 +35,7 @@ returns-2 : tie.Need-returns-2
 returns-2 c =
     let t = c .before .before .before in
     let s = t .before .before in
-    slots-fine _ _ _ _ _ _ (rw (t .enum-told .given .1) at (s .check-slots .ensures)) (c .check-map .ensures)
+    slots-fine _ _ _ _ _ _ _ (rw (t .enum-told .given .1) at (s .check-slots .ensures)) (c .check-map .ensures) refl
 
 pub check-rest-spec : {M : Type 1} → statement M
 check-rest-spec =

@@ -1,63 +1,68 @@
+-- `mapcheck::check_map`. The loop keeps `Checking`: the tracks passed are correct, so that the rest decides. What falls is the number of tracks left.
+-- Assumes nothing.
+use Prim.Native.Nat.{_-_}
+use native.Mathlib.Omega.{arith}
+use borrow.Author.Needs.{needs}
+use borrow.Author.Tests.{not-true, not-false}
+use Rattle.mapsector.proofs.MapShapeLaws.{MapShape, map-shaped}
+use Rattle.answers.specs.Faults.{faultOf, verdictOf}
+use Rattle.mapcheck.proofs.StepLaws.{Checking, checking-start, checking-moved, checking-wrong, checking-finished}
 use Rattle.mapcheck.proofs.check_map.Statement.{statement}
 use Rattle.mapcheck.proofs.check_map.Tie as tie
-use Rattle.mapcheck.proofs.check_map.Reads as reads
-use Rattle.mapcheck.proofs.check_map.Lts as lts
-use Rattle.mapcheck.proofs.entry_correct.Reads as entry-correct-reads
-use Rattle.mapsector.proofs.load_map.Reads as load-map-reads
 
 abbrev Inv-loop : tie.InvT-loop
-Inv-loop sector own map track₀ track = ?
+Inv-loop sector own map track₀ track = Checking sector own track
 
 abbrev μ-loop : tie.MeasureT-loop
-μ-loop sector own map track₀ track = ?
+μ-loop sector own map track₀ track = 36 - track
 
--- src/lib.rt:56:15
+-- the loaded map has 35 entries of four bytes
+shape : (c : tie.After-load-map Inv-loop μ-loop) → MapShape (c .load-map .result)
+shape c = map-shaped _ _ (c .load-map .ok)
+
 load-map-requires : tie.Need-load-map-requires Inv-loop μ-loop
-load-map-requires c κs = ?
+load-map-requires c κs = search needs
 
--- src/lib.rt:58:5
 loop-holds : tie.Need-loop-holds Inv-loop μ-loop
-loop-holds c = ?
+loop-holds c = checking-start _ _
 
--- src/lib.rt:59:18
 sub-i : tie.Need-sub-i Inv-loop μ-loop
-sub-i c = ?
+sub-i c = search needs
 
--- src/lib.rt:59:17
 cast-i : tie.Need-cast-i Inv-loop μ-loop
-cast-i c = ?
+cast-i c = search needs
 
--- src/lib.rt:60:21
 mul-entry : tie.Need-mul-entry Inv-loop μ-loop
-mul-entry c = ?
+mul-entry c = search needs
 
--- src/lib.rt:60:21
 array-copy-out-entry : tie.Need-array-copy-out-entry Inv-loop μ-loop
-array-copy-out-entry c = ?
+array-copy-out-entry c = search needs
 
--- src/lib.rt:61:13
 entry-correct-requires : tie.Need-entry-correct-requires Inv-loop μ-loop
-entry-correct-requires c κs = ?
+entry-correct-requires c κs = search needs
 
--- src/lib.rt:62:13
 returns : tie.Need-returns Inv-loop μ-loop
-returns c = ?
+unfolding verdictOf faultOf
+returns c =
+    let told = c .before .entry-correct in
+    let at = c .before .before .before .before in
+    checking-wrong (at .loop .inv) (omega arith) (at .before .load-map .ensures) (shape (at .before)) (told .ensures) (not-true _ (c .if1 .taken))
 
--- src/lib.rt:64:9
 add-track : tie.Need-add-track Inv-loop μ-loop
-add-track c = ?
+add-track c = search needs
 
--- src/lib.rt:58:5
 loop-less : tie.Need-loop-less Inv-loop μ-loop
-loop-less c = ?
+loop-less c = search needs
 
--- src/lib.rt:58:5
 loop-again : tie.Need-loop-again Inv-loop μ-loop
-loop-again c = ?
+loop-again c =
+    let told = c .before .entry-correct in
+    let at = c .before .before .before .before in
+    checking-moved (at .loop .inv) (omega arith) (at .before .load-map .ensures) (shape (at .before)) (told .ensures) (not-false _ (c .if1 .left))
 
--- src/lib.rt:53:1
 returns-2 : tie.Need-returns-2 Inv-loop μ-loop
-returns-2 c = ?
+unfolding verdictOf
+returns-2 c = checking-finished (c .before .loop .inv) (omega arith)
 
 pub check-map-spec : {M : Type 1} → statement M
 check-map-spec =

@@ -1,79 +1,77 @@
+-- `mapcheck::entry_correct`: the bitmap is compared with the surveyed mask, and where they agree the count decides.
+-- Assumes nothing.
+use native.Mathlib.Omega.{arith}
 use borrow.Author.Needs.{needs}
+use Rattle.geometry.proofs.TableLaws.{track-end-le}
+use Rattle.mapentry.proofs.ShapeLaws.{EntryShape, entry-shaped}
+use Rattle.mapcheck.specs.MapChecks.{bitmapOf}
+use Rattle.mapcheck.proofs.TrackLaws.{track-wrong, track-by-count}
 use Rattle.mapcheck.proofs.entry_correct.Statement.{statement}
 use Rattle.mapcheck.proofs.entry_correct.Tie as tie
-use Rattle.mapcheck.proofs.entry_correct.Reads as reads
-use Rattle.mapcheck.proofs.entry_correct.Lts as lts
-use Rattle.geometry.proofs.first_on.Reads as first-on-reads
-use Rattle.geometry.proofs.sectors_on.Reads as sectors-on-reads
-use Rattle.mapcheck.proofs.survey.Reads as survey-reads
 
--- src/lib.rt:42:9
+-- the entry's bytes are bytes
+shape : (c : tie.Start) → EntryShape (c .args .t1)
+shape c = entry-shaped _ _ (c .good .0)
+
 first-on-requires : tie.Need-first-on-requires
 first-on-requires c κs = search needs
 
--- src/lib.rt:42:9
 cast-survey : tie.Need-cast-survey
 cast-survey c = search needs
 
--- src/lib.rt:43:9
 sectors-on-requires : tie.Need-sectors-on-requires
 sectors-on-requires c κs = search needs
 
--- src/lib.rt:40:9
 survey-requires : tie.Need-survey-requires
-survey-requires c κs = ?
+survey-requires c κs =
+    let first = c .before .first-on .ensures in
+    let count = c .sectors-on .ensures in
+    (omega (arith, track-end-le (c .before .before .args .track)), omega arith)
 
--- src/lib.rt:45:18
 array-read-bitmap : tie.Need-array-read-bitmap
 array-read-bitmap c = search needs
 
--- src/lib.rt:45:18
 cast-bitmap : tie.Need-cast-bitmap
 cast-bitmap c = search needs
 
--- src/lib.rt:45:43
 array-read-bitmap-2 : tie.Need-array-read-bitmap-2
 array-read-bitmap-2 c = search needs
 
--- src/lib.rt:45:43
 cast-bitmap-2 : tie.Need-cast-bitmap-2
 cast-bitmap-2 c = search needs
 
--- src/lib.rt:45:36
 mul-bitmap : tie.Need-mul-bitmap
-mul-bitmap c = ?
+mul-bitmap c = let e = shape (c .before .before .before) in omega (arith, e .small 1, e .small 2, e .small 3)
 
--- src/lib.rt:45:18
 add-bitmap : tie.Need-add-bitmap
-add-bitmap c = ?
+add-bitmap c = let e = shape (c .before .before .before) in omega (arith, e .small 1, e .small 2, e .small 3)
 
--- src/lib.rt:45:71
 array-read-bitmap-3 : tie.Need-array-read-bitmap-3
 array-read-bitmap-3 c = search needs
 
--- src/lib.rt:45:71
 cast-bitmap-3 : tie.Need-cast-bitmap-3
 cast-bitmap-3 c = search needs
 
--- src/lib.rt:45:62
 mul-bitmap-2 : tie.Need-mul-bitmap-2
-mul-bitmap-2 c = ?
+mul-bitmap-2 c = let e = shape (c .before .before .before) in omega (arith, e .small 1, e .small 2, e .small 3)
 
--- src/lib.rt:45:18
 add-bitmap-2 : tie.Need-add-bitmap-2
-add-bitmap-2 c = ?
+add-bitmap-2 c = let e = shape (c .before .before .before) in omega (arith, e .small 1, e .small 2, e .small 3)
 
--- src/lib.rt:47:9
 returns : tie.Need-returns
-returns c = ?
+unfolding bitmapOf
+returns c =
+    let k = c .before .before in
+    track-wrong _ _ _ (k .before .before .first-on .ensures) (k .before .sectors-on .ensures .sectors) (k .survey .ensures) (λ q. c .if1 .taken (omega (arith, q)))
 
--- src/lib.rt:49:5
 array-read-result : tie.Need-array-read-result
 array-read-result c = search needs
 
--- src/lib.rt:36:1
 returns-2 : tie.Need-returns-2
-returns-2 c = ?
+unfolding bitmapOf
+returns-2 c =
+    let k = c .before .before .before in
+    track-by-count _ _ _ (k .before .before .first-on .ensures) (k .before .sectors-on .ensures .sectors) (k .survey .ensures) (omega (arith, c .before .if1 .left))
 
 pub entry-correct-spec : {M : Type 1} → statement M
 entry-correct-spec =

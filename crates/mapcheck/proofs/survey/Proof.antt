@@ -7,8 +7,6 @@ use borrow.Author.Needs.{needs}
 use Rattle.mapcheck.proofs.SurveyLaws.{Surveying, surveying-start, surveying-mask-lt, surveying-count-le, surveying-free, surveying-owned, surveying-finished, shifted}
 use Rattle.mapcheck.proofs.survey.Statement.{statement}
 use Rattle.mapcheck.proofs.survey.Tie as tie
-use Rattle.mapcheck.proofs.survey.Reads as reads
-use Rattle.mapcheck.proofs.survey.Lts as lts
 
 abbrev Inv-loop : tie.InvT-loop
 Inv-loop own first sectors mask₀ count₀ s₀ mask count s = Surveying own first sectors mask count s

@@ -1,47 +1,32 @@
--- `names::valid_name` meets its contract: each return is a case of the name rule by the first $A0. Assumes nothing.
-use mathlib.Core.Path.{sym, _∙_}
+-- `names::valid_name` meets its contract: a short slot has no name field of 16 bytes; else the first byte decides, then the neighbours. Assumes nothing.
+use mathlib.Core.Path.{refl, sym, _∙_}
 use native.Mathlib.Omega.{arith}
+use lib.ListN.{drop, length-take, length-drop}
 use borrow.Author.Needs.{needs}
-use Rattle.names.proofs.PaddingLaws.{nameLength-le}
-use Rattle.names.proofs.NameLaws.{validName-misfit, validName-none, validName-some}
+use Rattle.names.proofs.NameLaws.{length-nameField, byte-nameField, validName-misfit, validName-first, validName-neighbours}
 use Rattle.names.proofs.valid_name.Statement.{statement}
 use Rattle.names.proofs.valid_name.Tie as tie
 
-name-field-requires : tie.Need-name-field-requires
-name-field-requires c κs = search needs
-
 returns : tie.Need-returns
-returns c = let f = c .before in sym (validName-misfit (f .before .before .args .slot .now) _ (f .name-field .ensures) (λ e. omega arith))
+returns c =
+    let s = c .before .before .args .slot .now in
+    sym (validName-misfit s _ refl (λ e. omega (arith, length-take 16 (drop 3 s), length-drop 3 s)))
 
-name-length-requires : tie.Need-name-length-requires
-name-length-requires c κs = search needs
+shared-slice-read-if2 : tie.Need-shared-slice-read-if2
+shared-slice-read-if2 c = search needs
 
 returns-2 : tie.Need-returns-2
 returns-2 c =
-    let n = c .before in
-    let f = n .before .before in
-    sym (validName-none (f .before .before .args .slot .now) _ (f .name-field .ensures) _ (n .name-length .ensures) (omega arith))
+    let s = c .before .before .before .before .args .slot .now in
+    sym (validName-first s _ refl (length-nameField s (omega arith)) (omega (arith, byte-nameField s 3 0 (omega arith) (omega arith))))
 
-padded-from-requires : tie.Need-padded-from-requires
-padded-from-requires c κs =
-    let n = c .before in
-    let f = n .before .before in
-    (omega arith, omega (arith, n .name-length .ensures, nameLength-le (f .name-field .result .now)))
+padded-once-requires : tie.Need-padded-once-requires
+padded-once-requires c κs = search needs
 
 returns-3 : tie.Need-returns-3
 returns-3 c =
-    let n = c .before .before in
-    let f = n .before .before in
-    c .padded-from .ensures
-    ∙ sym (validName-some (f .before .before .args .slot .now) _ (f .name-field .ensures) _ (n .name-length .ensures) (λ e. omega arith))
+    let s = c .before .before .before .before .before .args .slot .now in
+    c .padded-once .ensures ∙ sym (validName-neighbours s _ refl (length-nameField s (omega arith)) (λ e. omega (arith, byte-nameField s 3 0 (omega arith) (omega arith))))
 
 pub valid-name-spec : {M : Type 1} → statement M
-valid-name-spec =
-    tie.close
-    (tie.spec
-    name-field-requires
-    returns
-    name-length-requires
-    returns-2
-    padded-from-requires
-    returns-3)
+valid-name-spec = tie.close (tie.spec returns shared-slice-read-if2 returns-2 padded-once-requires returns-3)

@@ -7,6 +7,7 @@
 // Each test file uses a part of this.
 #![allow(dead_code)]
 
+use independent::answer::Answer;
 use independent::calls::Told;
 use independent::check::check;
 use independent::naive::{contents, places, position, track_length, Contents, File, Owner};
@@ -65,10 +66,11 @@ fn number_when_accepted(image: &[u8], held: &Contents, call: &Call) -> u32 {
     match call {
         Call::Store { .. } if file.is_some() => 12,
         Call::Read { .. } | Call::Scratch { .. } if file.is_none() => 13,
-        Call::Tell { position } if *position >= held.files.len() => 13,
+        Call::Tell { position, .. } if *position >= held.files.len() => 13,
         Call::Store { .. } if new_slot(image, held).is_none() => 14,
         Call::Store { data, .. } if needed(data.len()) > house_order(held).len() => 15,
         Call::Read { room, .. } if file.is_some_and(|file| file.bytes.len() > *room) => 16,
+        Call::Tell { room, .. } if *room < 25 => 16,
         _ => 0,
     }
 }
@@ -227,6 +229,7 @@ pub fn report(image: &[u8], call: &Call) -> (u32, u16) {
             let file = find(&held, name).unwrap();
             (file.bytes.len() as u32, file.chain.len() as u16)
         }
+        Call::Listing { .. } => (output(image, call).len() as u32, 0),
         _ => (0, 0),
     }
 }
@@ -237,6 +240,10 @@ pub fn output(image: &[u8], call: &Call) -> Vec<u8> {
         Call::Read { name, .. } => {
             let held = contents(image).unwrap();
             find(&held, name).unwrap().bytes.clone()
+        }
+        Call::Tell { position, .. } => {
+            let held = contents(image).unwrap();
+            entry(&told(&held.files[*position]))
         }
         Call::Listing { .. } => listing(independent::request::track_18_of(image))
             .unwrap()
@@ -259,53 +266,68 @@ pub fn told(file: &File) -> Told {
     }
 }
 
+/// The same as tell's 25 bytes.
+fn entry(told: &Told) -> Vec<u8> {
+    let mut bytes = vec![told.kind];
+    bytes.extend(told.name);
+    bytes.extend([told.track, told.sector]);
+    bytes.extend([0, 8].map(|shift| (told.count >> shift) as u8));
+    bytes.extend([0, 8, 16, 24].map(|shift| (told.length >> shift) as u8));
+    bytes
+}
+
 // --- The sleeve listing ---------------------------------------------------
 
 fn listing_number(image: &[u8], room: usize) -> u32 {
     match listing(independent::request::track_18_of(image)) {
-        Err(number) => u32::from(number),
+        Err(refusal) => u32::from(refusal.number),
         Ok(text) if text.len() > room => 16,
         Ok(_) => 0,
     }
 }
 
-/// The directory's sectors on track 18, or the number of the first bad link.
-fn directory(track18: &[u8]) -> Result<Vec<usize>, u8> {
+/// The directory's sectors on track 18, or its first bad link, which the last
+/// sector walked holds.
+fn directory(track18: &[u8]) -> Result<Vec<usize>, Answer> {
     let mut walked = vec![1usize];
     loop {
-        let here = 256 * walked[walked.len() - 1];
-        match (track18[here], track18[here + 1] as usize) {
+        let last = walked[walked.len() - 1];
+        let fault = |number| Err(Answer::fault(number, 18, last as u8, 255));
+        match (track18[256 * last], track18[256 * last + 1] as usize) {
             (0, _) => return Ok(walked),
-            (18, next @ 1..=18) if walked.contains(&next) => return Err(3),
+            (18, next @ 1..=18) if walked.contains(&next) => return fault(3),
             (18, next @ 1..=18) => walked.push(next),
-            _ => return Err(2),
+            _ => return fault(2),
         }
     }
 }
 
-/// The listing's text, or the number of its refusal.
-pub fn listing(track18: &[u8]) -> Result<String, u8> {
+/// The listing's text, or its refusal.
+pub fn listing(track18: &[u8]) -> Result<String, Answer> {
     if track18.len() != 4_864 {
-        return Err(1);
+        return Err(Answer::refusal(1));
     }
     let walked = directory(track18)?;
     let hex = |bytes: &[u8]| bytes.iter().map(|b| format!("{b:02X}")).collect::<String>();
     let mut text = hex(&track18[0x90..0xA0]) + &hex(&track18[0xA2..0xA4]) + "\n";
     let mut names = HashSet::new();
-    for sector in walked {
-        for slot in track18[256 * sector..256 * sector + 256].chunks(32) {
+    for (turn, sector) in walked.into_iter().enumerate() {
+        let slots = track18[256 * sector..256 * sector + 256].chunks(32);
+        for (part, slot) in slots.enumerate() {
             if slot[2] == 0 {
                 continue;
             }
+            let index = (8 * turn + part) as u8;
+            let fault = |number| Err(Answer::fault(number, 18, sector as u8, index));
             if ![0x81, 0x82, 0x83, 0xC1, 0xC2, 0xC3].contains(&slot[2]) {
-                return Err(4);
+                return fault(4);
             }
             let name: Vec<u8> = slot[5..21].iter().copied().filter(|b| *b != 0xA0).collect();
             if name.is_empty() || !slot[5..21].starts_with(&name) {
-                return Err(5);
+                return fault(5);
             }
             if !names.insert(name) {
-                return Err(6);
+                return fault(6);
             }
             text += &(hex(&slot[2..21]) + &hex(&slot[30..32]) + "\n");
         }

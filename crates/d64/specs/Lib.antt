@@ -1,0 +1,2 @@
+pub mod HostForms
+pub mod HostCalls

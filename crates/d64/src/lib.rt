@@ -1,0 +1,145 @@
+// The calls of the mastering program, which is in C (01, Host calls): numbers and byte slices, a slice as its pointer and then its length.
+// Each one is refused with 16 before all else where the answer block is not nine bytes; then nothing is read or written.
+ghost use mathlib.Core.Path.{_≡_};
+ghost use mathlib.Core.List.{[]};
+ghost use Rattle.d64spec.specs.Geometry.{layout35};
+ghost use Rattle.d64spec.specs.Call.{check, read};
+ghost use Rattle.d64spec.specs.Host.{hostCall};
+ghost use Rattle.reading.specs.Tells.{informationOf};
+ghost use Rattle.d64.specs.HostForms.{entryBytes, hostTell, hostListing};
+ghost use Rattle.d64.specs.HostCalls.{HostServed, EntryGiven};
+use answers::Fault;
+use answers::Report;
+use answers::Verdict;
+use reading::FileInformation;
+
+// The answer block: track, sector, slot, length in four bytes, sectors in two (01, Host calls).
+const BLOCK_BYTES: usize = 9;
+// The number of a refusal for a block of any other size.
+const WRONG_BUFFER: u32 = 16;
+
+// A report of length 0 and 0 sectors.
+fn report_of(verdict: Verdict) -> Report
+    ensures { λ r. ⌜ r ≡ record { verdict = verdict; length = 0; sectors = 0 } ⌝ }
+{
+    Report {
+        verdict,
+        length: 0,
+        sectors: 0,
+    }
+}
+
+// Checks the image: the first fault of steps 1 to 4 with its place, or 0. It reports length 0 and 0 sectors.
+#[no_mangle]
+pub extern "C" fn d64_check(image: &[u8], answer: &mut [u8]) -> u32
+    ensures { λ r. ⌜ HostServed (hostCall layout35 (now (image .entry)) (now (answer .entry)) check) r (now (image .exit)) [] (now (answer .exit)) ⌝ }
+{
+    if answer.len() != BLOCK_BYTES {
+        return WRONG_BUFFER;
+    }
+    let checked = diskcheck::check_image(image);
+    let verdict = checked.verdict;
+    let report = report_of(verdict);
+    answers::give_answer(report, answer)
+}
+
+// Reads the file of this name to the start of the output, the rest of it as it was; reports its length and the sectors visited.
+// Refused with 1, 9, 2 to 8, 13 or 16, in this order; a refusal leaves the output and reports 0 and 0.
+#[no_mangle]
+pub extern "C" fn d64_read(image: &[u8], name: &[u8], out: &mut [u8], answer: &mut [u8]) -> u32
+    ensures { λ r. ⌜ HostServed (hostCall layout35 (now (image .entry)) (now (answer .entry)) (read (now (name .entry)) (now (out .entry)))) r (now (image .exit)) (now (out .exit)) (now (answer .exit)) ⌝ }
+{
+    if answer.len() != BLOCK_BYTES {
+        return WRONG_BUFFER;
+    }
+    let report = reading::read_file(image, name, out);
+    answers::give_answer(report, answer)
+}
+
+// The 25 bytes that tell gives: type byte, 16 name bytes, track, sector, count in two bytes, length in four, low byte first.
+fn entry_bytes(information: FileInformation) -> [u8; 25]
+    ensures { λ r. ⌜ r ≡ entryBytes (informationOf information) ⌝ }
+{
+    let name = information.name;
+    let count = information.count;
+    let length = information.length;
+    [
+        information.type_byte,
+        name[0],
+        name[1],
+        name[2],
+        name[3],
+        name[4],
+        name[5],
+        name[6],
+        name[7],
+        name[8],
+        name[9],
+        name[10],
+        name[11],
+        name[12],
+        name[13],
+        name[14],
+        name[15],
+        information.track,
+        information.sector,
+        (count % 256) as u8,
+        (count / 256 % 256) as u8,
+        (length % 256) as u8,
+        (length / 256 % 256) as u8,
+        (length / 65536 % 256) as u8,
+        (length / 16777216 % 256) as u8,
+    ]
+}
+
+// Puts the bytes at the start of the entry, or refuses them with 16 where it is shorter. Where the verdict is a refusal the entry stays.
+fn give_entry(verdict: Verdict, filled: &[u8], entry: &mut [u8]) -> Verdict
+    ensures { λ r. ⌜ EntryGiven verdict (now (filled .entry)) (now (entry .entry)) r (now (entry .exit)) ⌝ }
+{
+    match verdict {
+        Verdict::Refused(fault) => Verdict::Refused(fault),
+        Verdict::Fine => {
+            if entry.len() < filled.len() {
+                return Verdict::Refused(Fault::WrongBuffer);
+            }
+            bytes::copy(filled, entry);
+            Verdict::Fine
+        }
+    }
+}
+
+// Tells about the file at a position, counted from 0 among the occupied slots: 25 bytes at the start of the entry, the rest of it as it
+// was. Refused with 1, 2 to 8, 13 or, for an entry of fewer than 25 bytes, 16, in this order; a refusal leaves the entry.
+#[no_mangle]
+pub extern "C" fn d64_tell(
+    image: &[u8],
+    position: usize,
+    entry: &mut [u8],
+    answer: &mut [u8],
+) -> u32
+    ensures { λ r. ⌜ HostServed (hostTell layout35 (now (image .entry)) (now (answer .entry)) position (now (entry .entry))) r (now (image .exit)) (now (entry .exit)) (now (answer .exit)) ⌝ }
+{
+    if answer.len() != BLOCK_BYTES {
+        return WRONG_BUFFER;
+    }
+    let told = reading::tell_file(image, position);
+    let verdict = told.verdict;
+    let information = told.information;
+    let filled = entry_bytes(information);
+    let given = give_entry(verdict, &filled, entry);
+    let report = report_of(given);
+    answers::give_answer(report, answer)
+}
+
+// Lists the 4,864 bytes of track 18 into the text, from its start, the rest of it as it was; reports the length of the listing.
+// Refused with 1, 2 to 6 or, for a text that is too short, 16; a refusal leaves the text and reports 0.
+#[no_mangle]
+pub extern "C" fn d64_listing(track18: &[u8], text: &mut [u8], answer: &mut [u8]) -> u32
+    ensures { λ r. ⌜ HostServed (hostListing layout35 (now (track18 .entry)) (now (answer .entry)) (now (text .entry))) r (now (track18 .exit)) (now (text .exit)) (now (answer .exit)) ⌝ }
+{
+    if answer.len() != BLOCK_BYTES {
+        return WRONG_BUFFER;
+    }
+    let report = sleeve::list_track18(track18, text);
+    answers::give_answer(report, answer)
+}

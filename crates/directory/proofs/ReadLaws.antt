@@ -1,0 +1,124 @@
+-- What reading the directory gives: refused by its size, refused on the walk, or read (specs/Directories, `DirectoryRead`).
+-- In order: the table before the walk; a walk told with its table; refusals; the directory read. Assumes nothing.
+use mathlib.Core.Path.{_≡_, refl, sym, ap, _∙_}
+use mathlib.Core.List.{List, [], _∷_, map}
+use Prim.Native.Nat.{ℕ, zero, suc, _*_, _<_}
+use native.Mathlib.Omega.{arith}
+use lib.ListN.{length, set, take, length-map}
+use lib.Seq.{length-take-le}
+use borrow.Author.Tests.{eq-eqb, ne-eqb}
+use Rattle.d64spec.specs.Lists.{Bytes, All, zeros}
+use Rattle.d64spec.specs.Answers.{Address, address, Result, refused, done}
+use Rattle.d64spec.specs.Answers as answer
+use Rattle.d64spec.specs.Geometry.{layout35, total, sectorsOn, sectorNumber, firstOn, mapAddress, directoryStart}
+use Rattle.d64spec.specs.Chain.{to, directoryLink, steps, walk}
+use Rattle.d64spec.specs.Check.{checkDirectory}
+use Rattle.d64spec.specs.Listing.{diskOfTrack18}
+use Rattle.d64spec.proofs.ResultLaws.{done-inj}
+use Rattle.answers.specs.declared.Fault.{Fault}
+use Rattle.answers.specs.declared.Fault.the-variants.{WrongSize}
+use Rattle.answers.specs.declared.Verdict.the-variants.{Fine, Refused}
+use Rattle.answers.specs.Faults.{faultOf, whereFine}
+use Rattle.owners.specs.OwnerTable.{owned, withOwner, directoryOwner, directoryTable}
+use Rattle.directory.specs.declared.Directory.{Directory}
+use Rattle.directory.specs.declared.walk.Walk.{Walk}
+use Rattle.directory.specs.Directories.{DirectoryRead, firstRepeated, sectorCount, sectorsOf, tableAfter, trackDirectory}
+use Rattle.directory.specs.Walks.{Marked, Walked, marked}
+use Rattle.directory.proofs.Track18Laws.{mapTable35}
+
+-- ---- the table before the walk
+
+-- 18/0 is the map's, and nothing else has an owner
+abbrev startTable : List ℕ
+startTable = set (zeros 683) 357 1
+
+owned-start : owned startTable ≡ sectorNumber layout35 mapAddress ∷ []
+unfolding owned sectorNumber firstOn layout35
+owned-start = refl
+
+-- ---- a walk told with its table
+
+-- what is refused has that fault
+marked-refused : (own : List ℕ) (f : answer.Fault) (x : Result (List Address)) → refused f ≡ marked own x → x ≡ refused f
+unfolding marked
+marked-refused own f (refused g) e = cc
+marked-refused own f (done ds) e = absurd (let z : _≡_ {A = ℕ} 0 1 = cc in omega arith)
+
+-- what is done has these sectors and this table
+record Told (own : List ℕ) (m : Marked) (x : Result (List Address)) : Type 0 where
+  sectors : x ≡ done (m .sectors)
+  table : m .table ≡ withOwner directoryOwner (map (sectorNumber layout35) (m .sectors)) own
+
+marked-done : (own : List ℕ) (m : Marked) (x : Result (List Address)) → done m ≡ marked own x → Told own m x
+unfolding marked
+marked-done own m (refused f) e = absurd (let z : _≡_ {A = ℕ} 0 1 = cc in omega arith)
+marked-done own m (done ds) e =
+    let same = done-inj e in
+    record {
+      sectors = ap (λ (x : Marked). done (x .sectors)) (sym same);
+      table = ap (λ (x : Marked). x .table) same ∙ ap (λ (x : Marked). withOwner directoryOwner (map (sectorNumber layout35) (x .sectors)) own) (sym same);
+    }
+
+-- ---- step 2
+
+module _ (b : Bytes) where
+  -- another size is refused first
+  wrong-size : (length b ≡ 4864 → ⊥) → trackDirectory b ≡ refused (faultOf WrongSize)
+  unfolding trackDirectory sectorsOn layout35 faultOf
+  wrong-size h = rw (ne-eqb (length b) 4864 h)
+
+  -- else it is the walk from the table
+  walk-start : length b ≡ 4864
+      → trackDirectory b ≡ walk layout35 (directoryLink layout35) (diskOfTrack18 layout35 b) (steps layout35) (owned startTable) mapAddress 255 (to directoryStart)
+  unfolding trackDirectory sectorsOn layout35 checkDirectory
+  walk-start h = rw (eq-eqb (length b) 4864 h) (ap (λ (own : List ℕ). walk layout35 (directoryLink layout35) (diskOfTrack18 layout35 b) (steps layout35) own mapAddress 255 (to directoryStart)) (sym owned-start))
+
+-- ---- refusals
+
+all-zeros : (n : ℕ) → All (λ s. s < 19) (zeros n)
+all-zeros zero = tt
+all-zeros (suc n) = (omega arith, all-zeros n)
+
+-- what a refusal leaves
+abbrev pub refusal : Fault → Directory
+refusal f = record { verdict = Refused f; sectors = zeros 18; count = 0; repeated = 0; owners = zeros 683 }
+
+module _ (b : Bytes) where
+  read-refused : (f : Fault) → trackDirectory b ≡ refused (faultOf f) → DirectoryRead b (refusal f)
+  unfolding whereFine sectorCount tableAfter total layout35
+  read-refused f e = record {
+    walked = sym e;
+    count = rw e;
+    rest = refl;
+    few = omega arith;
+    inside = all-zeros 18;
+    repeated = refl;
+    owners = rw e;
+  }
+
+  -- THE SIZE is asked first
+  pub read-wrong-size : {r : Directory} → r ≡ refusal WrongSize → (length b ≡ 4864 → ⊥) → DirectoryRead b r
+  read-wrong-size told h = rw told (read-refused WrongSize (wrong-size b h))
+
+  module _ (size : length b ≡ 4864) (w : Walk) (own own′ : List ℕ) (start : own ≡ startTable) (walked : Walked b own w own′) where
+    -- A WALK THAT IS REFUSED refuses the directory
+    pub read-walk-refused : (f : Fault) → w .verdict ≡ Refused f → {r : Directory} → r ≡ refusal f → DirectoryRead b r
+    unfolding whereFine
+    read-walk-refused f verdict told = rw told (read-refused f (walk-start b size ∙ marked-refused startTable (faultOf f) _ (rw (start, verdict) at (walked .told))))
+
+    -- A WALK THAT IS DONE gives its sectors and its table
+    pub read-walk-done : w .verdict ≡ Fine → length (w .sectors) ≡ 18 → (k : ℕ) → k ≡ firstRepeated b (w .sectors) 0 (8 * w .count)
+        → DirectoryRead b (record { verdict = Fine; sectors = w .sectors; count = w .count; repeated = k; owners = own′ })
+    unfolding whereFine sectorCount tableAfter directoryTable
+    read-walk-done verdict long k first =
+        let t = marked-done startTable _ _ (rw (start, verdict) at (walked .told)) in
+        let e : trackDirectory b ≡ done (sectorsOf (w .sectors) (w .count)) = walk-start b size ∙ t .sectors in
+        record {
+          walked = sym e;
+          count = rw e (sym (length-map (take (w .count) (w .sectors)) (λ s. address 18 s) ∙ length-take-le (w .count) (w .sectors) (omega (arith, walked .few))));
+          rest = walked .rest;
+          few = walked .few;
+          inside = walked .inside;
+          repeated = first;
+          owners = rw (e, mapTable35) (t .table);
+        }

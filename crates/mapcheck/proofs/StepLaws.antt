@@ -1,0 +1,114 @@
+-- Step 4 of the check, track by track. In order: what the check of the map depends on, for callers; what the loop over the tracks keeps.
+-- Assumes nothing.
+use Prim.Native.Nat.{ℕ, suc, _+_, _-_, _≤_, _<_}
+use native.Mathlib.Omega.{arith}
+use mathlib.Core.Path.{_≡_, refl, sym, ap, _∙_, fun-ext}
+use mathlib.Core.Bool.{Bool, true, false, _&&_, not}
+use mathlib.Core.List.{List, [], _∷_}
+use lib.ListN.{length, getD}
+use lib.Dec.{eqb, ltb}
+use Rattle.d64spec.specs.Lists.{Bytes, byte, indicator, range, filter}
+use Rattle.d64spec.specs.Answers.{Address, address, Result, done, refused, need, _>>_, wrongMapEntry}
+use Rattle.d64spec.specs.Geometry.{Geometry, layout35, tracks, sectorsOn, sectorNumber, mapAddress, onDisk}
+use Rattle.d64spec.specs.Image.{Disk}
+use Rattle.d64spec.specs.Map.{mapBit, mapOnes, expectedBit, wrongBits, entryCorrect}
+use Rattle.d64spec.specs.Check.{checkMap}
+use Rattle.owners.specs.OwnerTable.{freeBy}
+use Rattle.mapentry.specs.MapEntry.{Entries}
+use Rattle.mapentry.proofs.ShapeLaws.{EntryShape}
+use Rattle.mapsector.specs.MapSector.{mapEntry, mapEntries}
+use Rattle.mapsector.proofs.MapShapeLaws.{MapShape}
+use Rattle.bamlaws.proofs.SectorLaws.{entry-at-map-entries}
+use Rattle.mapcheck.specs.MapChecks.{trackCorrect, mapVerdict}
+use Rattle.mapcheck.proofs.TrackLaws.{track-same}
+
+-- ---- what the check of the map depends on
+
+module _ (g : Geometry) where
+  -- of the disk, on the map sector alone
+  pub map-alone : (d : Disk) (free : Address → Bool) (l : List ℕ) → checkMap g d free l ≡ checkMap g (λ n. d (sectorNumber g mapAddress)) free l
+  map-alone d free [] = refl
+  map-alone d free (t ∷ l) =
+      ap (λ (r : Result (Unit {0})). need (entryCorrect g free (d (sectorNumber g mapAddress)) t) (wrongMapEntry t) >> r) (map-alone d free l)
+
+  module _ {f h : Address → Bool} (same : (r : Address) → onDisk g r ≡ true → f r ≡ h r) where
+    expected-same : (t s : ℕ) → expectedBit g f t s ≡ expectedBit g h t s
+    unfolding expectedBit onDisk
+    expected-same t s = ap indicator (go (ltb s (sectorsOn g t)) refl)
+      where
+        go : (b : Bool) → ltb s (sectorsOn g t) ≡ b → (b && f (address t s)) ≡ (b && h (address t s))
+        go true on = same (address t s) on
+        go false off = refl
+
+    entry-same : (m : Bytes) (t : ℕ) → entryCorrect g f m t ≡ entryCorrect g h m t
+    unfolding entryCorrect wrongBits
+    entry-same m t =
+        ap (λ (bit : ℕ → ℕ). eqb (length (filter (λ s. not (eqb (mapBit g m t s) (bit s))) (range 0 24))) 0 && eqb (byte m (g .mapAt t)) (mapOnes g m t))
+        (fun-ext (expected-same t))
+
+    -- of what is free, on the sectors of the disk alone
+    pub map-free-same : (d : Disk) (l : List ℕ) → checkMap g d f l ≡ checkMap g d h l
+    map-free-same d [] = refl
+    map-free-same d (t ∷ l) =
+        ap (λ (b : Bool). need b (wrongMapEntry t) >> checkMap g d f l) (entry-same (d (sectorNumber g mapAddress)) t)
+        ∙ ap (λ (r : Result (Unit {0})). need (entryCorrect g h (d (sectorNumber g mapAddress)) t) (wrongMapEntry t) >> r) (map-free-same d l)
+
+-- THE STEP IS THE CHECK'S: on a disk whose map sector is m, for any test of free sectors that agrees with the table on the disk's sectors
+pub verdict-same : (d : Disk) (own : List ℕ) (free : Address → Bool) → ((r : Address) → onDisk layout35 r ≡ true → freeBy layout35 own r ≡ free r)
+    → mapVerdict (d (sectorNumber layout35 mapAddress)) own ≡ checkMap layout35 d free (range 1 (tracks layout35))
+unfolding mapVerdict
+verdict-same d own free same =
+    sym (map-alone layout35 d (freeBy layout35 own) (range 1 (tracks layout35))) ∙ map-free-same layout35 same d (range 1 (tracks layout35))
+
+-- ---- the loop
+
+-- the n tracks from t on
+unfoldable pub verdictFrom : Bytes → List ℕ → ℕ → ℕ → Result (Unit {0})
+verdictFrom m own t n = checkMap layout35 (λ k. m) (freeBy layout35 own) (range t n)
+
+-- the tracks below t are correct: the rest decides
+pub record Checking (m : Bytes) (own : List ℕ) (t : ℕ) : Type 0 where
+  pub low : 1 ≤ t
+  pub high : t ≤ 36
+  pub rest : verdictFrom m own t (36 - t) ≡ mapVerdict m own
+
+pub checking-start : (m : Bytes) (own : List ℕ) → Checking m own 1
+unfolding verdictFrom mapVerdict tracks layout35
+checking-start m own = record { low = omega arith; high = omega arith; rest = refl }
+
+module _ {m : Bytes} {own : List ℕ} {t : ℕ} (c : Checking m own t) where
+  -- the loop's own track, by its entry of the loaded map
+  module _ (h : t ≤ 35) {es : Entries} (loaded : es ≡ mapEntries m) (shape : MapShape es) {r : Bool} (told : r ≡ trackCorrect (getD es (t - 1) []) own t) where
+    entry-told : getD es (t - 1) [] ≡ mapEntry layout35 m t
+    entry-told =
+        let low : 1 ≤ t = c .low in
+        let z : t - 1 + 1 ≡ t = omega arith in
+        ap (λ (x : Entries). getD x (t - 1) []) loaded ∙ entry-at-map-entries m (t - 1) (omega arith) ∙ ap (mapEntry layout35 m) z
+
+    track-told : r ≡ entryCorrect layout35 (freeBy layout35 own) m t
+    track-told =
+        let low : 1 ≤ t = c .low in
+        let own-shape : EntryShape (mapEntry layout35 m t) = rw entry-told at (shape .entry (t - 1) (omega arith)) in
+        told ∙ ap (λ (e : Bytes). trackCorrect e own t) entry-told ∙ track-same m own t own-shape
+
+    next : need r (wrongMapEntry t) >> verdictFrom m own (t + 1) (36 - (t + 1)) ≡ mapVerdict m own
+    unfolding verdictFrom
+    next =
+        let z : 36 - t ≡ suc (36 - (t + 1)) = omega arith in
+        let y : t + 1 ≡ suc t = omega arith in
+        ap (λ (b : Bool). need b (wrongMapEntry t) >> verdictFrom m own (t + 1) (36 - (t + 1))) track-told
+        ∙ ap (λ (k : ℕ). need (entryCorrect layout35 (freeBy layout35 own) m t) (wrongMapEntry t) >> verdictFrom m own k (36 - (t + 1))) y
+        ∙ ap (verdictFrom m own t) (sym z) ∙ c .rest
+
+    -- a correct entry: the next track
+    pub checking-moved : r ≡ true → Checking m own (t + 1)
+    checking-moved e = record { low = omega arith; high = omega arith; rest = rw e at next }
+
+    -- a wrong one is refused
+    pub checking-wrong : r ≡ false → refused (wrongMapEntry t) ≡ mapVerdict m own
+    checking-wrong e = rw e at next
+
+  pub checking-finished : 35 < t → done tt ≡ mapVerdict m own
+  unfolding verdictFrom
+  checking-finished h =
+      let z : 36 - t ≡ 0 = omega arith in ap (verdictFrom m own t) (sym z) ∙ c .rest

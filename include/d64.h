@@ -1,0 +1,132 @@
+/*
+ * d64.h - check, read and list D64 disk images of 35 tracks without error bytes.
+ *
+ * The caller lends all memory; the library allocates nothing and keeps nothing between calls. Every call but
+ * d64_listing() runs the whole check itself, so d64_check() need not be called first.
+ *
+ * Slices. Memory is lent as a pointer and a length in bytes. A null pointer with length 0 is an empty slice; any
+ * other pointer is valid for its length. No memory that a call may write shares a byte with any other memory lent
+ * to that call: this is a premise, and not a refusal.
+ *
+ * Answers. Each call returns one number of enum d64_answer, and no other. It fills the answer block, nine bytes,
+ * when it is done and when it refuses:
+ *
+ *     byte   0       1       2     3   4   5   6   7   8
+ *        +-------+--------+------+---+---+---+---+---+---+
+ *        | track | sector | slot |    length     |sectors|     length and sectors: low byte first
+ *        +-------+--------+------+---+---+---+---+---+---+
+ *
+ * Track, sector and slot are the place of a fault. They are 0, 0, 255 where enum d64_answer names no place, so also
+ * when the call is done. Slots are numbered 0 to 143 through the directory in link order, eight to a sector, empty
+ * ones counted; the slot is 255 where the fault is in no slot. A refusal has length 0 and 0 sectors.
+ */
+#ifndef D64_H
+#define D64_H
+
+#include <stddef.h>
+#include <stdint.h>
+
+#ifdef __cplusplus
+extern "C" {
+#endif
+
+#define D64_IMAGE_BYTES 174848   /* an image: 683 sectors of 256 bytes */
+#define D64_TRACK18_BYTES 4864   /* track 18, the map and the directory: 19 sectors */
+#define D64_TRACK18_OFFSET 91392 /* where track 18 starts in an image */
+#define D64_BLOCK_BYTES 9        /* the answer block */
+#define D64_ENTRY_BYTES 25       /* what d64_tell() writes */
+#define D64_LISTING_BYTES 6234   /* the longest text of d64_listing() */
+
+/*
+ * What a call returns. Where several apply: 16 for the answer block, then 1, then 9 and 10, then 2 to 8 in the
+ * order of the check, then 11 to 16.
+ */
+enum d64_answer {
+    D64_DONE = 0,
+    D64_WRONG_SIZE = 1,      /* the image is not 174,848 bytes, or track 18 is not 4,864 */
+    D64_BAD_LINK = 2,        /* a bad link; place: the sector holding it, slot */
+    D64_OWNED = 3,           /* a link to a sector that is owned already; place: the sector holding it, slot */
+    D64_WRONG_KIND = 4,      /* kind or flags not carried; place: directory sector, slot */
+    D64_WRONG_NAME = 5,      /* a name on disk breaks the rule; place: directory sector, slot */
+    D64_SAME_NAME = 6,       /* a name is on disk in an earlier slot; place: directory sector, slot */
+    D64_WRONG_COUNT = 7,     /* a file's sector count is wrong; place: directory sector, slot */
+    D64_WRONG_MAP = 8,       /* a map entry is wrong; place: track, 255, 255 */
+    D64_BAD_NAME = 9,        /* the name asked for is empty, over 16 bytes, or holds $A0 */
+    D64_BAD_KIND = 10,       /* the kind asked for is not 1, 2 or 3 */
+    D64_READ_ONLY = 11,      /* the DOS version forbids writing */
+    D64_NAME_TAKEN = 12,     /* the name to store is there already */
+    D64_NOT_FOUND = 13,      /* the name, or the position, is not there */
+    D64_DIRECTORY_FULL = 14, /* no empty slot and no free sector on track 18 */
+    D64_DISK_FULL = 15,      /* more sectors needed than are free off track 18 */
+    D64_SHORT = 16           /* the output is shorter than what is to be written, or the block is not nine bytes */
+};
+
+/*
+ * d64_check() checks an image: its size, the directory, each file's entry, chain and count, and the map.
+ * Reads:   image.  Writes: answer.  No written buffer may overlap another buffer.
+ * Returns: D64_DONE, or the first fault met: D64_WRONG_SIZE (1); D64_BAD_LINK (2) or D64_OWNED (3) along the
+ *          directory; for one slot after the other D64_WRONG_KIND (4), D64_WRONG_NAME (5), D64_SAME_NAME (6),
+ *          D64_BAD_LINK (2) or D64_OWNED (3) along the file's chain, D64_WRONG_COUNT (7); D64_WRONG_MAP (8).
+ * Done:    answer has length 0 and 0 sectors.
+ * Refused: answer has the place of the fault, length 0 and 0 sectors.
+ * An answer_len other than 9 returns D64_SHORT before all else and writes nothing.
+ */
+uint32_t d64_check(const uint8_t *image, size_t image_len, uint8_t *answer, size_t answer_len);
+
+/*
+ * d64_read() copies the file 'name' to the start of 'out'. The name is given without padding; no byte of it stands
+ * for another.
+ * Reads:   image, name.  Writes: out, answer.  No written buffer may overlap another buffer.
+ * Returns: D64_DONE, or the first that applies of D64_WRONG_SIZE (1), D64_BAD_NAME (9), a fault that d64_check()
+ *          finds (2 to 8), D64_NOT_FOUND (13), D64_SHORT (16) if out is shorter than the file.
+ * Done:    the file is at the start of out, the rest of out is unchanged; answer has the file's length and the
+ *          sectors visited, which is the length of its chain.
+ * Refused: out is unchanged; answer has the place of the fault, length 0 and 0 sectors.
+ * An answer_len other than 9 returns D64_SHORT before all else and writes nothing.
+ */
+uint32_t d64_read(const uint8_t *image, size_t image_len, const uint8_t *name, size_t name_len,
+                  uint8_t *out, size_t out_len, uint8_t *answer, size_t answer_len);
+
+/*
+ * d64_tell() tells about the file at 'position', counted from 0 among the occupied slots, in 25 bytes:
+ *
+ *     byte   0    1 .. 16   17      18     19  20  21  22  23  24
+ *        +------+--------+-------+--------+---+---+---+---+---+---+
+ *        | type |  name  | track | sector | count |    length     |     count and length: low byte first
+ *        +------+--------+-------+--------+---+---+---+---+---+---+
+ *
+ * The type is the byte on disk: $80 + kind, $C0 + kind for a locked file. The name is padded with $A0. Track and
+ * sector are the file's first sector; count is its number of sectors, length its number of bytes.
+ * Reads:   image.  Writes: entry, answer.  No written buffer may overlap another buffer.
+ * Returns: D64_DONE, or the first that applies of D64_WRONG_SIZE (1), a fault that d64_check() finds (2 to 8),
+ *          D64_NOT_FOUND (13) if no file has that position, D64_SHORT (16) if entry is shorter than 25 bytes.
+ * Done:    the 25 bytes are at the start of entry, the rest of entry is unchanged; answer has length 0 and
+ *          0 sectors.
+ * Refused: entry is unchanged; answer has the place of the fault, length 0 and 0 sectors.
+ * An answer_len other than 9 returns D64_SHORT before all else and writes nothing.
+ */
+uint32_t d64_tell(const uint8_t *image, size_t image_len, size_t position,
+                  uint8_t *entry, size_t entry_len, uint8_t *answer, size_t answer_len);
+
+/*
+ * d64_listing() writes the sleeve listing to the start of 'text', in uppercase hexadecimal, each line ended by LF
+ * and no NUL after the last: the disk's name and id; for each file its type, first sector, name and count; the sum
+ * of the map's free counts off track 18. It is lent track 18 alone, which is the D64_TRACK18_BYTES bytes of an
+ * image from D64_TRACK18_OFFSET on; chains and map are not checked.
+ * Reads:   track18.  Writes: text, answer.  No written buffer may overlap another buffer.
+ * Returns: D64_DONE, or the first that applies of D64_WRONG_SIZE (1); D64_BAD_LINK (2) or D64_OWNED (3) along the
+ *          directory; for one slot after the other D64_WRONG_KIND (4), D64_WRONG_NAME (5), D64_SAME_NAME (6);
+ *          D64_SHORT (16) if text is shorter than the listing. D64_LISTING_BYTES always suffice.
+ * Done:    the listing is at the start of text, the rest of text is unchanged; answer has the listing's length and
+ *          0 sectors.
+ * Refused: text is unchanged; answer has the place of the fault, length 0 and 0 sectors.
+ * An answer_len other than 9 returns D64_SHORT before all else and writes nothing.
+ */
+uint32_t d64_listing(const uint8_t *track18, size_t track18_len,
+                     uint8_t *text, size_t text_len, uint8_t *answer, size_t answer_len);
+
+#ifdef __cplusplus
+}
+#endif
+
+#endif

@@ -1,0 +1,199 @@
+/*
+ * No call touches a byte that it was not lent, or writes one that it may only read. Each buffer lies against a page
+ * that nobody may touch, once with its end and once with its start; what is only read lies in read-only pages, and
+ * so does an answer block of the wrong size. A call that goes astray ends the program.
+ */
+#define _DEFAULT_SOURCE
+#include "by_hand.h"
+
+#include <signal.h>
+#include <stdio.h>
+#include <stdlib.h>
+#include <sys/mman.h>
+#include <unistd.h>
+
+#define PAGE 4096
+#define PAGES_BYTES (46 * PAGE) /* room for an image and more */
+
+enum side { AT_END, AT_START };
+
+/* Pages between two that nobody may touch. */
+struct lent {
+    uint8_t *pages;
+    uint8_t *bytes;
+    size_t len;
+};
+
+static uint8_t disk[D64_IMAGE_BYTES];
+static struct lent image, track18, name, out, block;
+static enum side side;
+static int calls;
+static const char *now = "";
+
+static void astray(int signal)
+{
+    static const char message[] = "overread_test: memory that was not lent, or not for writing, is touched by ";
+    ssize_t done = write(1, message, sizeof message - 1) + write(1, now, strlen(now)) + write(1, "\n", 1);
+    (void)signal;
+    _exit(done > 0 ? 1 : 2);
+}
+
+static struct lent reserve(void)
+{
+    struct lent lent = {NULL, NULL, 0};
+    void *all = mmap(NULL, PAGES_BYTES + 2 * PAGE, PROT_NONE, MAP_PRIVATE | MAP_ANONYMOUS, -1, 0);
+    if (all == MAP_FAILED)
+        exit(2);
+    lent.pages = (uint8_t *)all + PAGE;
+    return lent;
+}
+
+static void protect(struct lent *lent, int protection)
+{
+    if (mprotect(lent->pages, PAGES_BYTES, protection) != 0)
+        exit(2);
+}
+
+/* Lends so many bytes against the page before or after them. */
+static void lend(struct lent *lent, const uint8_t *content, size_t len)
+{
+    protect(lent, PROT_READ | PROT_WRITE);
+    lent->bytes = side == AT_START ? lent->pages : lent->pages + PAGES_BYTES - len;
+    lent->len = len;
+    if (content != NULL)
+        memcpy(lent->bytes, content, len);
+}
+
+static void lend_read_only(struct lent *lent, const uint8_t *content, size_t len)
+{
+    lend(lent, content, len);
+    protect(lent, PROT_READ);
+}
+
+static void lend_block(size_t len)
+{
+    lend(&block, NULL, len);
+    if (len != D64_BLOCK_BYTES)
+        protect(&block, PROT_READ);
+}
+
+static void check(void)
+{
+    now = "d64_check()";
+    d64_check(image.bytes, image.len, block.bytes, block.len);
+    calls++;
+}
+
+static void read_file(const char *file, size_t name_len, size_t out_len)
+{
+    now = "d64_read()";
+    lend_read_only(&name, (const uint8_t *)file, name_len);
+    lend(&out, NULL, out_len);
+    d64_read(image.bytes, image.len, name.bytes, name.len, out.bytes, out.len, block.bytes, block.len);
+    calls++;
+}
+
+static void tell(size_t position, size_t entry_len)
+{
+    now = "d64_tell()";
+    lend(&out, NULL, entry_len);
+    d64_tell(image.bytes, image.len, position, out.bytes, out.len, block.bytes, block.len);
+    calls++;
+}
+
+static void list(size_t text_len)
+{
+    now = "d64_listing()";
+    lend(&out, NULL, text_len);
+    d64_listing(track18.bytes, track18.len, out.bytes, out.len, block.bytes, block.len);
+    calls++;
+}
+
+/* Names of every length, outputs of every size that matters to a file of 'length' bytes. */
+static void call_all(size_t length)
+{
+    static const char file[] = "F000 AND MORE THAN THAT";
+    check();
+    for (size_t len = 0; len <= 20; len++)
+        read_file(file, len, length);
+    for (size_t room = length > 2 ? length - 2 : 0; room <= length + 2; room++)
+        read_file(file, 4, room);
+    for (size_t room = 0; room <= D64_ENTRY_BYTES + 1; room++)
+        tell(0, room);
+    tell(143, D64_ENTRY_BYTES);
+    tell(SIZE_MAX, D64_ENTRY_BYTES);
+    list(0);
+    list(D64_LISTING_BYTES - 1);
+    list(D64_LISTING_BYTES);
+}
+
+static void call_on_disk(size_t length)
+{
+    lend_read_only(&image, disk, sizeof disk);
+    lend_read_only(&track18, disk + D64_TRACK18_OFFSET, D64_TRACK18_BYTES);
+    call_all(length);
+}
+
+static void call_on_sizes(void)
+{
+    static const size_t sizes[] = {0, 1, 2, 255, 256, 4863, 91392, 91650, D64_IMAGE_BYTES - 1};
+    for (size_t i = 0; i < sizeof sizes / sizeof sizes[0]; i++) {
+        lend_read_only(&image, disk, sizes[i]);
+        lend_read_only(&track18, disk, sizes[i]);
+        call_all(10);
+    }
+}
+
+/* Every first byte of every sector, and every link of the directory, leads astray. */
+static void call_on_bad_links(void)
+{
+    static const uint8_t tracks[] = {0, 1, 17, 18, 35, 36, 255};
+    struct hand hand = {17, 0, 0};
+    format_by_hand(disk, "LINKS", 0x30, 0x31);
+    add_files(disk, &hand, 9, 600);
+    for (size_t i = 0; i < sizeof tracks; i++)
+        for (int sector = 15; sector < 256; sector += sector < 22 ? 1 : 78) {
+            set_link(disk, 17, 1, tracks[i], sector);
+            call_on_disk(600);
+            set_link(disk, 18, 2, tracks[i], sector);
+            call_on_disk(600);
+            set_link(disk, 18, 2, 0, 255);
+        }
+}
+
+static void call_on_many_disks(void)
+{
+    struct hand hand = {17, 0, 0};
+    format_by_hand(disk, "MANY", 0x30, 0x31);
+    call_on_disk(0);
+    add_files(disk, &hand, 144, 600);
+    call_on_disk(600);
+    call_on_sizes();
+    hand.track = 17;
+    hand.sector = hand.slot = 0;
+    format_by_hand(disk, "FULL", 0x30, 0x31);
+    add_files(disk, &hand, 1, 168656);
+    call_on_disk(168656);
+    memset(disk, 0xFF, sizeof disk);
+    call_on_disk(10);
+    call_on_bad_links();
+}
+
+int main(void)
+{
+    static const size_t blocks[] = {D64_BLOCK_BYTES, 0, 8, 10};
+    struct lent *all[] = {&image, &track18, &name, &out, &block};
+    signal(SIGSEGV, astray);
+    signal(SIGBUS, astray);
+    for (size_t i = 0; i < sizeof all / sizeof all[0]; i++)
+        *all[i] = reserve();
+    for (int turn = 0; turn < 2; turn++) {
+        side = turn == 0 ? AT_END : AT_START;
+        for (size_t i = 0; i < sizeof blocks / sizeof blocks[0]; i++) {
+            lend_block(blocks[i]);
+            call_on_many_disks();
+        }
+    }
+    printf("overread_test: %d calls\n", calls);
+    return 0;
+}

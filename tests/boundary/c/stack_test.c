@@ -1,0 +1,116 @@
+/*
+ * No call uses more than 16 KiB of stack besides what it is lent. Each runs on a stack of its own that is painted
+ * first; the paint that is left tells how deep it went. What an empty call takes there is not counted.
+ */
+#include "by_hand.h"
+
+#include <stdio.h>
+#include <ucontext.h>
+
+#define LIMIT (16 * 1024)
+#define PAINT 0xA5
+
+static uint8_t image[D64_IMAGE_BYTES];
+static uint8_t out[D64_IMAGE_BYTES];
+static uint8_t block[D64_BLOCK_BYTES];
+static uint8_t stack[512 * 1024];
+static const char *name;
+static size_t position;
+
+static void nothing(void)
+{
+}
+
+static void check(void)
+{
+    d64_check(image, sizeof image, block, sizeof block);
+}
+
+static void read_file(void)
+{
+    d64_read(image, sizeof image, (const uint8_t *)name, strlen(name), out, sizeof out, block, sizeof block);
+}
+
+static void tell(void)
+{
+    d64_tell(image, sizeof image, position, out, sizeof out, block, sizeof block);
+}
+
+static void list(void)
+{
+    d64_listing(image + D64_TRACK18_OFFSET, D64_TRACK18_BYTES, out, sizeof out, block, sizeof block);
+}
+
+static struct {
+    const char *name;
+    void (*run)(void);
+    size_t most;
+} calls[] = {{"check", check, 0}, {"read", read_file, 0}, {"tell", tell, 0}, {"listing", list, 0}};
+
+enum { CALLS = sizeof calls / sizeof calls[0] };
+
+/* The bytes of the painted stack that a call wrote, from the top down to the last. */
+static size_t depth_of(void (*call)(void))
+{
+    static ucontext_t here, there;
+    size_t left = 0;
+    memset(stack, PAINT, sizeof stack);
+    getcontext(&there);
+    there.uc_stack.ss_sp = stack;
+    there.uc_stack.ss_size = sizeof stack;
+    there.uc_link = &here;
+    makecontext(&there, call, 0);
+    swapcontext(&here, &there);
+    while (left < sizeof stack && stack[left] == PAINT)
+        left++;
+    return sizeof stack - left;
+}
+
+/* Measures every call on the image as it is. */
+static void measure(const char *file, size_t at)
+{
+    name = file;
+    position = at;
+    for (int i = 0; i < CALLS; i++) {
+        size_t depth = depth_of(calls[i].run);
+        if (depth > calls[i].most)
+            calls[i].most = depth;
+    }
+}
+
+static void measure_on_many_disks(void)
+{
+    struct hand hand = {17, 0, 0};
+    format_by_hand(image, "EMPTY", 0x30, 0x31);
+    measure("NONE", 0);
+    add_files(image, &hand, 144, 600);
+    measure("F143", 143);
+    measure("THIS NAME IS TOO LONG", 144);
+    set_link(image, 1, 0, 17, 0);
+    measure("F000", 0);
+    set_link(image, 18, 18, 18, 1);
+    measure("F000", 0);
+    hand.track = 17;
+    hand.sector = hand.slot = 0;
+    format_by_hand(image, "FULL", 0x30, 0x31);
+    add_file(image, &hand, 0x82, "ALL", 168656);
+    measure("ALL", 0);
+    memset(image, 0xFF, sizeof image);
+    measure("ALL", 0);
+}
+
+int main(void)
+{
+    size_t empty = depth_of(nothing);
+    int status = 0;
+    measure_on_many_disks();
+    printf("stack_test: limit %d bytes", LIMIT);
+    for (int i = 0; i < CALLS; i++) {
+        size_t used = calls[i].most > empty ? calls[i].most - empty : 0;
+        printf(", %s %zu", calls[i].name, used);
+        if (used > LIMIT)
+            status = 1;
+    }
+    printf("%s\n", status ? ": over the limit" : "");
+    return status;
+}

@@ -1,0 +1,86 @@
+//! The archive libd64.a as Rust sees it: the prototypes of d64.h.
+
+use crate::calls::{EntryPoints, Slice};
+
+#[link(name = "d64", kind = "static")]
+unsafe extern "C" {
+    fn d64_check(image: *const u8, image_len: usize, answer: *mut u8, answer_len: usize) -> u32;
+    fn d64_read(
+        image: *const u8,
+        image_len: usize,
+        name: *const u8,
+        name_len: usize,
+        out: *mut u8,
+        out_len: usize,
+        answer: *mut u8,
+        answer_len: usize,
+    ) -> u32;
+    fn d64_tell(
+        image: *const u8,
+        image_len: usize,
+        position: usize,
+        entry: *mut u8,
+        entry_len: usize,
+        answer: *mut u8,
+        answer_len: usize,
+    ) -> u32;
+    fn d64_listing(
+        track18: *const u8,
+        track18_len: usize,
+        text: *mut u8,
+        text_len: usize,
+        answer: *mut u8,
+        answer_len: usize,
+    ) -> u32;
+}
+
+/// The archive.
+pub struct Archive;
+
+impl EntryPoints for Archive {
+    unsafe fn check(&self, image: Slice, answer: Slice) -> u32 {
+        unsafe { d64_check(image.start, image.len, answer.start, answer.len) }
+    }
+
+    unsafe fn read(&self, image: Slice, name: Slice, out: Slice, answer: Slice) -> u32 {
+        unsafe {
+            d64_read(
+                image.start,
+                image.len,
+                name.start,
+                name.len,
+                out.start,
+                out.len,
+                answer.start,
+                answer.len,
+            )
+        }
+    }
+
+    unsafe fn tell(&self, image: Slice, position: usize, entry: Slice, answer: Slice) -> u32 {
+        unsafe {
+            d64_tell(
+                image.start,
+                image.len,
+                position,
+                entry.start,
+                entry.len,
+                answer.start,
+                answer.len,
+            )
+        }
+    }
+
+    unsafe fn listing(&self, track18: Slice, text: Slice, answer: Slice) -> u32 {
+        unsafe {
+            d64_listing(
+                track18.start,
+                track18.len,
+                text.start,
+                text.len,
+                answer.start,
+                answer.len,
+            )
+        }
+    }
+}

@@ -1,0 +1,105 @@
+//! One request on both sides: what the library returned and left, against
+//! what the independent program returns and leaves.
+
+use crate::calls::{EntryPoints, Slice};
+use crate::memory::Guarded;
+use independent::request::{lent, perform, Call, Independent, Request};
+use independent::rng::Rng;
+
+/// The image, or track 18 for the listing, as lent to the library under test,
+/// and as the independent program leaves it.
+pub struct Disk {
+    lent: Guarded,
+    expected: Vec<u8>,
+}
+
+impl Disk {
+    pub fn new(bytes: &[u8], rng: &mut Rng) -> Disk {
+        Disk {
+            lent: Guarded::holding(bytes, rng),
+            expected: bytes.to_vec(),
+        }
+    }
+}
+
+/// What one call is lent besides the disk.
+struct Lent {
+    name: Guarded,
+    output: Guarded,
+    answer: Guarded,
+}
+
+impl Lent {
+    fn to(request: &Request, rng: &mut Rng) -> Lent {
+        Lent {
+            name: Guarded::holding(name_of(&request.call), rng),
+            output: Guarded::holding(&lent(request.call.room()), rng),
+            answer: Guarded::holding(&lent(request.block), rng),
+        }
+    }
+}
+
+/// The name that a call is given; empty if it has none.
+fn name_of(call: &Call) -> &[u8] {
+    match call {
+        Call::Format { name, .. }
+        | Call::Read { name, .. }
+        | Call::Store { name, .. }
+        | Call::Scratch { name } => name,
+        Call::Check | Call::Tell { .. } | Call::Listing { .. } => &[],
+    }
+}
+
+/// The word for a call in messages and counts.
+pub fn word_of(call: &Call) -> &'static str {
+    match call {
+        Call::Check => "check",
+        Call::Format { .. } => "format",
+        Call::Read { .. } => "read",
+        Call::Store { .. } => "store",
+        Call::Scratch { .. } => "scratch",
+        Call::Tell { .. } => "tell",
+        Call::Listing { .. } => "listing",
+    }
+}
+
+/// The call itself; calls that d64.h doesn't have yet are not asked for.
+fn run(library: &dyn EntryPoints, call: &Call, disk: Slice, memory: &mut Lent) -> u32 {
+    let name = memory.name.lend();
+    let (output, answer) = (memory.output.lend(), memory.answer.lend());
+    // The slices are of four allocations, each lent once.
+    unsafe {
+        match call {
+            Call::Check => library.check(disk, answer),
+            Call::Read { .. } => library.read(disk, name, output, answer),
+            Call::Tell { position, .. } => library.tell(disk, *position, output, answer),
+            Call::Listing { .. } => library.listing(disk, output, answer),
+            _ => unreachable!("{} is no call of d64.h", word_of(call)),
+        }
+    }
+}
+
+/// Runs a request on both sides. Gives the number owed, or all that differs.
+pub fn compare(
+    library: &dyn EntryPoints,
+    disk: &mut Disk,
+    request: &Request,
+    rng: &mut Rng,
+) -> Result<u32, Vec<String>> {
+    let owed = perform(&Independent, &mut disk.expected, request)
+        .expect("the independent program has every call");
+    let mut memory = Lent::to(request, rng);
+    let number = run(library, &request.call, disk.lent.lend(), &mut memory);
+    let mut found = Vec::new();
+    if number != owed.number {
+        found.push(format!("number: {number}, not {}", owed.number));
+    }
+    found.extend(memory.answer.differences("answer", &owed.block));
+    found.extend(memory.output.differences("output", &owed.out));
+    found.extend(memory.name.differences("name", name_of(&request.call)));
+    found.extend(disk.lent.differences("image", &disk.expected));
+    match found.is_empty() {
+        true => Ok(owed.number),
+        false => Err(found),
+    }
+}

@@ -1,0 +1,15 @@
+//! Compares a library behind d64.h with the independent program, call by
+//! call: the number returned and every byte of the memory lent, with guard
+//! bytes around each piece of it.
+//!
+//! `calls` has the calls as C has them; `archive` is the library itself;
+//! `memory` lends guarded bytes; `compare` runs one request on both sides;
+//! `rounds` makes the images and the requests by seed. To add a call: its
+//! prototype in `archive`, a method of `calls::EntryPoints`, its line in
+//! `compare::run`, and its requests in `rounds`.
+
+pub mod archive;
+pub mod calls;
+pub mod compare;
+pub mod memory;
+pub mod rounds;
