@@ -1,50 +1,66 @@
 -- What the program prints is what the listing's reply says (01, Sleeve listing). Assumes nothing.
-use Prim.Native.Nat.{ℕ, _-_}
+use Prim.Native.Nat.{ℕ, _+_}
 use native.Mathlib.Omega.{arith}
 use mathlib.Core.Path.{_≡_, refl, sym, ap, ap₂, _∙_}
 use mathlib.Core.List.{List}
 use lib.ListN.{length, take, drop}
+use lib.Seq.{take-append-seam}
 use Rattle.d64spec.specs.Lists.{Bytes, zeros}
-use Rattle.d64spec.specs.Answers.{Answer, Result, refused, done, answerOf, unplaced}
+use Rattle.d64spec.specs.Answers.{Answer, Fault, Result, refused, done, answerOf, unplaced}
 use Rattle.d64spec.specs.Geometry.{layout35, firstOn, sectorNumber, sectorsOn}
 use Rattle.d64spec.specs.Listing.{Listed, ListingReply, bytesOfTrack18, callListing, digit, listingOutput, listingReply, refusalLine, sleeveOutput}
+use Rattle.d64spec.specs.Facts.{textOf}
 use Rattle.d64spec.proofs.RefusalLaws.{fault-number}
-use Rattle.d64spec.proofs.ListingTheorem.{sleeve-image, sleeve-size}
+use Rattle.d64spec.proofs.RunTheorem.{valid35}
+use Rattle.d64spec.proofs.ListingTheorem.{listing-done, sleeve-image, sleeve-size}
 use Rattle.answers.specs.Faults.{answerTo, faultOf, meant, verdictOf}
-use Rattle.answers.specs.declared.Answer as code
-use Rattle.answers.specs.declared.Fault.{Fault}
+use Rattle.answers.specs.declared.Answer as given
+use Rattle.answers.specs.declared.Fault as code
 use Rattle.answers.specs.declared.Report.{Report}
 use Rattle.answers.specs.declared.Verdict.the-variants.{Fine, Refused}
 use Rattle.sleeve.specs.declared.Printed.{Printed}
-use Rattle.sleeve.specs.Texts.{blankText}
+use Rattle.sleeve.specs.Texts.{Prints, blankText}
 use Rattle.sleeve.specs.Sleeves.{SleeveListed, SleevePrinted}
 
--- an input of another size
-pub printed-size : (input : Bytes) → (length input ≡ 174848 → ⊥) → {r : Printed} → take (r .length) (r .text) ≡ refusalLine 1 → SleevePrinted input r
-unfolding refusalLine digit
-printed-size input other e = record { output = e ∙ sym (sleeve-size input other) }
+-- bytes that are printed are the program's, where they are what it is to print
+printed-as : (input : Bytes) {l : Bytes} → l ≡ sleeveOutput layout35 input → {r : Printed} → Prints l r → SleevePrinted input r
+printed-as input e p = record { output = p .output ∙ e; size = p .size ∙ ap length e }
 
--- a reply that answers 0 is a listing's, one with a fault's answer is a refusal
-module _ (text text′ : Bytes) (n : ℕ) where
+-- an input of another size
+pub printed-size : (input : Bytes) → (length input ≡ 174848 → ⊥) → {r : Printed} → Prints (refusalLine 1) r → SleevePrinted input r
+unfolding refusalLine digit
+printed-size input other p = printed-as input (sym (sleeve-size input other)) p
+
+-- ---- a reply with answer 0 is a listing's, one with a fault's answer is a refusal's
+
+module _ (b text text′ : Bytes) (n : ℕ) where
   -- what the listing leaves, where its answer is this
   abbrev Replies : Answer → Result Listed → Type 0
   Replies a x = record { answer = a; listed = record { outputAfter = text′; reportedLength = n } } ≡ listingReply text x
 
-  listed-printed : (x : Result Listed) → Replies (unplaced 0) x → take n text′ ≡ listingOutput x
+  listed-prints : (x : Result Listed) → callListing layout35 b text ≡ x → Replies (unplaced 0) x → Prints (listingOutput x) (record { text = text′; length = n })
   unfolding listingReply listingOutput
-  listed-printed (refused g) e =
+  listed-prints (refused g) called e =
       let zeroth : 0 ≡ answerOf g .number = ap (λ (r : ListingReply). r .answer .number) e in
       let positive = fault-number g .1 in
       absurd (omega arith)
-  listed-printed (done l) e = ap₂ take (ap (λ (r : ListingReply). r .listed .reportedLength) e) (ap (λ (r : ListingReply). r .listed .outputAfter) e)
+  listed-prints (done l) called e =
+      let written = listing-done layout35 valid35 b text l called in
+      let whole : take (l .reportedLength) (l .outputAfter) ≡ textOf layout35 b = rw (written .0, written .1) (take-append-seam (textOf layout35 b) (drop (0 + length (textOf layout35 b)) text)) in
+      record {
+        output = ap₂ take (ap (λ (r : ListingReply). r .listed .reportedLength) e) (ap (λ (r : ListingReply). r .listed .outputAfter) e);
+        size = ap (λ (r : ListingReply). r .listed .reportedLength) e ∙ written .1 ∙ sym (ap length whole);
+      }
 
-  refused-printed : (f : _) (x : Result Listed) → Replies (answerOf f) x → refusalLine (answerOf f .number) ≡ listingOutput x
+  refused-line : (f : Fault) (x : Result Listed) → Replies (answerOf f) x → refusalLine (answerOf f .number) ≡ listingOutput x
   unfolding listingReply listingOutput
-  refused-printed f (refused g) e = ap (λ (r : ListingReply). refusalLine (r .answer .number)) e
-  refused-printed f (done l) e =
+  refused-line f (refused g) e = ap (λ (r : ListingReply). refusalLine (r .answer .number)) e
+  refused-line f (done l) e =
       let zeroth : answerOf f .number ≡ 0 = ap (λ (r : ListingReply). r .answer .number) e in
       let positive = fault-number f .1 in
       absurd (omega arith)
+
+-- ---- an image
 
 module _ (input : Bytes) (size : length input ≡ 174848) {text text′ : Bytes} (blank : text ≡ blankText) {r : Report} (listed : SleeveListed (take 4864 (drop 91392 input)) text r text′) where
   -- the part that the code lends is track 18
@@ -53,19 +69,21 @@ module _ (input : Bytes) (size : length input ≡ 174848) {text text′ : Bytes}
   track18 = refl
 
   -- what the program prints is what the listing's result says
-  printed : sleeveOutput layout35 input ≡ listingOutput (callListing layout35 (take 4864 (drop 91392 input)) text)
+  printed : listingOutput (callListing layout35 (take 4864 (drop 91392 input)) text) ≡ sleeveOutput layout35 input
   unfolding blankText
-  printed = sleeve-image input size ∙ sym (ap₂ (λ (b : Bytes) (t : Bytes). listingOutput (callListing layout35 b t)) track18 blank)
+  printed = ap₂ (λ (b : Bytes) (t : Bytes). listingOutput (callListing layout35 b t)) track18 blank ∙ sym (sleeve-image input size)
 
   pub printed-listing : r .verdict ≡ Fine → SleevePrinted input (record { text = text′; length = r .length })
   unfolding verdictOf answerTo
-  printed-listing fine = record { output = listed-printed text text′ (r .length) (callListing layout35 (take 4864 (drop 91392 input)) text) (rw fine at (listed .reply)) ∙ sym printed }
+  printed-listing fine =
+      printed-as input printed
+      (listed-prints (take 4864 (drop 91392 input)) text text′ (r .length) (callListing layout35 (take 4864 (drop 91392 input)) text) refl (rw fine at (listed .reply)))
 
-  pub printed-refusal : (f : Fault) → r .verdict ≡ Refused f → {a : code.Answer} → meant a ≡ answerOf (faultOf f) → {p : Printed} → take (p .length) (p .text) ≡ refusalLine (a .number) → SleevePrinted input p
+  pub printed-refusal : (f : code.Fault) → r .verdict ≡ Refused f → {a : given.Answer} → meant a ≡ answerOf (faultOf f) → {p : Printed} → Prints (refusalLine (a .number)) p → SleevePrinted input p
   unfolding verdictOf answerTo
-  printed-refusal f verdict answered e =
-      record {
-        output = e ∙ ap (λ (a : Answer). refusalLine (a .number)) answered
-            ∙ refused-printed text text′ (r .length) (faultOf f) (callListing layout35 (take 4864 (drop 91392 input)) text) (rw verdict at (listed .reply))
-            ∙ sym printed;
-      }
+  printed-refusal f verdict answered p =
+      printed-as input
+      (ap (λ (a : Answer). refusalLine (a .number)) answered
+      ∙ refused-line (take 4864 (drop 91392 input)) text text′ (r .length) (faultOf f) (callListing layout35 (take 4864 (drop 91392 input)) text) (rw verdict at (listed .reply))
+      ∙ printed)
+      p

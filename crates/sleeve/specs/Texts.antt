@@ -1,10 +1,10 @@
 -- The parts of the listing's text that the code writes one by one (01, Sleeve listing). The whole text is d64spec's `listingText`.
--- In order: digits; the occupied slots by number; their lines; what the code knows of a directory that was read; the listing of its slots; the program's buffer.
+-- In order: digits; the occupied slots by number; their lines; what the code knows of a directory that was read; the listing of its slots; the program's buffer, and what it prints.
 use Prim.Native.Nat.{ℕ, _+_, _*_, _/_, _%_, _≤_, _<_}
 use mathlib.Core.Path.{_≡_}
 use mathlib.Core.Bool.{not}
 use mathlib.Core.List.{List, [], _∷_, map}
-use lib.ListN.{length}
+use lib.ListN.{length, take}
 use lib.Dec.{leb}
 use Rattle.d64spec.specs.Lists.{Bytes, All, join, filter, range, splice, zeros}
 use Rattle.d64spec.specs.Answers.{Result, done, wrongBuffer, _>>_, need}
@@ -15,6 +15,7 @@ use Rattle.answers.specs.Faults.{verdictOf, answerTo, whereFine}
 use Rattle.answers.specs.declared.Report.{Report}
 use Rattle.directory.specs.Directories.{slotAt, firstRepeated}
 use Rattle.sleeve.specs.declared.slots.Checked.{Checked}
+use Rattle.sleeve.specs.declared.Printed.{Printed}
 
 -- each byte as two digits: a line without its end
 unfoldable pub digitsOf : Bytes → Bytes
@@ -66,3 +67,8 @@ pub record SlotsListed (b : Bytes) (l : List Slot) (text : Bytes) (r : Report) (
 -- a text buffer with room for every listing (6,234 bytes always suffice)
 unfoldable pub blankText : Bytes
 blankText = zeros 6234
+
+-- these bytes are printed: they stand at the start of the text, and it says how many they are
+pub record Prints (l : Bytes) (r : Printed) : Type 0 where
+  pub output : take (r .length) (r .text) ≡ l
+  pub size : r .length ≡ length l

@@ -4,17 +4,17 @@ mod lines;
 mod slots;
 
 ghost use mathlib.Core.Path.{_≡_};
-ghost use lib.ListN.{length, take};
+ghost use lib.ListN.{length};
 ghost use Rattle.d64spec.specs.Geometry.{layout35};
 ghost use Rattle.d64spec.specs.Listing.{diskOfTrack18, freeTotal, listingText, refusalLine};
 ghost use Rattle.answers.specs.declared.Verdict.{Verdict};
-ghost use Rattle.sleeve.specs.Texts.{ReadySlots, RoomFor, SlotsListed, blankText, occupiedFrom};
+ghost use Rattle.sleeve.specs.Texts.{Prints, ReadySlots, RoomFor, SlotsListed, blankText, occupiedFrom};
 ghost use Rattle.sleeve.specs.Sleeves.{SleeveListed, SleevePrinted};
 use answers::Fault;
 use answers::Report;
 use answers::Verdict;
 
-// What the program prints: the first `length` bytes of the text.
+// What the program prints: the first `length` bytes of the text, which is never shorter.
 pub struct Printed {
     pub text: [u8; 6234],
     pub length: usize,
@@ -109,7 +109,7 @@ pub fn list_track18(track18: &[u8], text: &mut [u8]) -> Report
 
 // A refusal, printed: one line of two digits.
 fn print_refusal(number: u8) -> Printed
-    ensures { λ r. ⌜ take (r .length) (r .text) ≡ refusalLine number ⌝ }
+    ensures { λ r. ⌜ Prints (refusalLine number) r ⌝ }
 {
     let mut text = [0u8; 6234];
     text[0] = lines::digit(number / 10);

@@ -1,4 +1,5 @@
 -- `print_refusal`: two digits and LF, at the start of the text.
+use mathlib.Core.Path.{refl}
 use borrow.Author.Needs.{needs}
 use Rattle.d64spec.specs.Listing.{refusalLine}
 use Rattle.sleeve.proofs.print_refusal.Statement.{statement}
@@ -21,7 +22,7 @@ array-write-text-3 c = search needs
 
 returns : tie.Need-returns
 unfolding refusalLine
-returns c = simp (c .before .digit .ensures, c .digit2 .ensures)
+returns c = record { output = simp (c .before .digit .ensures, c .digit2 .ensures); size = refl }
 
 pub print-refusal-spec : {M : Type 1} → statement M
 print-refusal-spec =
