@@ -1,6 +1,6 @@
 -- Pairs of numbers held in two lists: which pairs are among the first n (specs/NameWords, `holdsPair`).
 -- In order: one more place looked at; a place where the pair stands; one more pair noted. Assumes nothing.
-use mathlib.Core.Path.{_≡_, refl, sym, ap, ap₂, _∙_}
+use mathlib.Core.Path.{_≡_, refl, sym, ap}
 use mathlib.Core.Bool.{Bool, true, false, _&&_, _||_, and-false, or-true}
 use mathlib.Core.List.{List}
 use Prim.Native.Nat.{ℕ, zero, suc, _+_, _≤_, _<_}

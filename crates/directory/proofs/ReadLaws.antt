@@ -1,13 +1,11 @@
 -- What reading the directory gives: refused by its size, refused on the walk, or read (specs/Directories, `DirectoryRead`).
 -- In order: the table before the walk; a walk told with its table; refusals; the directory read. Assumes nothing.
 use mathlib.Core.Path.{_≡_, refl, sym, ap, _∙_}
-use mathlib.Core.Bool.{true, false}
 use mathlib.Core.List.{List, [], _∷_, map}
-use Prim.Native.Nat.{ℕ, zero, suc, _*_, _≤_, _<_}
+use Prim.Native.Nat.{ℕ, zero, suc, _*_, _<_}
 use native.Mathlib.Omega.{arith}
-use lib.ListN.{length, set, take, replicate, length-map}
+use lib.ListN.{length, set, take, length-map}
 use lib.Seq.{length-take-le}
-use lib.Dec.{eqb}
 use borrow.Author.Tests.{eq-eqb, ne-eqb}
 use Rattle.d64spec.specs.Lists.{Bytes, All, zeros}
 use Rattle.d64spec.specs.Answers.{Address, address, Result, refused, done}
@@ -102,18 +100,18 @@ module _ (b : Bytes) where
   pub read-wrong-size : {r : Directory} → r ≡ refusal WrongSize → (length b ≡ 4864 → ⊥) → DirectoryRead b r
   read-wrong-size told h = rw told (read-refused WrongSize (wrong-size b h))
 
-  module _ (size : length b ≡ 4864) (w : Walk) (own′ : List ℕ) (walked : Walked b startTable w own′) where
+  module _ (size : length b ≡ 4864) (w : Walk) (own own′ : List ℕ) (start : own ≡ startTable) (walked : Walked b own w own′) where
     -- A WALK THAT IS REFUSED refuses the directory
     pub read-walk-refused : (f : Fault) → w .verdict ≡ Refused f → {r : Directory} → r ≡ refusal f → DirectoryRead b r
     unfolding whereFine
-    read-walk-refused f verdict told = rw told (read-refused f (walk-start b size ∙ marked-refused startTable (faultOf f) _ (rw verdict at (walked .told))))
+    read-walk-refused f verdict told = rw told (read-refused f (walk-start b size ∙ marked-refused startTable (faultOf f) _ (rw (start, verdict) at (walked .told))))
 
     -- A WALK THAT IS DONE gives its sectors and its table
     pub read-walk-done : w .verdict ≡ Fine → length (w .sectors) ≡ 18 → (k : ℕ) → k ≡ firstRepeated b (w .sectors) 0 (8 * w .count)
         → DirectoryRead b (record { verdict = Fine; sectors = w .sectors; count = w .count; repeated = k; owners = own′ })
     unfolding whereFine sectorCount tableAfter directoryTable
     read-walk-done verdict long k first =
-        let t = marked-done startTable _ _ (rw verdict at (walked .told)) in
+        let t = marked-done startTable _ _ (rw (start, verdict) at (walked .told)) in
         let e : trackDirectory b ≡ done (sectorsOf (w .sectors) (w .count)) = walk-start b size ∙ t .sectors in
         record {
           walked = sym e;

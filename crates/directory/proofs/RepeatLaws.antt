@@ -1,14 +1,14 @@
 -- The first slot that repeats a name field: where it lies, and that it is the first whose name an earlier slot has, where names are valid (01, Order of the check, 3).
 -- In order: name fields and names, counted; the first repeated slot; both together. Assumes nothing.
 use mathlib.Core.Path.{_≡_, refl, sym, ap, ap₂, _∙_}
-use mathlib.Core.Bool.{Bool, true, false, cond, not, _&&_}
-use mathlib.Core.List.{List, [], _∷_}
+use mathlib.Core.Bool.{Bool, true, false, cond, not}
+use mathlib.Core.List.{List, _∷_}
 use Prim.Native.Nat.{ℕ, zero, suc, _+_, _≤_, _<_}
 use native.Mathlib.Omega.{arith}
 use native.Mathlib.Decide.{ℕ-discrete}
 use lib.Dec.{eqb, ltb}
 use borrow.Author.Tests.{eq-eqb, ne-eqb, lt-ltb, eqb-false}
-use Rattle.d64spec.specs.Lists.{Bytes, indicator, equal, nameCount}
+use Rattle.d64spec.specs.Lists.{Bytes, indicator, nameCount}
 use Rattle.d64spec.specs.Directory.{isEmpty, nameField, nameOf, validName}
 use Rattle.names.proofs.NameLaws.{equal-nameField}
 use Rattle.directory.specs.Directories.{slotBytes, fieldsBelow, namesBelow, repeats, firstRepeated}

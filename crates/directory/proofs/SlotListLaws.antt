@@ -2,14 +2,14 @@
 -- In order: ranges; track 18's numbers; one slot; all slots. Assumes nothing.
 use mathlib.Core.Path.{_≡_, refl, sym, ap, ap₂, _∙_}
 use mathlib.Core.Bool.{not}
-use mathlib.Core.List.{List, [], _∷_, _++_, map}
-use Prim.Native.Nat.{ℕ, zero, suc, _+_, _*_, _-_, _/_, _%_, _≤_, _<_}
+use mathlib.Core.List.{List, _∷_, _++_, map}
+use Prim.Native.Nat.{ℕ, zero, suc, _+_, _*_, _/_, _%_, _≤_, _<_}
 use native.Mathlib.Omega.{arith}
 use lib.ListN.{length, getD, take, drop}
 use lib.Seq.{drop-cons}
 use Rattle.d64spec.specs.Lists.{Bytes, filter, range}
-use Rattle.d64spec.specs.Answers.{Address, address}
-use Rattle.d64spec.specs.Geometry.{layout35, sectorNumber, firstOn, mapAddress}
+use Rattle.d64spec.specs.Answers.{address}
+use Rattle.d64spec.specs.Geometry.{layout35, sectorNumber}
 use Rattle.d64spec.specs.Image.{disk}
 use Rattle.d64spec.specs.Directory.{Slot, isEmpty, slotIn, slotsIn, slotsFrom, occupiedIn}
 use Rattle.d64spec.specs.Listing.{diskOfTrack18}

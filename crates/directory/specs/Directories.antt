@@ -1,13 +1,13 @@
 -- The directory of track 18's bytes, as the code holds it (01, The directory; Order of the check, step 2).
 -- In order: directory sectors; slots by number; the first slot that repeats a name; what reading the directory gives.
--- Laws: proofs/SlotListLaws (the slots by number are d64spec's), RepeatLaws, Track18Laws (an image's track 18).
+-- Laws: proofs/SlotBytesLaws (one slot), SlotListLaws (the slots by number are d64spec's), RepeatLaws, Track18Laws (an image's track 18), ReadLaws.
 use Prim.Native.Nat.{ℕ, zero, suc, _+_, _*_, _-_, _/_, _%_, _≤_, _<_}
 use mathlib.Core.Path.{_≡_}
 use mathlib.Core.Bool.{Bool, cond, not, _&&_}
 use mathlib.Core.List.{List, [], _∷_, _++_, map}
-use lib.ListN.{length, take, drop, getD}
+use lib.ListN.{length, take, getD}
 use lib.Dec.{eqb, ltb}
-use Rattle.d64spec.specs.Lists.{Bytes, All, part, zeros, nameCount}
+use Rattle.d64spec.specs.Lists.{Bytes, All, zeros, nameCount}
 use Rattle.d64spec.specs.Answers.{Address, address, wrongSize, badType, badName, duplicateName, Result, refused, done, _>>_, need}
 use Rattle.d64spec.specs.Geometry.{layout35, total, sectorsOn}
 use Rattle.d64spec.specs.Image.{disk}

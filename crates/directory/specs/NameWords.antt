@@ -1,9 +1,9 @@
 -- A name field as two numbers of 64 bits, and a hash of them: how equal names are found without comparing each with each.
 -- Nothing of document 01 is said here; that the code finds document 01's repeated names is `firstRepeated` (specs/Directories).
--- Laws: proofs/WordLaws (equal words are equal bytes).
+-- Laws: proofs/WordLaws (equal words are equal bytes), PairLaws, SearchLaws.
 use Prim.Native.Nat.{ℕ, zero, suc, _+_, _*_, _/_, _%_, _<_}
 use mathlib.Core.Path.{_≡_}
-use mathlib.Core.Bool.{Bool, true, false, _&&_, _||_}
+use mathlib.Core.Bool.{Bool, false, _&&_, _||_}
 use mathlib.Core.List.{List}
 use lib.ListN.{getD}
 use lib.Dec.{eqb}

@@ -1,6 +1,6 @@
 -- `directory::check_entry` meets its contract: each return is the first test of the definition that fails. Assumes nothing.
 use mathlib.Core.Path.{_≡_, sym, ap, _∙_}
-use mathlib.Core.Bool.{true, false}
+use mathlib.Core.Bool.{true}
 use borrow.Author.Needs.{needs}
 use borrow.Author.Tests.{not-true, not-false}
 use Rattle.d64spec.specs.Directory.{entryByte, validName, validType}

@@ -1,7 +1,7 @@
 -- `names::valid_name` meets its contract: a short slot has no name field of 16 bytes; else the first byte decides, then the neighbours. Assumes nothing.
-use mathlib.Core.Path.{_≡_, refl, sym, _∙_}
+use mathlib.Core.Path.{refl, sym, _∙_}
 use native.Mathlib.Omega.{arith}
-use lib.ListN.{length, drop, length-take, length-drop}
+use lib.ListN.{drop, length-take, length-drop}
 use borrow.Author.Needs.{needs}
 use Rattle.names.proofs.NameLaws.{length-nameField, byte-nameField, validName-misfit, validName-first, validName-neighbours}
 use Rattle.names.proofs.valid_name.Statement.{statement}

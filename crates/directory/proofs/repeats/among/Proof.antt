@@ -1,6 +1,6 @@
 -- `directory::repeats::among` meets its contract. The loop keeps: none of the pairs passed is this one. What falls is the number of pairs left.
 -- Assumes nothing.
-use mathlib.Core.Path.{_≡_, refl, sym, _∙_}
+use mathlib.Core.Path.{_≡_, refl, sym}
 use mathlib.Core.Bool.{false}
 use mathlib.Core.Logic.{inl, inr}
 use Prim.Native.Nat.{_-_, _≤_}
