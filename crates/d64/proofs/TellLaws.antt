@@ -11,7 +11,8 @@ use lib.Seq.{take-length, ext-getD}
 use lib.Dec.{leb}
 use borrow.Author.Tests.{le-leb, lt-leb}
 use Rattle.d64spec.specs.Lists.{Bytes, range, splice}
-use Rattle.d64spec.specs.Answers.{Answer, unplaced, answerOf, wrongBuffer, Result, refused, done, _>>=_, _>>_, need}
+use Rattle.d64spec.specs.Answers.{unplaced, answerOf, wrongBuffer, Result, refused, done, _>>=_, _>>_, need}
+use Rattle.d64spec.specs.Answers as answer
 use Rattle.d64spec.specs.Geometry.{layout35}
 use Rattle.d64spec.specs.Reply.{Change, unchanged, Reply, reply}
 use Rattle.d64spec.specs.Read.{FileInformation as Information, TellReply, callTell, tellReply}
@@ -70,6 +71,10 @@ given-filled bs entry entry′ is fits copied =
 
 -- ---- the reply
 
+-- no refusal has the answer 0
+refused-is-not-done : {A : Type 0} (f : answer.Fault) → answerOf f ≡ unplaced 0 → A
+refused-is-not-done f e = absurd (let h : answerOf f .number ≡ suc (fault-number f .0) = fault-number f .1 in omega (arith, ap (λ (a : answer.Answer). a .number) e))
+
 module _ (img : Bytes) (entry : Bytes) where
   -- the change of a tell that is done
   abbrev filledWith : Bytes → Change
@@ -84,8 +89,8 @@ module _ (img : Bytes) (entry : Bytes) where
       → verdictReply bs (w >> need fits wrongBuffer) ≡ reply img entry (x >>= (λ i. need fits wrongBuffer >> done (filledWith (entryBytes i))))
   unfolding answerTo tellReply reply entryAfter
   told-then bs fits (refused f) (refused f′) answered built = ap (λ a. record { answer = a; change = unchanged img entry }) answered
-  told-then bs fits (refused f) (done i) answered built = absurd (let h : answerOf f .number ≡ suc (fault-number f .0) = fault-number f .1 in omega (arith, ap (λ (a : Answer). a .number) answered))
-  told-then bs fits (done u) (refused f) answered built = absurd (let h : answerOf f .number ≡ suc (fault-number f .0) = fault-number f .1 in omega (arith, ap (λ (a : Answer). a .number) answered))
+  told-then bs fits (refused f) (done i) answered built = refused-is-not-done f answered
+  told-then bs fits (done u) (refused f) answered built = refused-is-not-done f (sym answered)
   told-then bs false (done u) (done i) answered built = refl
   told-then bs true (done u) (done i) answered built = ap (λ b. record { answer = unplaced 0; change = filledWith b }) built
 
