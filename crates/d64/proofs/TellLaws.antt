@@ -26,7 +26,7 @@ use Rattle.answers.specs.declared.Fault.{Fault}
 use Rattle.answers.specs.declared.Fault.the-variants.{WrongBuffer}
 use Rattle.answers.specs.declared.Report.{Report}
 use Rattle.answers.proofs.AnswerLaws.{four-low-first}
-use Rattle.reading.specs.Tells.{informationOf, tellReplyOf}
+use Rattle.reading.specs.Replies.{informationOf, tellReplyOf}
 use Rattle.reading.specs.declared.Told.{Told}
 use Rattle.d64.specs.HostForms.{entryBytes, tellInto}
 use Rattle.d64.specs.HostCalls.{entryAfter, EntryGiven}

@@ -5,7 +5,7 @@ ghost use mathlib.Core.List.{[]};
 ghost use Rattle.d64spec.specs.Geometry.{layout35};
 ghost use Rattle.d64spec.specs.Call.{check, read};
 ghost use Rattle.d64spec.specs.Host.{hostCall};
-ghost use Rattle.reading.specs.Tells.{informationOf};
+ghost use Rattle.reading.specs.Replies.{informationOf};
 ghost use Rattle.d64.specs.HostForms.{entryBytes, hostTell, hostListing};
 ghost use Rattle.d64.specs.HostCalls.{HostServed, EntryGiven};
 use answers::Fault;

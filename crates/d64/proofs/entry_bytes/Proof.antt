@@ -1,6 +1,6 @@
 -- `d64::entry_bytes` meets its contract: the name byte by byte, the numbers low byte first. Assumes nothing.
 use borrow.Author.Needs.{needs}
-use Rattle.reading.specs.Tells.{informationOf}
+use Rattle.reading.specs.Replies.{informationOf}
 use Rattle.d64.proofs.TellLaws.{entry-bytes-of}
 use Rattle.d64.proofs.entry_bytes.Statement.{statement}
 use Rattle.d64.proofs.entry_bytes.Tie as tie
