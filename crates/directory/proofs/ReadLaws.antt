@@ -100,7 +100,7 @@ module _ (b : Bytes) where
   pub read-wrong-size : {r : Directory} → r ≡ refusal WrongSize → (length b ≡ 4864 → ⊥) → DirectoryRead b r
   read-wrong-size told h = rw told (read-refused WrongSize (wrong-size b h))
 
-  module _ (size : length b ≡ 4864) (w : Walk) (own own′ : List ℕ) (start : own ≡ startTable) (walked : Walked b own w own′) where
+  module _ (size : length b ≡ 4864) (w : Walk) (own own′ : List ℕ) (walked : Walked b own w own′) (start : own ≡ startTable) where
     -- A WALK THAT IS REFUSED refuses the directory
     pub read-walk-refused : (f : Fault) → w .verdict ≡ Refused f → {r : Directory} → r ≡ refusal f → DirectoryRead b r
     unfolding whereFine

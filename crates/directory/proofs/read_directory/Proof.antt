@@ -38,13 +38,13 @@ first-repeated-requires c κs = search needs
 returns-2 : tie.Need-returns-2
 returns-2 c =
     let w = c .before .before .before .before in
-    read-walk-refused _ (omega arith) _ _ _ refl (w .walk-directory .ensures) _ (c .before .before .verdict .given .1) (c .refuse2 .ensures)
+    read-walk-refused _ (omega arith) _ _ _ (w .walk-directory .ensures) refl _ (c .before .before .verdict .given .1) (c .refuse2 .ensures)
 
 returns-3 : tie.Need-returns-3
 returns-3 c =
     let w = c .before .before .before .before .before in
     let long = sym (length-map (w .walk-directory .result .sectors) (λ v. v)) ∙ w .walk-directory .ok .1 .1 .1 .0 .1 .0 .1 in
-    read-walk-done _ (omega arith) _ _ _ refl (w .walk-directory .ensures) (c .before .before .before .enum-told .given .1) long _ (c .first-repeated .ensures)
+    read-walk-done _ (omega arith) _ _ _ (w .walk-directory .ensures) refl (c .before .before .before .enum-told .given .1) long _ (c .first-repeated .ensures)
 
 pub read-directory-spec : {M : Type 1} → statement M
 read-directory-spec =

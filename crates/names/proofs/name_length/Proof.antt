@@ -25,7 +25,7 @@ shared-slice-read-if1 c = search needs
 returns : tie.Need-returns Inv-loop μ-loop
 returns c =
     let l = c .before .before .before in
-    omega (arith, nameLength-drop-padding (l .before .args .s .now) (l .loop .i) (omega arith) (c .if1 .taken))
+    omega (arith, nameLength-drop-padding (l .before .args .s .now) (l .loop .i) (omega arith) (omega arith))
 
 add-i : tie.Need-add-i Inv-loop μ-loop
 add-i c = search needs
@@ -36,7 +36,7 @@ loop-less c = search needs
 loop-again : tie.Need-loop-again Inv-loop μ-loop
 loop-again c =
     let l = c .before .before .before in
-    (omega arith, omega (arith, nameLength-drop-letter (l .before .args .s .now) (l .loop .i) (omega arith) (c .if1 .left)))
+    (omega arith, omega (arith, nameLength-drop-letter (l .before .args .s .now) (l .loop .i) (omega arith) (λ e. omega arith)))
 
 returns-2 : tie.Need-returns-2 Inv-loop μ-loop
 returns-2 c = let l = c .before in omega (arith, nameLength-drop-end (l .before .args .s .now) (l .loop .i) (omega arith))
