@@ -25,11 +25,7 @@ wordOf b a = halfOf b a + 4294967296 * halfOf b (a + 4)
 -- a hash of two words, below 4096
 unfoldable pub hashOf : ℕ → ℕ → ℕ
 hashOf x y =
-    ((x % 4294967296) * 2654435769 / 1048576
-    + (x / 4294967296) * 2246822519 / 1048576
-    + (y % 4294967296) * 3266489917 / 1048576
-    + (y / 4294967296) * 668265263 / 1048576)
-    % 4096
+    (x % 4294967296 + 3 * (x / 4294967296) + 5 * (y % 4294967296) + 7 * (y / 4294967296)) * 165902235 / 16777216 % 4096
 
 -- whether x and y stand at one place of the first n of xs and ys
 abbrev pub holdsPair : List ℕ → List ℕ → ℕ → ℕ → ℕ → Bool

@@ -27,15 +27,12 @@ fn word(bytes: &[u8], at: usize) -> u64
     half(bytes, at) + 4294967296 * half(bytes, at + 4)
 }
 
-// A hash of a name's two words.
+// A hash of a name's two words: one product, by an odd number near 2^28 over the golden ratio.
 fn hash(x: u64, y: u64) -> usize
     ensures { λ r. ⌜ r ≡ hashOf x y ⌝ }
 {
-    let a = (x % 4294967296) * 2654435769 / 1048576;
-    let b = (x / 4294967296) * 2246822519 / 1048576;
-    let c = (y % 4294967296) * 3266489917 / 1048576;
-    let d = (y / 4294967296) * 668265263 / 1048576;
-    ((a + b + c + d) % 4096) as usize
+    let sum = x % 4294967296 + 3 * (x / 4294967296) + 5 * (y % 4294967296) + 7 * (y / 4294967296);
+    (sum * 165902235 / 16777216 % 4096) as usize
 }
 
 // Whether one of the first n names is this one.

@@ -1,4 +1,4 @@
--- `directory::repeats::hash` meets its contract: each term is below 2 ^ 44, so that the sum of the four fits. Assumes nothing.
+-- `directory::repeats::hash` meets its contract: the sum of the four halves is below 2 ^ 36, so that its product with a number below 2 ^ 28 fits. Assumes nothing.
 use mathlib.Core.Path.{refl}
 use Prim.Native.Nat.{ℕ, _+_, _*_, _/_, _%_, _<_}
 use native.Mathlib.Omega.{arith}
@@ -9,53 +9,40 @@ use Rattle.directory.specs.NameWords.{hashOf}
 use Rattle.directory.proofs.repeats.hash.Statement.{statement}
 use Rattle.directory.proofs.repeats.hash.Tie as tie
 
-first-lt : (x : ℕ) → (x % 4294967296) * 2654435769 / 1048576 < 17592186044416
-first-lt x = omega arith
+-- the halves, bounded apart from the terms that they are
+sum-lt : (a b c d : ℕ) → a < 4294967296 → b < 4294967296 → c < 4294967296 → d < 4294967296 → a + 3 * b + 5 * c + 7 * d < 68719476736
+sum-lt a b c d h i j k = omega arith
 
-second-lt : (x : ℕ) → x / 4294967296 < 4294967296 → (x / 4294967296) * 2246822519 / 1048576 < 17592186044416
-second-lt x h = omega arith
+halves-lt : (x y : ℕ) → x / 4294967296 < 4294967296 → y / 4294967296 < 4294967296
+    → x % 4294967296 + 3 * (x / 4294967296) + 5 * (y % 4294967296) + 7 * (y / 4294967296) < 68719476736
+halves-lt x y h i = sum-lt _ _ _ _ (omega arith) h (omega arith) i
 
-third-lt : (y : ℕ) → (y % 4294967296) * 3266489917 / 1048576 < 17592186044416
-third-lt y = omega arith
+sum-fits : (s : ℕ) → s < 68719476736 → Fits w64 s
+sum-fits s h = record { fits = omega arith }
 
-fourth-lt : (y : ℕ) → y / 4294967296 < 4294967296 → (y / 4294967296) * 668265263 / 1048576 < 17592186044416
-fourth-lt y h = omega arith
+product-fits : (s : ℕ) → s < 68719476736 → Fits w64 (s * 165902235)
+product-fits s h = record { fits = omega arith }
 
--- sums of such terms
-two-fit : (a b : ℕ) → a < 17592186044416 → b < 17592186044416 → Fits w64 (a + b)
-two-fit a b h i = record { fits = omega arith }
+mul-sum : tie.Need-mul-sum
+mul-sum c = search needs
 
-three-fit : (a b c : ℕ) → a < 17592186044416 → b < 17592186044416 → c < 17592186044416 → Fits w64 (a + b + c)
-three-fit a b c h i j = record { fits = omega arith }
+add-sum : tie.Need-add-sum
+add-sum c = search needs
 
-four-fit : (a b c d : ℕ) → a < 17592186044416 → b < 17592186044416 → c < 17592186044416 → d < 17592186044416 → Fits w64 (a + b + c + d)
-four-fit a b c d h i j k = record { fits = omega arith }
+mul-sum-2 : tie.Need-mul-sum-2
+mul-sum-2 c = search needs
 
-mul-a : tie.Need-mul-a
-mul-a c = search needs
+add-sum-2 : tie.Need-add-sum-2
+add-sum-2 c = search needs
 
-mul-b : tie.Need-mul-b
-mul-b c = search needs
+mul-sum-3 : tie.Need-mul-sum-3
+mul-sum-3 c = search needs
 
-mul-c : tie.Need-mul-c
-mul-c c = search needs
+add-sum-3 : tie.Need-add-sum-3
+add-sum-3 c = sum-fits _ (halves-lt (c .args .x) (c .args .y) (omega arith) (omega arith))
 
-mul-d : tie.Need-mul-d
-mul-d c = search needs
-
-add-result : tie.Need-add-result
-add-result c = let x = c .args .x in two-fit _ _ (first-lt x) (second-lt x (omega arith))
-
-add-result-2 : tie.Need-add-result-2
-add-result-2 c =
-    let x = c .args .x in
-    three-fit _ _ _ (first-lt x) (second-lt x (omega arith)) (third-lt (c .args .y))
-
-add-result-3 : tie.Need-add-result-3
-add-result-3 c =
-    let x = c .args .x in
-    let y = c .args .y in
-    four-fit _ _ _ _ (first-lt x) (second-lt x (omega arith)) (third-lt y) (fourth-lt y (omega arith))
+mul-result : tie.Need-mul-result
+mul-result c = product-fits _ (halves-lt (c .args .x) (c .args .y) (omega arith) (omega arith))
 
 returns : tie.Need-returns
 unfolding hashOf
@@ -63,4 +50,4 @@ returns c = refl
 
 pub hash-spec : {M : Type 1} → statement M
 hash-spec =
-    tie.close (tie.spec mul-a mul-b mul-c mul-d add-result add-result-2 add-result-3 returns)
+    tie.close (tie.spec mul-sum add-sum mul-sum-2 add-sum-2 mul-sum-3 add-sum-3 mul-result returns)
