@@ -1,17 +1,16 @@
 -- One occupied slot: its entry, then its chain and its count (01, Order of the check, 3).
 -- In order: the chain and the count, as the code has them; the slot. All slots: proofs/SlotsLaws.
 use Prim.Native.Nat.{ℕ, _/_}
-use native.Mathlib.Omega.{arith}
 use mathlib.Core.Path.{_≡_, refl, sym, ap, ap₂, _∙_}
-use mathlib.Core.Bool.{Bool, true, false, not}
+use mathlib.Core.Bool.{Bool, true, false}
 use mathlib.Core.List.{List, map}
 use lib.ListN.{length, getD}
 use lib.Dec.{eqb}
 use borrow.Author.Tests.{eq-eqb, ne-eqb}
-use Rattle.d64spec.specs.Lists.{Bytes, nameCount}
-use Rattle.d64spec.specs.Answers.{Address, address, Fault, wrongCount, badType, badName, duplicateName, Result, refused, done, _>>=_, _>>_, need}
+use Rattle.d64spec.specs.Lists.{Bytes}
+use Rattle.d64spec.specs.Answers.{Address, address, Fault, wrongCount, Result, refused, done, _>>=_, _>>_, need}
 use Rattle.d64spec.specs.Geometry.{layout35, sectorNumber}
-use Rattle.d64spec.specs.Directory.{Slot, isEmpty, entryByte, nameOf, validType, validName, countOf, firstLink, slotIn}
+use Rattle.d64spec.specs.Directory.{Slot, isEmpty, entryByte, countOf, firstLink}
 use Rattle.d64spec.specs.Check.{checkEntry, checkSlot}
 use Rattle.answers.specs.declared.Place.{Place}
 use Rattle.answers.specs.declared.Fault as code
@@ -20,7 +19,8 @@ use Rattle.answers.specs.declared.Verdict.{Verdict}
 use Rattle.answers.specs.declared.Verdict.the-variants.{Fine, Refused}
 use Rattle.answers.specs.Faults.{sectorOf, faultOf, verdictOf, whereFine}
 use Rattle.owners.specs.OwnerTable.{withOwner, fileOwner}
-use Rattle.directory.specs.Directories.{slotAt, entryVerdict}
+use Rattle.directory.specs.Directories.{entryVerdict}
+use Rattle.directory.proofs.EntryLaws.{number-at, holder-at, entry-verdict}
 use Rattle.diskcheck.specs.Chains.{Claimed, claimed, claimOf, chainWalk}
 use Rattle.diskcheck.specs.declared.chain.Claim.{Claim}
 use Rattle.diskcheck.specs.declared.chain.Claim.the-variants as claim
@@ -71,29 +71,9 @@ module _ (img own own′ b : List ℕ) (at : Place) where
 
 -- ---- the slot
 
-pub number-at : (b ss : List ℕ) (k : ℕ) → slotAt b ss k .number ≡ k
-unfolding slotAt slotIn
-number-at b ss k = omega arith
-
 -- the directory sector that holds slot k
 abbrev holderOf : List ℕ → ℕ → Address
 holderOf ss k = address 18 (getD ss (k / 8) 0)
-
-holder-at : (b ss : List ℕ) (k : ℕ) → slotAt b ss k .holder ≡ holderOf ss k
-unfolding slotAt slotIn
-holder-at b ss k = refl
-
--- the entry's verdict is the definition's, where `repeated` says whether an earlier slot has the name
-entry-verdict : (names : List Bytes) (s : Slot) (repeated : Bool) → (validName (s .bytes) ≡ true → eqb (nameCount (nameOf (s .bytes)) names) 0 ≡ not repeated)
-    → checkEntry names s ≡ entryVerdict (s .bytes) (s .holder) (s .number) repeated
-unfolding entryVerdict checkEntry
-entry-verdict names s repeated h = ap (λ (r : Result (Unit {0})). need (validType (entryByte (s .bytes) 0x02)) (badType (s .holder) (s .number)) >> r) (go (validName (s .bytes)) refl)
-  where
-    go : (v : Bool) → validName (s .bytes) ≡ v
-        → (need v (badName (s .holder) (s .number)) >> need (eqb (nameCount (nameOf (s .bytes)) names) 0) (duplicateName (s .holder) (s .number)))
-        ≡ (need v (badName (s .holder) (s .number)) >> need (not repeated) (duplicateName (s .holder) (s .number)))
-    go true e = ap (λ (t : Bool). need t (duplicateName (s .holder) (s .number))) (h e)
-    go false e = refl
 
 tableWith-then : (id : ℕ) (own : List ℕ) (x : Result (Unit {0})) (y : Result (List Address)) → tableWith id own (x >> y) ≡ (x >> tableWith id own y)
 unfolding tableWith

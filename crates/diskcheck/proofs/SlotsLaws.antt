@@ -27,9 +27,9 @@ use Rattle.owners.specs.OwnerTable.{owned, withOwner, fileOwner}
 use Rattle.owners.proofs.TableLaws.{length-withOwner, alike-withOwner}
 use Rattle.owners.proofs.SlotsTable.{slots-alike, slot-lt}
 use Rattle.directory.specs.Directories.{firstRepeated}
+use Rattle.directory.proofs.EntryLaws.{number-at}
 use Rattle.directory.proofs.RepeatLaws.{ValidBelow, new-name, past-empty}
 use Rattle.diskcheck.specs.SlotChecks.{imageSlot, imageNames, occupiedFrom, tableWith, slotStep, tableWithFiles, slotsStep, SlotReady, SlotsReady}
-use Rattle.diskcheck.proofs.SlotLaws.{number-at}
 
 -- ---- slot by slot
 

@@ -5,7 +5,7 @@ use native.Mathlib.Omega.{arith}
 use mathlib.Core.Path.{_≡_, refl, sym, ap, _∙_}
 use mathlib.Core.Bool.{not}
 use mathlib.Core.List.{List, [], _∷_}
-use lib.ListN.{length, take, drop, getD, length-take, length-map}
+use lib.ListN.{length, take, drop, length-take, length-map}
 use Rattle.d64spec.specs.Lists.{Bytes, All, filter}
 use Rattle.d64spec.specs.Answers.{address}
 use Rattle.d64spec.specs.Geometry.{layout35, sectorNumber, firstOn, sectorsOn, mapAddress}
@@ -15,6 +15,7 @@ use Rattle.d64spec.specs.Listing.{bytesOfTrack18, diskOfTrack18}
 use Rattle.d64spec.proofs.FrameLaws.{same-slots}
 use Rattle.d64spec.proofs.ListingTheorem.{track18-length, track18-sectors}
 use Rattle.directory.specs.Directories.{sectorsOf, slotBytes, IsSlot}
+use Rattle.directory.proofs.SearchLaws.{sector-lt}
 use Rattle.directory.proofs.SlotListLaws.{disk-of-track18, occupied-by-number}
 use Rattle.directory.proofs.Track18Laws.{number-18}
 use Rattle.diskcheck.specs.SlotChecks.{imageSlot, occupiedFrom}
@@ -31,11 +32,6 @@ map-lent img = refl
 
 -- ---- a slot
 
-all-getD : {A : Type 0} (P : A → Type 0) (l : List A) → All P l → (i : ℕ) (z : A) → P z → P (getD l i z)
-all-getD P [] a i z h = h
-all-getD P (x ∷ l) a zero z h = a .0
-all-getD P (x ∷ l) a (suc i) z h = all-getD P l (a .1) i z h
-
 -- a slot read from track 18 as it is lent
 pub record LentSlot (img ss : List ℕ) (k : ℕ) (b : Bytes) : Type 0 where
   pub is : b ≡ imageSlot img ss k .bytes
@@ -45,7 +41,7 @@ pub slot-lent : {img ss : List ℕ} {k : ℕ} {b : Bytes} → length img ≡ 174
 slot-lent {img} {ss} {k} {b} size inside s =
     record {
       is = s .bytes ∙ ap (λ (t : Bytes). slotBytes t ss k) (track18-lent img);
-      full = s .full (ap length (track18-lent img) ∙ track18-length img size) (all-getD (λ s. s < 19) ss inside (k / 8) 0 (omega arith));
+      full = s .full (ap length (track18-lent img) ∙ track18-length img size) (sector-lt ss inside (k / 8));
     }
 
 -- ---- the directory's sectors and the occupied slots
