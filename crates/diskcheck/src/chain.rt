@@ -23,8 +23,9 @@ fn place_of(holder: Address, slot: u8) -> Place
     }
 }
 
-// The loop of `claim_chain`. The layout's tables are lent, so that they stand ready for all sectors of the chain.
-fn claim_sectors(
+// Claims the chain that starts at `first`, a link that the sector `from` holds: each of its sectors gets the owner `id`.
+// The layout's tables are lent, so that they stand ready for all sectors of all chains.
+pub(crate) fn claim_chain(
     img: &[u8],
     own: &mut [u8; 683],
     id: u8,
@@ -62,28 +63,4 @@ fn claim_sectors(
             }
         }
     }
-}
-
-// Claims the chain that starts at `first`, a link that the sector `from` holds: each of its sectors gets the owner `id`.
-pub(crate) fn claim_chain(
-    img: &[u8],
-    own: &mut [u8; 683],
-    id: u8,
-    slot: u8,
-    from: Address,
-    first: Address,
-) -> Claim
-    requires { ⌜ Ready (now img) (now own) id ⌝ }
-    ensures { λ r. ⌜ claimOf r (now (own .exit)) ≡ claimed id (now (own .entry)) (chainWalk (now (img .entry)) (now (own .entry)) (addressOf from) slot (first .track) (first .sector)) ⌝ }
-{
-    claim_sectors(
-        img,
-        own,
-        id,
-        slot,
-        from,
-        first,
-        &geometry::SECTORS,
-        &geometry::FIRST,
-    )
 }

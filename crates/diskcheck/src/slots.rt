@@ -2,6 +2,7 @@
 ghost use mathlib.Core.Path.{_≡_};
 ghost use Prim.Native.Nat.{_*_};
 ghost use Rattle.answers.specs.Faults.{sectorOf, whereFine};
+ghost use Rattle.diskcheck.specs.Chains.{IsCounts, IsFirsts};
 ghost use Rattle.diskcheck.specs.SlotChecks.{FileReady, fileStep, SlotReady, slotStep, SlotsReady, slotsStep};
 use crate::chain::Claim;
 use answers::Fault;
@@ -10,8 +11,15 @@ use answers::Verdict;
 use geometry::Address;
 
 // The chain of an occupied slot, link by link, and then its count of sectors.
-fn check_file(img: &[u8], own: &mut [u8; 683], slot: &[u8], at: Place) -> Verdict
-    requires { ⌜ FileReady (now img) (now own) (now slot) (at .slot) ⌝ }
+fn check_file(
+    img: &[u8],
+    own: &mut [u8; 683],
+    slot: &[u8],
+    at: Place,
+    counts: &[u8; 35],
+    firsts: &[u16; 35],
+) -> Verdict
+    requires { ⌜ FileReady (now img) (now own) (now slot) (at .slot) × IsCounts (now counts) × IsFirsts (now firsts) ⌝ }
     ensures { λ r. ⌜ whereFine r (now (own .exit)) ≡ fileStep (now (img .entry)) (now (own .entry)) (now (slot .entry)) (sectorOf at) (at .slot) ⌝ }
 {
     let first = Address {
@@ -22,7 +30,16 @@ fn check_file(img: &[u8], own: &mut [u8; 683], slot: &[u8], at: Place) -> Verdic
         track: at.track,
         sector: at.sector,
     };
-    let claim = crate::chain::claim_chain(img, own, at.slot + 3, at.slot, from, first);
+    let claim = crate::chain::claim_chain(
+        img,
+        own,
+        at.slot + 3,
+        at.slot,
+        from,
+        first,
+        counts,
+        firsts,
+    );
     match claim {
         Claim::Refused(fault) => Verdict::Refused(fault),
         Claim::Ended(count) => {
@@ -42,8 +59,10 @@ fn check_slot(
     sectors: &[u8; 18],
     k: usize,
     repeated: usize,
+    counts: &[u8; 35],
+    firsts: &[u16; 35],
 ) -> Verdict
-    requires { ⌜ SlotReady (now img) (now own) (now sectors) k repeated ⌝ }
+    requires { ⌜ SlotReady (now img) (now own) (now sectors) k repeated × IsCounts (now counts) × IsFirsts (now firsts) ⌝ }
     ensures { λ r. ⌜ whereFine r (now (own .exit)) ≡ slotStep (now (img .entry)) (now (own .entry)) (now (sectors .entry)) k ⌝ }
 {
     let slot = directory::slot_at(&img[91392..96256], sectors, k);
@@ -59,8 +78,36 @@ fn check_slot(
     let entry = directory::check_entry(slot, at, k == repeated);
     match entry {
         Verdict::Refused(fault) => Verdict::Refused(fault),
-        Verdict::Fine => check_file(img, own, slot, at),
+        Verdict::Fine => check_file(img, own, slot, at, counts, firsts),
     }
+}
+
+// All slots of a directory of `count` sectors, with the layout's tables lent.
+fn check_all(
+    img: &[u8],
+    own: &mut [u8; 683],
+    sectors: &[u8; 18],
+    count: usize,
+    repeated: usize,
+    counts: &[u8; 35],
+    firsts: &[u16; 35],
+) -> Verdict
+    requires { ⌜ SlotsReady (now img) (now own) (now sectors) count repeated × IsCounts (now counts) × IsFirsts (now firsts) ⌝ }
+    ensures { λ r. ⌜ whereFine r (now (own .exit)) ≡ slotsStep (now (img .entry)) (now (own .entry)) (now (sectors .entry)) 0 (8 * count) ⌝ }
+{
+    let end = 8 * count;
+    let mut k: usize = 0;
+    while k < end {
+        let verdict = check_slot(img, own, sectors, k, repeated, counts, firsts);
+        match verdict {
+            Verdict::Fine => {}
+            Verdict::Refused(fault) => {
+                return Verdict::Refused(fault);
+            }
+        }
+        k += 1;
+    }
+    Verdict::Fine
 }
 
 // All slots of a directory of `count` sectors.
@@ -74,17 +121,13 @@ pub(crate) fn check_slots(
     requires { ⌜ SlotsReady (now img) (now own) (now sectors) count repeated ⌝ }
     ensures { λ r. ⌜ whereFine r (now (own .exit)) ≡ slotsStep (now (img .entry)) (now (own .entry)) (now (sectors .entry)) 0 (8 * count) ⌝ }
 {
-    let end = 8 * count;
-    let mut k: usize = 0;
-    while k < end {
-        let verdict = check_slot(img, own, sectors, k, repeated);
-        match verdict {
-            Verdict::Fine => {}
-            Verdict::Refused(fault) => {
-                return Verdict::Refused(fault);
-            }
-        }
-        k += 1;
-    }
-    Verdict::Fine
+    check_all(
+        img,
+        own,
+        sectors,
+        count,
+        repeated,
+        &geometry::SECTORS,
+        &geometry::FIRST,
+    )
 }

@@ -8,8 +8,8 @@ use Rattle.diskcheck.proofs.slots.check_file.Tie as tie
 shared-slice-read-claim-chain : tie.Need-shared-slice-read-claim-chain
 shared-slice-read-claim-chain c = search needs
 
-shared-slice-read-t13 : tie.Need-shared-slice-read-t13
-shared-slice-read-t13 c = search needs
+shared-slice-read-t15 : tie.Need-shared-slice-read-t15
+shared-slice-read-t15 c = search needs
 
 add-claim-chain : tie.Need-add-claim-chain
 add-claim-chain c = search needs
@@ -53,7 +53,7 @@ check-file-spec =
     tie.close
     (tie.spec
     shared-slice-read-claim-chain
-    shared-slice-read-t13
+    shared-slice-read-t15
     add-claim-chain
     claim-chain-requires
     enum-known-claim

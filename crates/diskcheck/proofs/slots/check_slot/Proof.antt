@@ -10,7 +10,7 @@ use Rattle.diskcheck.proofs.slots.check_slot.Tie as tie
 -- where the slot has been read
 lent : (c : tie.After-slot-at) → let a = c .before .before .before .args in LentSlot (a .img .now) (a .sectors .now) (a .k) (c .slot-at .result .now)
 lent c =
-    let p = c .before .before .before .pre in
+    let p = c .before .before .before .pre .0 in
     slot-lent (p .size) (p .inside) (c .slot-at .ensures)
 
 sub-slot-at : tie.Need-sub-slot-at
@@ -31,13 +31,13 @@ shared-slice-read-if1 c = omega (arith, lent (c .before) .full)
 returns : tie.Need-returns
 returns c =
     let s = c .before .before in
-    slot-empty _ _ _ _ _ _ (s .before .before .before .pre) (lent s .is) (omega arith)
+    slot-empty _ _ _ _ _ _ (s .before .before .before .pre .0) (lent s .is) (omega arith)
 
-element-copy-out-t16 : tie.Need-element-copy-out-t16
-element-copy-out-t16 c = search needs
+element-copy-out-t18 : tie.Need-element-copy-out-t18
+element-copy-out-t18 c = search needs
 
-cast-t20 : tie.Need-cast-t20
-cast-t20 c = search needs
+cast-t22 : tie.Need-cast-t22
+cast-t22 c = search needs
 
 check-entry-requires : tie.Need-check-entry-requires
 check-entry-requires c κs = search needs
@@ -52,14 +52,14 @@ check-file-requires : tie.Need-check-file-requires
 check-file-requires c κs =
     let s = c .before .before .before .before .before .before .before in
     let p = s .before .before .before .pre in
-    record { size = p .size; long = p .long; full = lent s .full; slot = p .within }
+    (record { size = p .0 .size; long = p .0 .long; full = lent s .full; slot = p .0 .within }, p .1, p .2)
 
 returns-2 : tie.Need-returns-2
 returns-2 c =
     let e = c .before .before .before in
     let i = e .before .before in
     let s = i .before .before in
-    slot-refused _ _ _ _ _ _ (s .before .before .before .pre) (lent s .is) (λ empty. i .if1 .left (omega arith)) _ _ (rw (c .before .entry .given .1) at (e .check-entry .ensures))
+    slot-refused _ _ _ _ _ _ (s .before .before .before .pre .0) (lent s .is) (λ empty. i .if1 .left (omega arith)) _ _ (rw (c .before .entry .given .1) at (e .check-entry .ensures))
 
 returns-3 : tie.Need-returns-3
 returns-3 c =
@@ -67,7 +67,7 @@ returns-3 c =
     let e = t .before .before in
     let i = e .before .before in
     let s = i .before .before in
-    slot-file _ _ _ _ _ _ (s .before .before .before .pre) (lent s .is) (λ empty. i .if1 .left (omega arith)) _ _ (rw (t .enum-told .given .1) at (e .check-entry .ensures))
+    slot-file _ _ _ _ _ _ (s .before .before .before .pre .0) (lent s .is) (λ empty. i .if1 .left (omega arith)) _ _ (rw (t .enum-told .given .1) at (e .check-entry .ensures))
     (c .check-file .ensures)
 
 pub check-slot-spec : {M : Type 1} → statement M
@@ -80,8 +80,8 @@ check-slot-spec =
     slot-at-requires
     shared-slice-read-if1
     returns
-    element-copy-out-t16
-    cast-t20
+    element-copy-out-t18
+    cast-t22
     check-entry-requires
     enum-known-entry
     enum-told
