@@ -47,11 +47,6 @@ unfoldable pub verdictOf : Verdict → Result (Unit {0})
 verdictOf Fine = done tt
 verdictOf (Refused f) = refused (faultOf f)
 
--- a result without what it gives
-unfoldable pub verdictFor : {A : Type 0} → Result A → Result (Unit {0})
-verdictFor (refused f) = refused f
-verdictFor (done x) = done tt
-
 -- what a verdict gives where nothing was found
 unfoldable pub whereFine : {A : Type 0} → Verdict → A → Result A
 whereFine Fine x = done x
