@@ -1,15 +1,16 @@
 -- A file's chain under way: claimed sector by sector in the owner table.
--- In order: the link in a sector; the outcome of a claim that has passed some sectors; the invariant, its start, its step and its ends.
-use Prim.Native.Nat.{ℕ, suc, _+_, _*_, _≤_, _<_}
+-- In order: the links on the way; the outcome of a claim that has passed some sectors; the invariant, its start, its ends and its step.
+use Prim.Native.Nat.{ℕ, zero, suc, _+_, _*_, _≤_, _<_}
 use native.Mathlib.Omega.{arith}
 use mathlib.Core.Path.{_≡_, refl, sym, ap, ap₂, _∙_}
-use mathlib.Core.Bool.{true, false}
+use mathlib.Core.Bool.{Bool, true, false, cond, _&&_}
 use mathlib.Core.List.{List, [], _∷_, map}
 use lib.ListN.{length, getD, set, length-set}
-use borrow.Author.Tests.{le-ltb}
+use lib.Dec.{eqb, ltb}
+use borrow.Author.Tests.{eq-eqb, ne-eqb, lt-ltb, le-ltb}
 use Rattle.d64spec.specs.Lists.{Bytes}
 use Rattle.d64spec.specs.Answers.{Address, address, Result, refused, done, _>>=_}
-use Rattle.d64spec.specs.Geometry.{Geometry, layout35, sectorNumber, sectorsOn, onDisk}
+use Rattle.d64spec.specs.Geometry.{Geometry, layout35, sectorNumber, onDisk}
 use Rattle.d64spec.specs.Image.{disk}
 use Rattle.d64spec.specs.Chain.{Link, to, bad, linkTo, decodeFileLink, fileLink}
 use Rattle.d64spec.proofs.BoundLaws.{sectorNumber-lt, fileLink-on, linkTo-on}
@@ -17,6 +18,7 @@ use Rattle.d64spec.proofs.RunTheorem.{sectors35}
 use Rattle.sectors.proofs.SectorLaws.{byte-disk, byte-disk-first}
 use Rattle.geometry.specs.Layout.{addressOf, onDiskBy, numberBy}
 use Rattle.geometry.specs.declared.Address.{Address as CodeAddress}
+use Rattle.geometry.proofs.LentTableLaws.{tracks-of-onDisk}
 use Rattle.links.proofs.LinkLaws.{file-ends, file-bad, file-to}
 use Rattle.answers.specs.Faults.{faultOf}
 use Rattle.answers.specs.declared.Place.{Place}
@@ -24,10 +26,11 @@ use Rattle.answers.specs.declared.Fault.the-variants.{BadLink, AlreadyOwned}
 use Rattle.owners.specs.OwnerTable.{withOwner}
 use Rattle.owners.proofs.TableLaws.{freeCount, freeCount-le}
 use Rattle.owners.proofs.Walking.{Walking, walking-start, walking-ends, walking-bad, walking-owned, walking-moved, walking-fewer}
+use Rattle.diskcheck.specs.declared.chain.Claim as claims
 use Rattle.diskcheck.specs.declared.chain.Claim.the-variants as claim
-use Rattle.diskcheck.specs.Chains.{Claimed, claimOf, claimed, chainWalk, Ready, IsCounts, IsFirsts}
+use Rattle.diskcheck.specs.Chains.{Claimed, claimOf, claimed, claimOff, chainWalk, Ready, IsCounts, IsFirsts}
 
--- ---- the link in a sector
+-- ---- the links on the way
 
 link-at : (g : Geometry) (img : Bytes) (n : ℕ) → fileLink g (disk img n) ≡ decodeFileLink g (getD img (256 * n) 0) (getD img (256 * n + 1) 0)
 unfolding fileLink
@@ -42,12 +45,20 @@ module _ (g : Geometry) (t s : ℕ) where
   unfolding linkTo
   linkTo-at e = rw e
 
--- 00 00 goes on as a link, and is off the disk
-file-zero : (g : Geometry) (t s : ℕ) → t < 1 → s < 1 → decodeFileLink g t s ≡ linkTo g t s
-unfolding onDisk sectorsOn
-file-zero g t s h k =
-    let e : t ≡ 0 = omega arith in
-    file-bad g t s h k ∙ sym (linkTo-off g t s (rw e (le-ltb s 0 (omega arith))))
+-- the link of the bytes t and s after n sectors of a chain: a slot's first link, then those in its sectors
+unfoldable pub linkAfter : ℕ → ℕ → ℕ → Link
+linkAfter zero t s = linkTo layout35 t s
+linkAfter (suc n) t s = decodeFileLink layout35 t s
+
+-- on the disk it names its sector
+after-on : (n t s : ℕ) → onDisk layout35 (address t s) ≡ true → linkAfter n t s ≡ to (address t s)
+unfolding linkAfter
+after-on zero t s e = linkTo-at layout35 t s e
+after-on (suc n) t s e = file-to layout35 t s (tracks-of-onDisk (address t s) e .0) ∙ linkTo-at layout35 t s e
+
+after-more : (n t s : ℕ) → linkAfter (n + 1) t s ≡ decodeFileLink layout35 t s
+unfolding linkAfter
+after-more n t s = let e : n + 1 ≡ suc n = omega arith in rw e refl
 
 -- ---- the outcome of a claim that has passed some sectors
 
@@ -73,107 +84,129 @@ claimed-next id passed own r (done l) =
 -- ---- the invariant
 
 -- the definition's claim of a whole chain
-abbrev pub chainClaim : Bytes → List ℕ → ℕ → ℕ → CodeAddress → CodeAddress → Result Claimed
-chainClaim img own id slot from first = claimed id own (chainWalk img own (addressOf from) slot (first .track) (first .sector))
+abbrev pub chainClaim : Bytes → List ℕ → ℕ → ℕ → CodeAddress → ℕ → ℕ → Result Claimed
+chainClaim img own id slot from t s = claimed id own (chainWalk img own (addressOf from) slot t s)
 
 -- the walk along a chain, where `passed` sectors are claimed and `holder` holds the link k; the outcome is o
 abbrev pub Along : Bytes → ℕ → ℕ → Result Claimed → ℕ → List ℕ → CodeAddress → Link → Type 0
 Along img id slot o passed own holder k = Walking layout35 (fileLink layout35) (disk img) (claimedAfter id) slot o passed own (addressOf holder) k
 
--- the same at a link to `at`, on the disk or not
-pub record Claims (img : Bytes) (id slot : ℕ) (o : Result Claimed) (own : List ℕ) (holder at : CodeAddress) (passed : ℕ) : Type 0 where
-  pub walking : Along img id slot o passed own holder (linkTo layout35 (at .track) (at .sector))
+-- the same at a link of the bytes t and s, on the disk or not
+pub record Claims (img : Bytes) (id slot : ℕ) (o : Result Claimed) (own : List ℕ) (holder : CodeAddress) (t s passed : ℕ) : Type 0 where
+  pub walking : Along img id slot o passed own holder (linkAfter passed t s)
   pub long : length own ≡ 683
   pub few : passed + freeCount own ≤ 683
 
-pub claims-start : (img own : List ℕ) (id slot : ℕ) (from first : CodeAddress) → Ready img own id → Claims img id slot (chainClaim img own id slot from first) own from first 0
-unfolding chainWalk
-claims-start img own id slot from first ready =
+pub claims-start : (img own : List ℕ) (id slot : ℕ) (from : CodeAddress) (t s : ℕ) → Ready img own id → Claims img id slot (chainClaim img own id slot from t s) own from t s 0
+unfolding chainWalk linkAfter
+claims-start img own id slot from t s ready =
     let long : length own ≡ 683 = ready .long in
-    let k : Link = linkTo layout35 (first .track) (first .sector) in
+    let k : Link = linkTo layout35 t s in
     record {
       walking =
           rw (← claimed-first)
-          (walking-start layout35 (fileLink layout35) (disk img) (claimedAfter id) slot (fileLink-on layout35) 0 own (addressOf from) k (long ∙ sym sectors35) (linkTo-on layout35 (first .track) (first .sector)));
+          (walking-start layout35 (fileLink layout35) (disk img) (claimedAfter id) slot (fileLink-on layout35) 0 own (addressOf from) k (long ∙ sym sectors35) (linkTo-on layout35 t s));
       long = long;
       few = omega (arith, freeCount-le own);
     }
 
--- `at` is a sector of the disk, and its number is n
-pub record Named (at : CodeAddress) (n : ℕ) : Type 0 where
-  pub on : onDisk layout35 (addressOf at) ≡ true
-  pub number : n ≡ sectorNumber layout35 (addressOf at)
+-- t and s name a sector of the disk, and its number is n
+pub record Named (t s n : ℕ) : Type 0 where
+  pub on : onDisk layout35 (address t s) ≡ true
+  pub number : n ≡ sectorNumber layout35 (address t s)
   pub inside : n < 683
 
 -- by the layout's tables
-pub named : {counts firsts : List ℕ} {at : CodeAddress} {n : ℕ} → IsCounts counts → IsFirsts firsts → onDiskBy counts (addressOf at) ≡ true → n ≡ numberBy firsts (addressOf at) → Named at n
-named {counts} {firsts} {at} {n} cs fs e is =
-    let on : onDisk layout35 (addressOf at) ≡ true = sym (cs .agrees (addressOf at)) ∙ e in
-    let number : n ≡ sectorNumber layout35 (addressOf at) = is ∙ fs .agrees (addressOf at) on in
-    record { on = on; number = number; inside = omega (arith, sectorNumber-lt layout35 (addressOf at) on, sectors35) }
+pub named : {counts firsts : List ℕ} {t s n : ℕ} → IsCounts counts → IsFirsts firsts → onDiskBy counts (address t s) ≡ true → n ≡ numberBy firsts (address t s) → Named t s n
+named {counts} {firsts} {t} {s} {n} cs fs e is =
+    let on : onDisk layout35 (address t s) ≡ true = sym (cs .agrees (address t s)) ∙ e in
+    let number : n ≡ sectorNumber layout35 (address t s) = is ∙ fs .agrees (address t s) on in
+    record { on = on; number = number; inside = omega (arith, sectorNumber-lt layout35 (address t s) on, sectors35) }
 
--- `at` had no owner and is claimed now: the walk is at the two bytes of its link
-pub record Moved (img : Bytes) (id slot : ℕ) (o : Result Claimed) (own : List ℕ) (at : CodeAddress) (n passed : ℕ) : Type 0 where
+-- t and s had no owner and are claimed now: the walk is at the two bytes of the sector's link
+pub record Moved (img : Bytes) (id slot : ℕ) (o : Result Claimed) (own : List ℕ) (t s n passed : ℕ) : Type 0 where
   pub fewer : freeCount own ≡ suc (freeCount (set own n id))
-  pub walking : Along img id slot o (passed + 1) (set own n id) at (decodeFileLink layout35 (getD img (256 * n) 0) (getD img (256 * n + 1) 0))
-  pub long : length (set own n id) ≡ 683
-  pub few : passed + 1 + freeCount (set own n id) ≤ 683
+  pub next : Claims img id slot o (set own n id) (record { track = t; sector = s }) (getD img (256 * n) 0) (getD img (256 * n + 1) 0) (passed + 1)
 
-module _ {img : Bytes} {id slot : ℕ} {o : Result Claimed} {own : List ℕ} {holder at : CodeAddress} {passed : ℕ} (w : Claims img id slot o own holder at passed) where
-  -- a link off the disk
-  pub claims-off : {p : Place} → p ≡ record { track = holder .track; sector = holder .sector; slot = slot } → {counts : List ℕ} → IsCounts counts → onDiskBy counts (addressOf at) ≡ false
-      → claimOf (claim.Refused (BadLink p)) own ≡ o
+-- the place of a fault of the link that `holder` holds
+abbrev pub heldBy : CodeAddress → ℕ → Place
+heldBy holder slot = record { track = holder .track; sector = holder .sector; slot = slot }
+
+-- what a link off the disk says, by cases
+module _ (t s n : ℕ) (p : Place) where
+  pub off-first : n < 1 → claimOff t s n p ≡ claim.Refused (BadLink p)
+  unfolding claimOff
+  off-first h = go (eqb t 0) (ltb 0 s)
+    where
+      go : (a b : Bool) → cond (a && b && ltb 0 n) (claim.Ended n) (claim.Refused (BadLink p)) ≡ claim.Refused (BadLink p)
+      go true true = rw (le-ltb 0 n (omega arith))
+      go true false = refl
+      go false b = refl
+
+  pub off-track : 1 ≤ t → claimOff t s n p ≡ claim.Refused (BadLink p)
+  unfolding claimOff
+  off-track h = rw (ne-eqb t 0 (λ e. omega arith))
+
+  pub off-zero : s < 1 → claimOff t s n p ≡ claim.Refused (BadLink p)
+  unfolding claimOff
+  off-zero h = go (eqb t 0)
+    where
+      go : (a : Bool) → cond (a && ltb 0 s && ltb 0 n) (claim.Ended n) (claim.Refused (BadLink p)) ≡ claim.Refused (BadLink p)
+      go true = rw (le-ltb 0 s (omega arith))
+      go false = refl
+
+  pub off-end : t < 1 → 1 ≤ s → 1 ≤ n → claimOff t s n p ≡ claim.Ended n
+  unfolding claimOff
+  off-end h k m = rw (eq-eqb t 0 (omega arith), lt-ltb 0 s k, lt-ltb 0 n m)
+
+module _ {img : Bytes} {id slot : ℕ} {o : Result Claimed} {own : List ℕ} {holder : CodeAddress} where
+  bad-off : {t s passed : ℕ} → Claims img id slot o own holder t s passed → linkAfter passed t s ≡ bad → claimOf (claim.Refused (BadLink (heldBy holder slot))) own ≡ o
   unfolding claimOf faultOf claimedAfter
-  claims-off place cs e =
-      let off : linkTo layout35 (at .track) (at .sector) ≡ bad = linkTo-off layout35 (at .track) (at .sector) (sym (cs .agrees (addressOf at)) ∙ e) in
-      rw place (walking-bad layout35 (fileLink layout35) (disk img) (claimedAfter id) slot (rw off at (w .walking)))
+  bad-off w e = walking-bad layout35 (fileLink layout35) (disk img) (claimedAfter id) slot (rw e at (w .walking))
 
-  module _ {n : ℕ} (r : Named at n) where
-    here : Along img id slot o passed own holder (to (addressOf at))
-    here = rw (linkTo-at layout35 (at .track) (at .sector) (r .on)) at (w .walking)
+  -- a link off the disk ends the chain, or is bad
+  off : (t s passed : ℕ) → Claims img id slot o own holder t s passed → onDisk layout35 (address t s) ≡ false → claimOf (claimOff t s passed (heldBy holder slot)) own ≡ o
+  unfolding claimOf claimedAfter linkAfter
+  off t s zero w e = rw (off-first t s 0 (heldBy holder slot) (omega arith)) (bad-off w (linkTo-off layout35 t s e))
+  off (suc t) s (suc n) w e =
+      rw (off-track (suc t) s (suc n) (heldBy holder slot) (omega arith)) (bad-off w (file-to layout35 (suc t) s (omega arith) ∙ linkTo-off layout35 (suc t) s e))
+  off zero zero (suc n) w e = rw (off-zero 0 0 (suc n) (heldBy holder slot) (omega arith)) (bad-off w (file-bad layout35 0 0 (omega arith) (omega arith)))
+  off zero (suc s) (suc n) w e =
+      let z : suc n ≡ suc n + 0 = omega arith in
+      rw (off-end 0 (suc s) (suc n) (heldBy holder slot) (omega arith) (omega arith) (omega arith))
+      (ap (λ (k : ℕ). done (record { count = k; table = own })) z
+      ∙ walking-ends layout35 (fileLink layout35) (disk img) (claimedAfter id) slot (rw (file-ends layout35 0 (suc s) (omega arith) (omega arith)) at (w .walking)))
 
-    -- a sector that has an owner
-    pub claims-owned : {p : Place} → p ≡ record { track = holder .track; sector = holder .sector; slot = slot } → (getD own n 0 ≡ 0 → ⊥) → claimOf (claim.Refused (AlreadyOwned p)) own ≡ o
-    unfolding claimOf faultOf claimedAfter
-    claims-owned place h = rw place (walking-owned layout35 (fileLink layout35) (disk img) (claimedAfter id) slot here (rw (r .number) at h))
+  module _ {t s passed : ℕ} (w : Claims img id slot o own holder t s passed) where
+    pub claims-off : {p : Place} → p ≡ heldBy holder slot → {r : claims.Claim} → r ≡ claimOff t s passed p → {counts : List ℕ} → IsCounts counts → onDiskBy counts (address t s) ≡ false → claimOf r own ≡ o
+    claims-off place is cs e = rw (is, place) (off t s passed w (sym (cs .agrees (address t s)) ∙ e))
 
-    -- a sector that has none
-    pub claims-moved : getD own n 0 ≡ 0 → 1 ≤ id → Moved img id slot o own at n passed
-    claims-moved none owner =
-        let k : Link = decodeFileLink layout35 (getD img (256 * n) 0) (getD img (256 * n + 1) 0) in
-        let number : sectorNumber layout35 (addressOf at) ≡ n = sym (r .number) in
-        let found : fileLink layout35 (disk img n) ≡ k = link-at layout35 img n in
-        let free : getD own (sectorNumber layout35 (addressOf at)) 0 ≡ 0 = rw number none in
-        let fewer : freeCount own ≡ suc (freeCount (set own n id)) = rw number at (walking-fewer layout35 (fileLink layout35) (disk img) (claimedAfter id) slot id here free owner) in
-        let few : passed + freeCount own ≤ 683 = w .few in
-        record {
-          fewer = fewer;
-          walking =
-              rw number at (walking-moved layout35 (fileLink layout35) (disk img) (claimedAfter id) slot id (passed + 1) k here free owner
-              (rw number (sym found)) (rw (← found) (fileLink-on layout35 (disk img n))) (λ x. claimed-next id passed own (addressOf at) x));
-          long = length-set own n id ∙ w .long;
-          few = omega arith;
-        }
+    module _ {n : ℕ} (r : Named t s n) where
+      here : Along img id slot o passed own holder (to (address t s))
+      here = rw (after-on passed t s (r .on)) at (w .walking)
 
-module _ {img : Bytes} {id slot : ℕ} {o : Result Claimed} {own : List ℕ} {at : CodeAddress} {n passed : ℕ} (m : Moved img id slot o own at n passed) where
-  -- the address in the first two bytes of sector n
-  abbrev next : CodeAddress
-  next = record { track = getD img (256 * n) 0; sector = getD img (256 * n + 1) 0 }
+      -- a sector that has an owner
+      pub claims-owned : {p : Place} → p ≡ heldBy holder slot → (getD own n 0 ≡ 0 → ⊥) → claimOf (claim.Refused (AlreadyOwned p)) own ≡ o
+      unfolding claimOf faultOf claimedAfter
+      claims-owned place h = rw place (walking-owned layout35 (fileLink layout35) (disk img) (claimedAfter id) slot here (rw (r .number) at h))
 
-  -- track 0 with a second byte of 1 or more ends the chain
-  pub moved-ends : next .track < 1 → 1 ≤ next .sector → claimOf (claim.Ended (passed + 1)) (set own n id) ≡ o
-  unfolding claimOf claimedAfter
-  moved-ends t s =
-      let e : passed + 1 ≡ passed + 1 + 0 = omega arith in
-      ap (λ (k : ℕ). done (record { count = k; table = set own n id })) e
-      ∙ walking-ends layout35 (fileLink layout35) (disk img) (claimedAfter id) slot (rw (file-ends layout35 (next .track) (next .sector) t s) at (m .walking))
-
-  again : decodeFileLink layout35 (next .track) (next .sector) ≡ linkTo layout35 (next .track) (next .sector) → Claims img id slot o (set own n id) at next (passed + 1)
-  again e = record { walking = rw e at (m .walking); long = m .long; few = m .few }
-
-  -- any other link goes on
-  pub moved-on : 1 ≤ next .track → Claims img id slot o (set own n id) at next (passed + 1)
-  moved-on t = again (file-to layout35 (next .track) (next .sector) t)
-
-  pub moved-zero : next .track < 1 → next .sector < 1 → Claims img id slot o (set own n id) at next (passed + 1)
-  moved-zero t s = again (file-zero layout35 (next .track) (next .sector) t s)
+      -- a sector that has none
+      pub claims-moved : getD own n 0 ≡ 0 → 1 ≤ id → Moved img id slot o own t s n passed
+      claims-moved none owner =
+          let k : Link = decodeFileLink layout35 (getD img (256 * n) 0) (getD img (256 * n + 1) 0) in
+          let number : sectorNumber layout35 (address t s) ≡ n = sym (r .number) in
+          let found : fileLink layout35 (disk img n) ≡ k = link-at layout35 img n in
+          let free : getD own (sectorNumber layout35 (address t s)) 0 ≡ 0 = rw number none in
+          let fewer : freeCount own ≡ suc (freeCount (set own n id)) = rw number at (walking-fewer layout35 (fileLink layout35) (disk img) (claimedAfter id) slot id here free owner) in
+          let few : passed + freeCount own ≤ 683 = w .few in
+          record {
+            fewer = fewer;
+            next = record {
+              walking =
+                  rw (after-more passed (getD img (256 * n) 0) (getD img (256 * n + 1) 0))
+                  (rw number at (walking-moved layout35 (fileLink layout35) (disk img) (claimedAfter id) slot id (passed + 1) k here free owner
+                  (rw number (sym found)) (rw (← found) (fileLink-on layout35 (disk img n))) (λ x. claimed-next id passed own (address t s) x)));
+              long = length-set own n id ∙ w .long;
+              few = omega arith;
+            };
+          }

@@ -2,15 +2,18 @@
 -- In order: what a claim answers; the definition's walk with the table after it; what the loop may rely on. Laws: proofs/ChainLaws.
 use Prim.Native.Nat.{ℕ, _≤_}
 use mathlib.Core.Path.{_≡_}
-use mathlib.Core.Bool.{true}
+use mathlib.Core.Bool.{true, cond, _&&_}
 use mathlib.Core.List.{List, map}
 use lib.ListN.{length}
+use lib.Dec.{eqb, ltb}
 use Rattle.d64spec.specs.Lists.{Bytes}
 use Rattle.d64spec.specs.Answers.{Address, Result, refused, done}
 use Rattle.d64spec.specs.Geometry.{layout35, sectorNumber, onDisk}
 use Rattle.d64spec.specs.Image.{disk}
 use Rattle.d64spec.specs.Chain.{linkTo, fileLink, steps, walk}
 use Rattle.geometry.specs.Layout.{onDiskBy, numberBy}
+use Rattle.answers.specs.declared.Place.{Place}
+use Rattle.answers.specs.declared.Fault.the-variants.{BadLink}
 use Rattle.answers.specs.Faults.{faultOf}
 use Rattle.owners.specs.OwnerTable.{owned, withOwner}
 use Rattle.diskcheck.specs.declared.chain.Claim.{Claim}
@@ -25,6 +28,11 @@ pub record Claimed : Type 0 where
 unfoldable pub claimOf : Claim → List ℕ → Result Claimed
 claimOf (claim.Ended n) own = done (record { count = n; table = own })
 claimOf (claim.Refused f) own = refused (faultOf f)
+
+-- what a link off the disk, of the bytes t and s, says after n sectors of a chain: its end, where a sector holds it and it is 00 and then 01 to FF;
+-- else it is bad (01, Chains)
+unfoldable pub claimOff : ℕ → ℕ → ℕ → Place → Claim
+claimOff t s n p = cond (eqb t 0 && ltb 0 s && ltb 0 n) (claim.Ended n) (claim.Refused (BadLink p))
 
 -- the sectors of a walk claimed for the owner `id`
 unfoldable pub claimed : ℕ → List ℕ → Result (List Address) → Result Claimed

@@ -1,7 +1,7 @@
 // A file's chain, claimed sector by sector in the owner table (01, Chains; Order of the check, 3).
 ghost use mathlib.Core.Path.{_≡_};
 ghost use Rattle.geometry.specs.Layout.{addressOf};
-ghost use Rattle.diskcheck.specs.Chains.{claimOf, claimed, chainWalk, Ready, IsCounts, IsFirsts};
+ghost use Rattle.diskcheck.specs.Chains.{claimOf, claimed, chainWalk, claimOff, Ready, IsCounts, IsFirsts};
 use answers::Fault;
 use answers::Place;
 use geometry::Address;
@@ -23,8 +23,25 @@ fn place_of(holder: Address, slot: u8) -> Place
     }
 }
 
+// What a link off the disk says after `count` sectors of a chain: its end, where one of them holds it and it is 00 and then not 00.
+fn claim_off(link: Address, count: usize, place: Place) -> Claim
+    ensures { λ r. ⌜ r ≡ claimOff (link .track) (link .sector) count place ⌝ }
+{
+    if count == 0 {
+        return Claim::Refused(Fault::BadLink(place));
+    }
+    if link.track != 0 {
+        return Claim::Refused(Fault::BadLink(place));
+    }
+    if link.sector == 0 {
+        return Claim::Refused(Fault::BadLink(place));
+    }
+    Claim::Ended(count)
+}
+
 // Claims the chain that starts at `first`, a link that the sector `from` holds: each of its sectors gets the owner `id`.
-// The layout's tables are lent, so that they stand ready for all sectors of all chains.
+// The layout's tables are lent, so that they stand ready for all sectors of all chains. The loop's state is the link's two bytes,
+// and the end of a chain is found among the links that are off the disk: each sector is then asked two things only.
 pub(crate) fn claim_chain(
     img: &[u8],
     own: &mut [u8; 683],
@@ -39,28 +56,21 @@ pub(crate) fn claim_chain(
     ensures { λ r. ⌜ claimOf r (now (own .exit)) ≡ claimed id (now (own .entry)) (chainWalk (now (img .entry)) (now (own .entry)) (addressOf from) slot (first .track) (first .sector)) ⌝ }
 {
     let mut holder = from;
-    let mut at = first;
+    let mut track = first.track;
+    let mut sector = first.sector;
     let mut count: usize = 0;
     loop {
-        if !geometry::on_disk_by(counts, at) {
-            return Claim::Refused(Fault::BadLink(place_of(holder, slot)));
+        if !geometry::on_disk_by(counts, Address { track, sector }) {
+            return claim_off(Address { track, sector }, count, place_of(holder, slot));
         }
-        let n = geometry::number_by(firsts, at);
+        let n = geometry::number_by(firsts, Address { track, sector });
         if own[n] != 0 {
             return Claim::Refused(Fault::AlreadyOwned(place_of(holder, slot)));
         }
         own[n] = id;
         count += 1;
-        holder = at;
-        at = Address {
-            track: img[256 * n],
-            sector: img[256 * n + 1],
-        };
-        // 00 00 goes on as a link, and is off the disk
-        if at.track == 0 {
-            if at.sector != 0 {
-                return Claim::Ended(count);
-            }
-        }
+        holder = Address { track, sector };
+        track = img[256 * n];
+        sector = img[256 * n + 1];
     }
 }

@@ -5,18 +5,18 @@ use mathlib.Core.Path.{sym, _∙_}
 use borrow.Author.Needs.{needs}
 use borrow.Author.Tests.{not-true, not-false}
 use Rattle.owners.proofs.TableLaws.{freeCount}
-use Rattle.diskcheck.proofs.ChainLaws.{Claims, chainClaim, Named, named, Moved, claims-start, claims-off, claims-owned, claims-moved, moved-ends, moved-on, moved-zero}
+use Rattle.diskcheck.proofs.ChainLaws.{Claims, chainClaim, Named, named, Moved, claims-start, claims-off, claims-owned, claims-moved}
 use Rattle.diskcheck.proofs.chain.claim_chain.Statement.{statement}
 use Rattle.diskcheck.proofs.chain.claim_chain.Tie as tie
 
 abbrev Inv-loop : tie.InvT-loop
-Inv-loop img own₀ id slot counts firsts holder₀ at₀ count₀ own holder at count = Claims img id slot (chainClaim img own₀ id slot holder₀ at₀) own holder at count
+Inv-loop img own₀ id slot counts firsts holder₀ track₀ sector₀ count₀ own holder track sector count = Claims img id slot (chainClaim img own₀ id slot holder₀ track₀ sector₀) own holder track sector count
 
 abbrev μ-loop : tie.MeasureT-loop
-μ-loop img own₀ id slot counts firsts holder₀ at₀ count₀ own holder at count = freeCount own
+μ-loop img own₀ id slot counts firsts holder₀ track₀ sector₀ count₀ own holder track sector count = freeCount own
 
 loop-holds : tie.Need-loop-holds Inv-loop μ-loop
-loop-holds c = claims-start _ _ _ _ _ _ (c .before .pre .0)
+loop-holds c = claims-start _ _ _ _ _ _ _ (c .before .pre .0)
 
 on-disk-by-requires : tie.Need-on-disk-by-requires Inv-loop μ-loop
 on-disk-by-requires c κs = search needs
@@ -24,16 +24,20 @@ on-disk-by-requires c κs = search needs
 place-of-requires : tie.Need-place-of-requires Inv-loop μ-loop
 place-of-requires c κs = search needs
 
+claim-off-requires : tie.Need-claim-off-requires Inv-loop μ-loop
+claim-off-requires c κs = search needs
+
 returns : tie.Need-returns Inv-loop μ-loop
 returns c =
-    let o = c .before .before in
-    claims-off (o .before .loop .inv) (c .place-of .ensures) (o .before .before .before .pre .1) (sym (o .on-disk-by .ensures) ∙ not-true _ (c .before .if1 .taken))
+    let p = c .before in
+    let o = p .before .before in
+    claims-off (o .before .loop .inv) (p .place-of .ensures) (c .claim-off .ensures) (o .before .before .before .pre .1) (sym (o .on-disk-by .ensures) ∙ not-true _ (p .before .if1 .taken))
 
 number-by-requires : tie.Need-number-by-requires Inv-loop μ-loop
 number-by-requires c κs = search needs
 
 -- the link names a sector of the disk
-on-disk : (c : tie.After-number-by Inv-loop μ-loop) → Named (c .before .before .before .loop .at) (c .number-by .result)
+on-disk : (c : tie.After-number-by Inv-loop μ-loop) → let l = c .before .before .before .loop in Named (l .track) (l .sector) (c .number-by .result)
 on-disk c =
     let o = c .before .before in
     let s = o .before .before .before in
@@ -54,46 +58,37 @@ element-write-own c = let r = on-disk (c .before .before) in omega arith
 add-count : tie.Need-add-count Inv-loop μ-loop
 add-count c = search needs
 
-mul-t24 : tie.Need-mul-t24 Inv-loop μ-loop
-mul-t24 c = let r = on-disk (c .before .before) in omega arith
+mul-track : tie.Need-mul-track Inv-loop μ-loop
+mul-track c = let r = on-disk (c .before .before) in omega arith
 
-shared-slice-read-t19 : tie.Need-shared-slice-read-t19 Inv-loop μ-loop
-shared-slice-read-t19 c = let r = on-disk (c .before .before .before) in omega arith
+shared-slice-read-track : tie.Need-shared-slice-read-track Inv-loop μ-loop
+shared-slice-read-track c = let r = on-disk (c .before .before .before) in omega arith
 
-mul-t26 : tie.Need-mul-t26 Inv-loop μ-loop
-mul-t26 c = let r = on-disk (c .before .before .before) in omega arith
+mul-sector : tie.Need-mul-sector Inv-loop μ-loop
+mul-sector c = let r = on-disk (c .before .before .before) in omega arith
 
-add-t27 : tie.Need-add-t27 Inv-loop μ-loop
-add-t27 c = let r = on-disk (c .before .before .before) in omega arith
+add-sector : tie.Need-add-sector Inv-loop μ-loop
+add-sector c = let r = on-disk (c .before .before .before) in omega arith
 
-shared-slice-read-t29 : tie.Need-shared-slice-read-t29 Inv-loop μ-loop
-shared-slice-read-t29 c = let r = on-disk (c .before .before .before .before) in omega arith
+shared-slice-read-sector : tie.Need-shared-slice-read-sector Inv-loop μ-loop
+shared-slice-read-sector c = let r = on-disk (c .before .before .before .before) in omega arith
 
 -- the sector had no owner
 moved : (c : tie.Else2 Inv-loop μ-loop)
     → let n = c .before .before in
     let l = n .before .before .before in
     let a = l .before .before .args in
-    Moved (a .img .now) (a .id) (a .slot) (chainClaim (a .img .now) (a .own .now) (a .id) (a .slot) (a .from) (a .first)) (l .loop .own) (l .loop .at) (n .number-by .result) (l .loop .count)
+    Moved (a .img .now) (a .id) (a .slot) (chainClaim (a .img .now) (a .own .now) (a .id) (a .slot) (a .from) (a .first .track) (a .first .sector)) (l .loop .own) (l .loop .track) (l .loop .sector) (n .number-by .result) (l .loop .count)
 moved c =
     let n = c .before .before in
     let l = n .before .before .before in
     claims-moved (l .loop .inv) (on-disk n) (c .if2 .left) (l .before .before .pre .0 .owner)
 
-returns-3 : tie.Need-returns-3 Inv-loop μ-loop
-returns-3 c = moved-ends (moved (c .before .before .before .before .before .before)) (omega arith) (omega arith)
-
 loop-less : tie.Need-loop-less Inv-loop μ-loop
-loop-less c = let m = moved (c .before .before .before .before .before .before) in omega (arith, m .fewer)
+loop-less c = let m = moved (c .before .before) in omega (arith, m .fewer)
 
 loop-again : tie.Need-loop-again Inv-loop μ-loop
-loop-again c = moved-zero (moved (c .before .before .before .before .before .before)) (omega arith) (omega arith)
-
-loop-less-2 : tie.Need-loop-less-2 Inv-loop μ-loop
-loop-less-2 c = let m = moved (c .before .before .before .before) in omega (arith, m .fewer)
-
-loop-again-2 : tie.Need-loop-again-2 Inv-loop μ-loop
-loop-again-2 c = moved-on (moved (c .before .before .before .before)) (omega arith)
+loop-again c = moved (c .before .before) .next
 
 pub claim-chain-spec : {M : Type 1} → statement M
 claim-chain-spec =
@@ -104,6 +99,7 @@ claim-chain-spec =
     loop-holds
     on-disk-by-requires
     place-of-requires
+    claim-off-requires
     returns
     number-by-requires
     element-copy-out-if2
@@ -111,13 +107,10 @@ claim-chain-spec =
     returns-2
     element-write-own
     add-count
-    mul-t24
-    shared-slice-read-t19
-    mul-t26
-    add-t27
-    shared-slice-read-t29
-    returns-3
+    mul-track
+    shared-slice-read-track
+    mul-sector
+    add-sector
+    shared-slice-read-sector
     loop-less
-    loop-again
-    loop-less-2
-    loop-again-2)
+    loop-again)
