@@ -1,5 +1,5 @@
 -- One occupied slot: its entry, then its chain and its count (01, Order of the check, 3).
--- In order: the chain and the count, as the code has them; the slot. All slots: proofs/SlotsLaws.
+-- In order: the chain and the count, as the code has them; the entry before them; the slot. All slots: proofs/SlotsLaws.
 use Prim.Native.Nat.{ℕ, _/_}
 use mathlib.Core.Path.{_≡_, refl, sym, ap, ap₂, _∙_}
 use mathlib.Core.Bool.{Bool, true, false}
@@ -24,7 +24,7 @@ use Rattle.directory.proofs.EntryLaws.{number-at, holder-at, entry-verdict}
 use Rattle.diskcheck.specs.Chains.{Claimed, claimed, claimOf, chainWalk}
 use Rattle.diskcheck.specs.declared.chain.Claim.{Claim}
 use Rattle.diskcheck.specs.declared.chain.Claim.the-variants as claim
-use Rattle.diskcheck.specs.SlotChecks.{imageSlot, imageNames, tableWith, checkChain, fileStep, slotStep, SlotReady}
+use Rattle.diskcheck.specs.SlotChecks.{imageSlot, imageNames, tableWith, checkChain, fileStep, occupiedStep, slotStep, SlotReady}
 
 -- ---- the chain, then the count
 
@@ -69,6 +69,20 @@ module _ (img own own′ b : List ℕ) (at : Place) where
     unfolding claimOf whereFine counted faultOf
     file-miscounted other = sym (rw (ne-eqb (countOf b) n other)) ∙ file-counted (claim.Ended n) ended
 
+-- ---- the entry, then the file
+
+module _ (img own own′ b : List ℕ) (holder : Address) (number : ℕ) (repeated : Bool) where
+  -- a refused entry
+  pub occupied-refused : (f : code.Fault) → verdictOf (Refused f) ≡ entryVerdict b holder number repeated → whereFine (Refused f) own′ ≡ occupiedStep img own b holder number repeated
+  unfolding verdictOf whereFine occupiedStep
+  occupied-refused f e = ap (λ (v : Result (Unit {0})). v >> fileStep img own b holder number) e
+
+  -- an entry that passes, and what its chain and its count give
+  pub occupied-file : (v : Verdict) → verdictOf Fine ≡ entryVerdict b holder number repeated
+      → whereFine v own′ ≡ fileStep img own b holder number → whereFine v own′ ≡ occupiedStep img own b holder number repeated
+  unfolding verdictOf occupiedStep
+  occupied-file v e h = h ∙ ap (λ (v : Result (Unit {0})). v >> fileStep img own b holder number) e
+
 -- ---- the slot
 
 -- the directory sector that holds slot k
@@ -86,26 +100,13 @@ module _ (img own ss b : List ℕ) (k repeated : ℕ) (ready : SlotReady img own
   unfolding slotStep whereFine
   slot-empty h = let e : isEmpty (imageSlot img ss k .bytes) ≡ true = eq-eqb _ _ (ap (λ (x : Bytes). getD x 0 0) (sym is) ∙ h) in sym (rw e)
 
-  module _ (occupied : getD b 0 0 ≡ 0 → ⊥) where
-    -- an occupied slot is its entry, then its chain and its count
-    slot-parts : slotStep img own ss k ≡ (entryVerdict b (holderOf ss k) k (eqb k repeated) >> fileStep img own b (holderOf ss k) k)
-    unfolding slotStep checkSlot checkChain chainWalk firstLink fileStep
-    slot-parts =
-        let s : Slot = imageSlot img ss k in
-        let e : isEmpty (s .bytes) ≡ false = ne-eqb _ _ (λ z. occupied (ap (λ (x : Bytes). getD x 0 0) is ∙ z)) in
-        rw e (tableWith-then (fileOwner k) own (checkEntry (imageNames img ss k) s) (checkChain img own (s .bytes) (s .holder) (s .number))
-        ∙ ap (λ (v : Result (Unit {0})). v >> tableWith (fileOwner k) own (checkChain img own (s .bytes) (s .holder) (s .number))) (entry-verdict (imageNames img ss k) s (eqb k repeated) (ready .name e))
-        ∙ ap (λ (n : ℕ). entryVerdict (s .bytes) (s .holder) n (eqb k repeated) >> tableWith (fileOwner k) own (checkChain img own (s .bytes) (s .holder) n)) (number-at _ ss k)
-        ∙ ap₂ (λ (x : Bytes) (r : Address). entryVerdict x r k (eqb k repeated) >> fileStep img own x r k) (sym is) (holder-at _ ss k))
-
-    module _ (own′ : List ℕ) where
-      -- a refused entry
-      pub slot-refused : (f : code.Fault) → verdictOf (Refused f) ≡ entryVerdict b (holderOf ss k) k (eqb k repeated) → whereFine (Refused f) own′ ≡ slotStep img own ss k
-      unfolding verdictOf whereFine
-      slot-refused f e = ap (λ (v : Result (Unit {0})). v >> fileStep img own b (holderOf ss k) k) e ∙ sym slot-parts
-
-      -- an entry that passes, and what its chain and its count give
-      pub slot-file : (v : Verdict) → verdictOf Fine ≡ entryVerdict b (holderOf ss k) k (eqb k repeated)
-          → whereFine v own′ ≡ fileStep img own b (holderOf ss k) k → whereFine v own′ ≡ slotStep img own ss k
-      unfolding verdictOf
-      slot-file v e h = h ∙ ap (λ (v : Result (Unit {0})). v >> fileStep img own b (holderOf ss k) k) e ∙ sym slot-parts
+  -- an occupied slot is its entry, then its chain and its count
+  pub slot-occupied : (getD b 0 0 ≡ 0 → ⊥) → occupiedStep img own b (holderOf ss k) k (eqb k repeated) ≡ slotStep img own ss k
+  unfolding occupiedStep slotStep checkSlot checkChain chainWalk firstLink fileStep
+  slot-occupied occupied =
+      let s : Slot = imageSlot img ss k in
+      let e : isEmpty (s .bytes) ≡ false = ne-eqb _ _ (λ z. occupied (ap (λ (x : Bytes). getD x 0 0) is ∙ z)) in
+      sym (rw e (tableWith-then (fileOwner k) own (checkEntry (imageNames img ss k) s) (checkChain img own (s .bytes) (s .holder) (s .number))
+      ∙ ap (λ (v : Result (Unit {0})). v >> tableWith (fileOwner k) own (checkChain img own (s .bytes) (s .holder) (s .number))) (entry-verdict (imageNames img ss k) s (eqb k repeated) (ready .name e))
+      ∙ ap (λ (n : ℕ). entryVerdict (s .bytes) (s .holder) n (eqb k repeated) >> tableWith (fileOwner k) own (checkChain img own (s .bytes) (s .holder) n)) (number-at _ ss k)
+      ∙ ap₂ (λ (x : Bytes) (r : Address). entryVerdict x r k (eqb k repeated) >> fileStep img own x r k) (sym is) (holder-at _ ss k)))

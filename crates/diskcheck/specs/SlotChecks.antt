@@ -1,8 +1,8 @@
 -- Step 3 of the check by slot numbers, with the owner table (01, Order of the check, 3).
--- In order: slots by number; a file's chain and count; one slot; all slots; what the steps rely on. Laws: proofs/SlotLaws, SlotsLaws.
+-- In order: slots by number; a file's chain and count; an occupied slot; any slot; all slots; what the steps rely on. Laws: proofs/SlotLaws, SlotsLaws.
 use Prim.Native.Nat.{ℕ, _*_, _≤_, _<_}
 use mathlib.Core.Path.{_≡_}
-use mathlib.Core.Bool.{true, false, cond, not}
+use mathlib.Core.Bool.{Bool, true, false, cond, not}
 use mathlib.Core.List.{List, map}
 use lib.ListN.{length}
 use lib.Dec.{eqb}
@@ -14,7 +14,7 @@ use Rattle.d64spec.specs.Directory.{Slot, File, isEmpty, entryByte, nameOf, val
 use Rattle.d64spec.specs.Check.{checkSlot, checkSlots}
 use Rattle.d64spec.specs.Listing.{bytesOfTrack18}
 use Rattle.owners.specs.OwnerTable.{owned, withOwner, withFiles, fileOwner}
-use Rattle.directory.specs.Directories.{slotAt, namesBelow, firstRepeated}
+use Rattle.directory.specs.Directories.{slotAt, namesBelow, firstRepeated, entryVerdict}
 use Rattle.diskcheck.specs.Chains.{chainWalk}
 
 -- slot k of the directory whose sectors on track 18 of the image are ss
@@ -44,6 +44,10 @@ checkChain img own b holder number = do
 -- the same, and the table after it
 unfoldable pub fileStep : Bytes → List ℕ → Bytes → Address → ℕ → Result (List ℕ)
 fileStep img own b holder number = tableWith (fileOwner number) own (checkChain img own b holder number)
+
+-- an occupied slot with bytes b: its entry, then its chain and its count, and the table after it
+unfoldable pub occupiedStep : Bytes → List ℕ → Bytes → Address → ℕ → Bool → Result (List ℕ)
+occupiedStep img own b holder number repeated = entryVerdict b holder number repeated >> fileStep img own b holder number
 
 -- slot k and the table after it
 unfoldable pub slotStep : Bytes → List ℕ → List ℕ → ℕ → Result (List ℕ)

@@ -4,12 +4,15 @@ mod chain;
 mod slots;
 
 ghost use mathlib.Core.Path.{_≡_};
+ghost use lib.ListN.{length, take, drop};
 ghost use Rattle.d64spec.specs.Lists.{zeros};
 ghost use Rattle.answers.specs.Faults.{whereFine};
+ghost use Rattle.directory.specs.Directories.{DirectoryRead};
 ghost use Rattle.diskcheck.specs.SlotChecks.{SlotsReady};
 ghost use Rattle.diskcheck.specs.ImageChecks.{ImageChecked, restStep};
 use answers::Fault;
 use answers::Verdict;
+use directory::Directory;
 
 // The verdict; the directory's sectors on track 18 in link order, with zeros after them; and who owns each sector: 0 nobody, 1 the map,
 // 2 the directory, 3 and its slot's number a file. Where the verdict is a refusal there is no sector and no owner.
@@ -50,14 +53,11 @@ fn check_rest(
     }
 }
 
-// Checks an image: the size, the directory, the slots, the map. The first fault met is the verdict.
-pub fn check_image(img: &[u8]) -> Checked
+// The slots and the map after the directory of track 18, as it was read.
+fn check_read(img: &[u8], directory: Directory) -> Checked
+    requires { ⌜ (length (now img) ≡ 174848) × DirectoryRead (take 4864 (drop 91392 (now img))) directory ⌝ }
     ensures { λ r. ⌜ ImageChecked (now (img .entry)) r ⌝ }
 {
-    if img.len() != 174848 {
-        return refuse(Fault::WrongSize);
-    }
-    let directory = directory::read_directory(&img[91392..96256]);
     let verdict = directory.verdict;
     match verdict {
         Verdict::Refused(fault) => refuse(fault),
@@ -77,4 +77,15 @@ pub fn check_image(img: &[u8]) -> Checked
             }
         }
     }
+}
+
+// Checks an image: the size, the directory, the slots, the map. The first fault met is the verdict.
+pub fn check_image(img: &[u8]) -> Checked
+    ensures { λ r. ⌜ ImageChecked (now (img .entry)) r ⌝ }
+{
+    if img.len() != 174848 {
+        return refuse(Fault::WrongSize);
+    }
+    let directory = directory::read_directory(&img[91392..96256]);
+    check_read(img, directory)
 }

@@ -3,7 +3,7 @@ ghost use mathlib.Core.Path.{_≡_};
 ghost use Prim.Native.Nat.{_*_};
 ghost use Rattle.answers.specs.Faults.{sectorOf, whereFine};
 ghost use Rattle.diskcheck.specs.Chains.{IsCounts, IsFirsts};
-ghost use Rattle.diskcheck.specs.SlotChecks.{FileReady, fileStep, SlotReady, slotStep, SlotsReady, slotsStep};
+ghost use Rattle.diskcheck.specs.SlotChecks.{FileReady, fileStep, occupiedStep, SlotReady, slotStep, SlotsReady, slotsStep};
 use crate::chain::Claim;
 use answers::Fault;
 use answers::Place;
@@ -52,6 +52,26 @@ fn check_file(
     }
 }
 
+// An occupied slot: its entry, then its chain and its count.
+fn check_occupied(
+    img: &[u8],
+    own: &mut [u8; 683],
+    slot: &[u8],
+    at: Place,
+    repeated: bool,
+    counts: &[u8; 35],
+    firsts: &[u16; 35],
+) -> Verdict
+    requires { ⌜ FileReady (now img) (now own) (now slot) (at .slot) × IsCounts (now counts) × IsFirsts (now firsts) ⌝ }
+    ensures { λ r. ⌜ whereFine r (now (own .exit)) ≡ occupiedStep (now (img .entry)) (now (own .entry)) (now (slot .entry)) (sectorOf at) (at .slot) repeated ⌝ }
+{
+    let entry = directory::check_entry(slot, at, repeated);
+    match entry {
+        Verdict::Refused(fault) => Verdict::Refused(fault),
+        Verdict::Fine => check_file(img, own, slot, at, counts, firsts),
+    }
+}
+
 // Slot k: nothing where it is empty; else its entry, its chain and its count.
 fn check_slot(
     img: &[u8],
@@ -75,11 +95,7 @@ fn check_slot(
         sector: sectors[i],
         slot: k as u8,
     };
-    let entry = directory::check_entry(slot, at, k == repeated);
-    match entry {
-        Verdict::Refused(fault) => Verdict::Refused(fault),
-        Verdict::Fine => check_file(img, own, slot, at, counts, firsts),
-    }
+    check_occupied(img, own, slot, at, k == repeated, counts, firsts)
 }
 
 // All slots of a directory of `count` sectors, with the layout's tables lent.

@@ -1,9 +1,9 @@
--- `diskcheck::slots::check_slot` meets its contract: the slot is read from track 18 as it is lent (`lent`); an empty one passes, else its entry decides
--- first, then its chain and its count.
+-- `diskcheck::slots::check_slot` meets its contract: the slot is read from track 18 as it is lent (`lent`); an empty one passes, else `check_occupied` decides.
 use native.Mathlib.Omega.{arith}
+use mathlib.Core.Path.{_∙_}
 use borrow.Author.Needs.{needs}
 use Rattle.diskcheck.proofs.TrackLaws.{LentSlot, slot-lent}
-use Rattle.diskcheck.proofs.SlotLaws.{slot-empty, slot-refused, slot-file}
+use Rattle.diskcheck.proofs.SlotLaws.{slot-empty, slot-occupied}
 use Rattle.diskcheck.proofs.slots.check_slot.Statement.{statement}
 use Rattle.diskcheck.proofs.slots.check_slot.Tie as tie
 
@@ -33,42 +33,23 @@ returns c =
     let s = c .before .before in
     slot-empty _ _ _ _ _ _ (s .before .before .before .pre .0) (lent s .is) (omega arith)
 
-element-copy-out-t18 : tie.Need-element-copy-out-t18
-element-copy-out-t18 c = search needs
+element-copy-out-t16 : tie.Need-element-copy-out-t16
+element-copy-out-t16 c = search needs
 
-cast-t22 : tie.Need-cast-t22
-cast-t22 c = search needs
+cast-t20 : tie.Need-cast-t20
+cast-t20 c = search needs
 
-check-entry-requires : tie.Need-check-entry-requires
-check-entry-requires c κs = search needs
-
-enum-known-entry : tie.Need-enum-known-entry
-enum-known-entry c = search needs
-
-enum-told : tie.Need-enum-told
-enum-told c = search needs
-
-check-file-requires : tie.Need-check-file-requires
-check-file-requires c κs =
-    let s = c .before .before .before .before .before .before .before in
+check-occupied-requires : tie.Need-check-occupied-requires
+check-occupied-requires c κs =
+    let s = c .before .before .before .before in
     let p = s .before .before .before .pre in
     (record { size = p .0 .size; long = p .0 .long; full = lent s .full; slot = p .0 .within }, p .1, p .2)
 
 returns-2 : tie.Need-returns-2
 returns-2 c =
-    let e = c .before .before .before in
-    let i = e .before .before in
+    let i = c .before .before .before in
     let s = i .before .before in
-    slot-refused _ _ _ _ _ _ (s .before .before .before .pre .0) (lent s .is) (λ empty. i .if1 .left (omega arith)) _ _ (rw (c .before .entry .given .1) at (e .check-entry .ensures))
-
-returns-3 : tie.Need-returns-3
-returns-3 c =
-    let t = c .before .before in
-    let e = t .before .before in
-    let i = e .before .before in
-    let s = i .before .before in
-    slot-file _ _ _ _ _ _ (s .before .before .before .pre .0) (lent s .is) (λ empty. i .if1 .left (omega arith)) _ _ (rw (t .enum-told .given .1) at (e .check-entry .ensures))
-    (c .check-file .ensures)
+    c .check-occupied .ensures ∙ slot-occupied _ _ _ _ _ _ (s .before .before .before .pre .0) (lent s .is) (λ empty. i .if1 .left (omega arith))
 
 pub check-slot-spec : {M : Type 1} → statement M
 check-slot-spec =
@@ -80,11 +61,7 @@ check-slot-spec =
     slot-at-requires
     shared-slice-read-if1
     returns
-    element-copy-out-t18
-    cast-t22
-    check-entry-requires
-    enum-known-entry
-    enum-told
-    check-file-requires
-    returns-2
-    returns-3)
+    element-copy-out-t16
+    cast-t20
+    check-occupied-requires
+    returns-2)
