@@ -18,7 +18,7 @@ use Rattle.directory.specs.Directories.{sectorsOf, slotBytes, IsSlot}
 use Rattle.directory.proofs.SearchLaws.{sector-lt}
 use Rattle.directory.proofs.SlotListLaws.{disk-of-track18, occupied-by-number}
 use Rattle.directory.proofs.Track18Laws.{number-18}
-use Rattle.diskcheck.specs.SlotChecks.{imageSlot, occupiedFrom}
+use Rattle.diskcheck.specs.SlotChecks.{imageSlot, occupiedFrom, LentSlot}
 
 -- ---- parts of the image
 
@@ -32,11 +32,7 @@ map-lent img = refl
 
 -- ---- a slot
 
--- a slot read from track 18 as it is lent
-pub record LentSlot (img ss : List ℕ) (k : ℕ) (b : Bytes) : Type 0 where
-  pub is : b ≡ imageSlot img ss k .bytes
-  pub full : length b ≡ 30
-
+-- read from track 18 as it is lent
 pub slot-lent : {img ss : List ℕ} {k : ℕ} {b : Bytes} → length img ≡ 174848 → All (λ s. s < 19) ss → IsSlot (take 4864 (drop 91392 img)) ss k b → LentSlot img ss k b
 slot-lent {img} {ss} {k} {b} size inside s =
     record {

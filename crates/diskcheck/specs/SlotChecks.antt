@@ -21,6 +21,11 @@ use Rattle.diskcheck.specs.Chains.{chainWalk}
 abbrev pub imageSlot : Bytes → List ℕ → ℕ → Slot
 imageSlot img ss k = slotAt (bytesOfTrack18 layout35 img) ss k
 
+-- b are that slot's bytes 02 to 1F
+pub record LentSlot (img ss : List ℕ) (k : ℕ) (b : Bytes) : Type 0 where
+  pub is : b ≡ imageSlot img ss k .bytes
+  pub full : length b ≡ 30
+
 -- the names of the occupied slots below k, the last first
 abbrev pub imageNames : Bytes → List ℕ → ℕ → List Bytes
 imageNames img ss k = namesBelow (bytesOfTrack18 layout35 img) ss k

@@ -1,9 +1,11 @@
 // Step 3 of the check: the occupied slots in directory order (01, Order of the check, 3).
 ghost use mathlib.Core.Path.{_≡_};
-ghost use Prim.Native.Nat.{_*_};
+ghost use Prim.Native.Nat.{_*_, _<_};
+ghost use lib.ListN.{length};
+ghost use Rattle.d64spec.specs.Lists.{All};
 ghost use Rattle.answers.specs.Faults.{sectorOf, whereFine};
 ghost use Rattle.diskcheck.specs.Chains.{IsCounts, IsFirsts};
-ghost use Rattle.diskcheck.specs.SlotChecks.{FileReady, fileStep, occupiedStep, SlotReady, slotStep, SlotsReady, slotsStep};
+ghost use Rattle.diskcheck.specs.SlotChecks.{FileReady, fileStep, occupiedStep, LentSlot, SlotReady, slotStep, SlotsReady, slotsStep};
 use crate::chain::Claim;
 use answers::Fault;
 use answers::Place;
@@ -72,6 +74,14 @@ fn check_occupied(
     }
 }
 
+// Bytes 02 to 1F of slot k of an image.
+fn slot_of<'a>(img: &'a [u8], sectors: &[u8; 18], k: usize) -> &'a [u8]
+    requires { ⌜ (length (now img) ≡ 174848) × All (λ s. s < 19) (now sectors) ⌝ }
+    ensures { λ r. ⌜ LentSlot (now (img .entry)) (now (sectors .entry)) k (now r) ⌝ }
+{
+    directory::slot_at(&img[91392..96256], sectors, k)
+}
+
 // Slot k: nothing where it is empty; else its entry, its chain and its count.
 fn check_slot(
     img: &[u8],
@@ -85,7 +95,7 @@ fn check_slot(
     requires { ⌜ SlotReady (now img) (now own) (now sectors) k repeated × IsCounts (now counts) × IsFirsts (now firsts) ⌝ }
     ensures { λ r. ⌜ whereFine r (now (own .exit)) ≡ slotStep (now (img .entry)) (now (own .entry)) (now (sectors .entry)) k ⌝ }
 {
-    let slot = directory::slot_at(&img[91392..96256], sectors, k);
+    let slot = slot_of(img, sectors, k);
     if slot[0] == 0 {
         return Verdict::Fine;
     }

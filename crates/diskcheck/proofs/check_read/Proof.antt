@@ -17,8 +17,9 @@ enum-told c = search needs
 check-rest-requires : tie.Need-check-rest-requires
 check-rest-requires c κs =
     let t = c .before .before .before .before in
-    let p = t .before .before .before .pre in
-    directory-ready _ (p .0) (p .1) (t .enum-told .given .1)
+    let e = t .before .before .before in
+    let p = e .pre in
+    directory-ready (e .args .img .now) (p .0) (p .1) (t .enum-told .given .1)
 
 enum-known-rest : tie.Need-enum-known-rest
 enum-known-rest c = search needs
@@ -32,23 +33,26 @@ enum-told-2 c = search needs
 returns : tie.Need-returns
 returns c =
     let v = c .before .before in
-    let p = v .before .before .before .pre in
-    checked-refused (c .refuse .ensures) (directory-refused _ (p .0) (p .1) _ (v .verdict .given .1))
+    let e = v .before .before .before in
+    let p = e .pre in
+    checked-refused (c .refuse .ensures) (directory-refused (e .args .img .now) (p .0) (p .1) _ (v .verdict .given .1))
 
 returns-2 : tie.Need-returns-2
 returns-2 c =
-    let e = c .before .before in
-    let r = e .before .before in
+    let v = c .before .before in
+    let r = v .before .before in
     let t = r .before .before .before .before .before in
-    let p = t .before .before .before .pre in
-    checked-refused (c .refuse2 .ensures) (rest-refused _ (p .0) (p .1) (t .enum-told .given .1) _ _ (rw (e .rest .given .1) at (r .check-rest .ensures)))
+    let e = t .before .before .before in
+    let p = e .pre in
+    checked-refused (c .refuse2 .ensures) (rest-refused (e .args .img .now) (p .0) (p .1) (t .enum-told .given .1) _ _ (rw (v .rest .given .1) at (r .check-rest .ensures)))
 
 returns-3 : tie.Need-returns-3
 returns-3 c =
     let r = c .before .before in
     let t = r .before .before .before .before .before in
-    let p = t .before .before .before .pre in
-    checked-fine _ (p .0) (p .1) (t .enum-told .given .1) _ (rw (c .enum-told2 .given .1) at (r .check-rest .ensures)) refl
+    let e = t .before .before .before in
+    let p = e .pre in
+    checked-fine (e .args .img .now) (p .0) (p .1) (t .enum-told .given .1) _ (rw (c .enum-told2 .given .1) at (r .check-rest .ensures)) refl
 
 pub check-read-spec : {M : Type 1} → statement M
 check-read-spec =
