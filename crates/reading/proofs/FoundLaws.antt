@@ -11,7 +11,7 @@ use Rattle.d64spec.specs.Lists.{Bytes, All, byte, equal}
 use Rattle.d64spec.specs.Answers.{notFound, refused, done, first}
 use Rattle.d64spec.specs.Geometry.{layout35}
 use Rattle.d64spec.specs.Image.{disk}
-use Rattle.d64spec.specs.Directory.{Slot, File, nameOf, validName, fileOf, files, occupied}
+use Rattle.d64spec.specs.Directory.{Slot, File, nameOf, validName, fileOf, files}
 use Rattle.d64spec.specs.Accepted.{ValidEntry}
 use Rattle.d64spec.specs.Reply.{validNameArgument, filesNamed}
 use Rattle.d64spec.specs.Read.{callRead, callTell}
@@ -92,7 +92,7 @@ module _ {img : Bytes} {ss : List ℕ} {end : ℕ} (there : CheckedSlots img ss 
     unfolding filesNamed fileOf
     some-named out small e slot =
         let x : Slot = imageSlot img ss k in
-        let l = slot-lent (there .size) (there .inside) slot in
+        let l = slot-lent {img = img} (there .size) (there .inside) slot in
         let found = by-name ∙ found-some e in
         let entries = there .accepted .content .entry in
         let m = first-kept (λ f. equal name (nameOf (f .slot .bytes))) (ValidEntry layout35 (disk img)) notFound (files layout35 (disk img)) (fileOf layout35 (disk img) x) entries found .element in
@@ -118,7 +118,7 @@ module _ {img : Bytes} {ss : List ℕ} {end : ℕ} (there : CheckedSlots img ss 
     unfolding fileOf
     some-placed small e slot =
         let x : Slot = imageSlot img ss k in
-        let l = slot-lent (there .size) (there .inside) slot in
+        let l = slot-lent {img = img} (there .size) (there .inside) slot in
         let found = by-position ∙ found-some e in
         let m = first-drop notFound position (files layout35 (disk img)) (fileOf layout35 (disk img) x) found in
         rw (l .is) (
