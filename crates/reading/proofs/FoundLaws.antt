@@ -86,7 +86,7 @@ module _ {img : Bytes} {ss : List ℕ} {end : ℕ} (there : CheckedSlots img ss 
     pub none-named : (out : Bytes) → k ≡ end → callRead layout35 img name out ≡ refused notFound
     none-named out e = read-none img name out (there .size) asked (there .contents) (by-name ∙ found-none e)
 
-    -- the entry of the slot found, and the chain that is read
+    -- the entry of the slot found, and the chain that is read; `slot-lent` is told the image, since matching `drop 91392` would unfold it
     pub some-named : (out : Bytes) {p : Bytes} → ((i : ℕ) → byte img i < 256) → (k ≡ end → ⊥) → IsSlot (lentTrack18 img) ss k p
         → FileEntry img p × (callRead layout35 img name out ≡ readFrom img out (firstOf p))
     unfolding filesNamed fileOf
