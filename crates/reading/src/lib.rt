@@ -4,12 +4,13 @@ mod copying;
 mod finding;
 
 ghost use mathlib.Core.Path.{_≡_};
+ghost use mathlib.Core.Bool.{true};
 ghost use Rattle.d64spec.specs.Geometry.{layout35};
 ghost use Rattle.d64spec.specs.Read.{callTell, tellReply};
-ghost use Rattle.d64spec.specs.Reply.{reply};
+ghost use Rattle.d64spec.specs.Reply.{reply, validNameArgument};
 ghost use Rattle.d64spec.specs.Call.{read, perform};
 ghost use Rattle.answers.specs.Faults.{replyOf};
-ghost use Rattle.reading.specs.FileSlots.{firstOf, FileEntry};
+ghost use Rattle.reading.specs.FileSlots.{CheckedSlots, firstOf, FileEntry};
 ghost use Rattle.reading.specs.Replies.{readFrom, toldOf, nothingTold, informationOf, tellReplyOf};
 use answers::Fault;
 use answers::Report;
@@ -85,6 +86,19 @@ fn read_slot(img: &[u8], slot: &[u8], out: &mut [u8]) -> Report
     }
 }
 
+// The same for the file of this name, looked for among the slots 0 to end - 1 of a checked image; refused with 13 where none has it.
+fn read_found(img: &[u8], name: &[u8], sectors: &[u8; 18], end: usize, out: &mut [u8]) -> Report
+    requires { ⌜ CheckedSlots (now img) (now sectors) end × (validNameArgument (now name) ≡ true) ⌝ }
+    ensures { λ r. ⌜ replyOf r (now (img .entry)) (now (out .exit)) ≡ perform layout35 (now (img .entry)) (read (now (name .entry)) (now (out .entry))) ⌝ }
+{
+    let track18 = &img[91392..96256];
+    let k = finding::find_named(track18, sectors, name, end);
+    if k == end {
+        return refuse(Fault::NotFound);
+    }
+    read_slot(img, directory::slot_at(track18, sectors, k), out)
+}
+
 // Reads the file of this name: its bytes at the start of the output, the rest of it as it was; its length and its chain's length.
 // Refused with 1, 9, 2 to 8, 13 or 16, in this order; a refusal leaves the output as it was and reports 0 and 0.
 pub fn read_file(img: &[u8], name: &[u8], out: &mut [u8]) -> Report
@@ -100,16 +114,7 @@ pub fn read_file(img: &[u8], name: &[u8], out: &mut [u8]) -> Report
     let verdict = checked.verdict;
     match verdict {
         Verdict::Refused(fault) => refuse(fault),
-        Verdict::Fine => {
-            let sectors = checked.sectors;
-            let end = 8 * checked.count;
-            let track18 = &img[91392..96256];
-            let k = finding::find_named(track18, &sectors, name, end);
-            if k == end {
-                return refuse(Fault::NotFound);
-            }
-            read_slot(img, directory::slot_at(track18, &sectors, k), out)
-        }
+        Verdict::Fine => read_found(img, name, &checked.sectors, 8 * checked.count, out),
     }
 }
 
@@ -136,6 +141,22 @@ fn tell_slot(img: &[u8], slot: &[u8]) -> FileInformation
     }
 }
 
+// The same for the file at a position, looked for among the slots 0 to end - 1 of a checked image; refused with 13 where there are not so many.
+fn tell_found(img: &[u8], position: usize, sectors: &[u8; 18], end: usize) -> Told
+    requires { ⌜ CheckedSlots (now img) (now sectors) end ⌝ }
+    ensures { λ r. ⌜ tellReplyOf r ≡ tellReply (callTell layout35 (now (img .entry)) position) ⌝ }
+{
+    let track18 = &img[91392..96256];
+    let k = finding::find_placed(track18, sectors, position, end);
+    if k == end {
+        return tell_nothing(Fault::NotFound);
+    }
+    Told {
+        verdict: Verdict::Fine,
+        information: tell_slot(img, directory::slot_at(track18, sectors, k)),
+    }
+}
+
 // Tells about the file at a position, counted from 0 among the occupied slots. Refused with 1, 2 to 8 or 13, in this order.
 pub fn tell_file(img: &[u8], position: usize) -> Told
     ensures { λ r. ⌜ tellReplyOf r ≡ tellReply (callTell layout35 (now (img .entry)) position) ⌝ }
@@ -144,18 +165,6 @@ pub fn tell_file(img: &[u8], position: usize) -> Told
     let verdict = checked.verdict;
     match verdict {
         Verdict::Refused(fault) => tell_nothing(fault),
-        Verdict::Fine => {
-            let sectors = checked.sectors;
-            let end = 8 * checked.count;
-            let track18 = &img[91392..96256];
-            let k = finding::find_placed(track18, &sectors, position, end);
-            if k == end {
-                return tell_nothing(Fault::NotFound);
-            }
-            Told {
-                verdict: Verdict::Fine,
-                information: tell_slot(img, directory::slot_at(track18, &sectors, k)),
-            }
-        }
+        Verdict::Fine => tell_found(img, position, &checked.sectors, 8 * checked.count),
     }
 }
