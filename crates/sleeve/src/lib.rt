@@ -69,17 +69,6 @@ fn write_text(track18: &[u8], sectors: &[u8; 18], end: usize, text: &mut [u8])
     write_free(map, &mut text[last..]);
 }
 
-// A report of a refusal: length 0 and 0 sectors.
-fn refuse(fault: Fault) -> Report
-    ensures { λ r. ⌜ r ≡ record { verdict = Verdict.Refused fault; length = 0; sectors = 0 } ⌝ }
-{
-    Report {
-        verdict: Verdict::Refused(fault),
-        length: 0,
-        sectors: 0,
-    }
-}
-
 // Lists the slots of a directory that was read: refused with 4 to 6 or, last, 16.
 fn list_slots(
     track18: &[u8],
@@ -94,15 +83,23 @@ fn list_slots(
     let checked = slots::check_slots(track18, sectors, end, repeated);
     let verdict = checked.verdict;
     match verdict {
-        Verdict::Refused(fault) => refuse(fault),
+        Verdict::Refused(_) => Report {
+            verdict,
+            length: 0,
+            sectors: 0,
+        },
         Verdict::Fine => {
             let length = 43 * checked.files + 42;
             if text.len() < length {
-                return refuse(Fault::WrongBuffer);
+                return Report {
+                    verdict: Verdict::Refused(Fault::WrongBuffer),
+                    length: 0,
+                    sectors: 0,
+                };
             }
             write_text(track18, sectors, end, &mut text[0..length]);
             Report {
-                verdict: Verdict::Fine,
+                verdict,
                 length: length as u32,
                 sectors: 0,
             }
@@ -117,7 +114,11 @@ pub fn list_track18(track18: &[u8], text: &mut [u8]) -> Report
     let read = directory::read_directory(track18);
     let verdict = read.verdict;
     match verdict {
-        Verdict::Refused(fault) => refuse(fault),
+        Verdict::Refused(_) => Report {
+            verdict,
+            length: 0,
+            sectors: 0,
+        },
         Verdict::Fine => {
             let sectors = read.sectors;
             list_slots(track18, &sectors, 8 * read.count, read.repeated, text)
