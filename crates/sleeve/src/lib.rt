@@ -1,5 +1,5 @@
 // The sleeve listing (01, Sleeve listing): the library call on any bytes and any text buffer, and what the program prints.
-// Every refusal is made before the first byte of the text is written.
+// Every refusal is made before the first byte of the text is written, and reports length 0 and 0 sectors.
 mod lines;
 mod slots;
 
@@ -9,7 +9,6 @@ ghost use Rattle.d64spec.specs.Geometry.{layout35};
 ghost use Rattle.d64spec.specs.Answers.{answerOf};
 ghost use Rattle.d64spec.specs.Listing.{callListing, diskOfTrack18, freeTotal, headFrame, line, listingOutput, listingText, refusalLine};
 ghost use Rattle.answers.specs.Faults.{faultOf};
-ghost use Rattle.answers.specs.declared.Verdict.{Verdict};
 ghost use Rattle.sleeve.specs.Texts.{Prints, ReadySlots, RoomFor, SlotsListed, blankText, freeLine, occupiedFrom};
 ghost use Rattle.sleeve.specs.Sleeves.{SleeveListed, SleevePrinted};
 use answers::Fault;
