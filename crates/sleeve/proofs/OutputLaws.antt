@@ -22,14 +22,13 @@ use Rattle.sleeve.specs.declared.Printed.{Printed}
 use Rattle.sleeve.specs.Texts.{Prints, blankText}
 use Rattle.sleeve.specs.Sleeves.{SleeveListed, SleevePrinted}
 
--- bytes that are printed are the program's, where they are what it is to print
-printed-as : (input : Bytes) {l : Bytes} → l ≡ sleeveOutput layout35 input → {r : Printed} → Prints l r → SleevePrinted input r
-printed-as input e p = record { output = p .output ∙ e; size = p .size ∙ ap length e }
+-- equal bytes are printed alike
+prints-as : {l m : Bytes} → l ≡ m → {r : Printed} → Prints l r → Prints m r
+prints-as e p = record { output = p .output ∙ e; size = p .size ∙ ap length e }
 
--- an input of another size
-pub printed-size : (input : Bytes) → (length input ≡ 174848 → ⊥) → {r : Printed} → Prints (refusalLine 1) r → SleevePrinted input r
-unfolding refusalLine digit
-printed-size input other p = printed-as input (sym (sleeve-size input other)) p
+-- the number of a fault's answer
+pub prints-number : (f : code.Fault) {a : given.Answer} → meant a ≡ answerOf (faultOf f) → {r : Printed} → Prints (refusalLine (a .number)) r → Prints (refusalLine (answerOf (faultOf f) .number)) r
+prints-number f answered p = prints-as (ap (λ (a : Answer). refusalLine (a .number)) answered) p
 
 -- ---- a reply with answer 0 is a listing's, one with a fault's answer is a refusal's
 
@@ -60,30 +59,34 @@ module _ (b text text′ : Bytes) (n : ℕ) where
       let positive = fault-number f .1 in
       absurd (omega arith)
 
--- ---- an image
+-- ---- the listing of these bytes, with the program's buffer
 
-module _ (input : Bytes) (size : length input ≡ 174848) {text text′ : Bytes} (blank : text ≡ blankText) {r : Report} (listed : SleeveListed (take 4864 (drop 91392 input)) text r text′) where
-  -- the part that the code lends is track 18
-  track18 : take 4864 (drop 91392 input) ≡ bytesOfTrack18 layout35 input
-  unfolding bytesOfTrack18 layout35 sectorsOn sectorNumber firstOn
-  track18 = refl
+module _ (b : Bytes) {text text′ : Bytes} (blank : text ≡ blankText) {r : Report} (listed : SleeveListed b text r text′) where
+  same : listingOutput (callListing layout35 b text) ≡ listingOutput (callListing layout35 b blankText)
+  same = ap (λ (t : Bytes). listingOutput (callListing layout35 b t)) blank
 
-  -- what the program prints is what the listing's result says
-  printed : listingOutput (callListing layout35 (take 4864 (drop 91392 input)) text) ≡ sleeveOutput layout35 input
-  unfolding blankText
-  printed = ap₂ (λ (b : Bytes) (t : Bytes). listingOutput (callListing layout35 b t)) track18 blank ∙ sym (sleeve-image input size)
-
-  pub printed-listing : r .verdict ≡ Fine → SleevePrinted input (record { text = text′; length = r .length })
+  pub prints-listing : r .verdict ≡ Fine → Prints (listingOutput (callListing layout35 b blankText)) (record { text = text′; length = r .length })
   unfolding verdictOf answerTo
-  printed-listing fine =
-      printed-as input printed
-      (listed-prints (take 4864 (drop 91392 input)) text text′ (r .length) (callListing layout35 (take 4864 (drop 91392 input)) text) refl (rw fine at (listed .reply)))
+  prints-listing fine = prints-as same (listed-prints b text text′ (r .length) (callListing layout35 b text) refl (rw fine at (listed .reply)))
 
-  pub printed-refusal : (f : code.Fault) → r .verdict ≡ Refused f → {a : given.Answer} → meant a ≡ answerOf (faultOf f) → {p : Printed} → Prints (refusalLine (a .number)) p → SleevePrinted input p
+  pub prints-refusal : (f : code.Fault) → r .verdict ≡ Refused f → {p : Printed} → Prints (refusalLine (answerOf (faultOf f) .number)) p → Prints (listingOutput (callListing layout35 b blankText)) p
   unfolding verdictOf answerTo
-  printed-refusal f verdict answered p =
-      printed-as input
-      (ap (λ (a : Answer). refusalLine (a .number)) answered
-      ∙ refused-line (take 4864 (drop 91392 input)) text text′ (r .length) (faultOf f) (callListing layout35 (take 4864 (drop 91392 input)) text) (rw verdict at (listed .reply))
-      ∙ printed)
-      p
+  prints-refusal f verdict p = prints-as (refused-line b text text′ (r .length) (faultOf f) (callListing layout35 b text) (rw verdict at (listed .reply)) ∙ same) p
+
+-- ---- the program
+
+module _ (input : Bytes) {r : Printed} where
+  -- what it is to print is printed
+  printed : Prints (sleeveOutput layout35 input) r → SleevePrinted input r
+  printed p = record { output = p .output; size = p .size }
+
+  -- an input of another size
+  pub printed-size : (length input ≡ 174848 → ⊥) → Prints (refusalLine 1) r → SleevePrinted input r
+  unfolding refusalLine digit
+  printed-size other p = printed (prints-as (sym (sleeve-size input other)) p)
+
+  -- an image: the part that the code lends is track 18
+  pub printed-image : length input ≡ 174848 → {b : Bytes} → Prints (listingOutput (callListing layout35 b blankText)) r → b ≡ take 4864 (drop 91392 input) → SleevePrinted input r
+  unfolding bytesOfTrack18 layout35 sectorsOn sectorNumber firstOn blankText
+  printed-image size p lent =
+      printed (prints-as (ap (λ (b : Bytes). listingOutput (callListing layout35 b blankText)) lent ∙ sym (sleeve-image input size)) p)

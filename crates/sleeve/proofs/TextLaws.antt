@@ -11,41 +11,45 @@ use Rattle.d64spec.specs.Directory.{Slot}
 use Rattle.d64spec.specs.Listing.{diskOfTrack18, freeTotal, headFrame, line, listingText}
 use Rattle.d64spec.proofs.ListingLaws.{line-length}
 use Rattle.directory.proofs.SlotListLaws.{disk-of-track18}
-use Rattle.sleeve.specs.Texts.{linesOf}
+use Rattle.sleeve.specs.Texts.{freeLine, linesOf}
 use Rattle.sleeve.proofs.WriteLaws.{Writing, writing-start, writing-lent, writing-finished}
 
+-- the last line, from a sum that is the map's
+pub free-line : (m : Bytes) {n : ℕ} → n ≡ freeTotal layout35 m → {r : Bytes} → r ≡ line (n / 256 ∷ n % 256 ∷ []) → r ≡ freeLine m
+unfolding freeLine
+free-line m total written = written ∙ ap (λ (n : ℕ). line (n / 256 ∷ n % 256 ∷ [])) total
+
 module _ (b : Bytes) (l : List Slot) where
-  -- the map sector, and its counts added
+  -- the map sector
   abbrev map : Bytes
   map = take 256 b
 
-  abbrev free : ℕ
-  free = freeTotal layout35 map
-
-  -- the three pieces
+  -- the first and the last of the three pieces
   abbrev pub first : Bytes
-  first = line (take 16 (drop 144 map) ++ take 2 (drop 162 map))
+  first = line (headFrame map)
 
   abbrev pub last : Bytes
-  last = line (free / 256 ∷ free % 256 ∷ [])
+  last = freeLine map
 
   sector-0 : disk b 0 ≡ map
   unfolding disk
   sector-0 = refl
 
   pub text-pieces : listingText layout35 (diskOfTrack18 layout35 b) l ≡ first ++ (linesOf l ++ last)
-  unfolding listingText linesOf headFrame
+  unfolding listingText linesOf freeLine
   text-pieces = rw (disk-of-track18 b 0 ∙ sector-0)
 
   module _ (whole : length b ≡ 4864) (lines : length (linesOf l) ≡ 43 * length l) where
     length-first : length first ≡ 37
+    unfolding headFrame
     length-first =
         let name : Bytes = take 16 (drop 144 map) in
         let id : Bytes = take 2 (drop 162 map) in
         omega (arith, line-length (name ++ id), length-append name id, length-take 16 (drop 144 map), length-drop 144 map, length-take 2 (drop 162 map), length-drop 162 map, length-take 256 b)
 
     length-last : length last ≡ 5
-    length-last = line-length (free / 256 ∷ free % 256 ∷ [])
+    unfolding freeLine
+    length-last = line-length (freeTotal layout35 map / 256 ∷ freeTotal layout35 map % 256 ∷ [])
 
     pub length-text : length (listingText layout35 (diskOfTrack18 layout35 b) l) ≡ 42 + 43 * length l
     length-text = omega (arith, ap length text-pieces, length-append first (linesOf l ++ last), length-append (linesOf l) last, length-first, length-last)
@@ -74,9 +78,8 @@ module _ (b : Bytes) (l : List Slot) where
       room-for-lines {p} filled =
           omega (arith, after-first filled .size, length-append (linesOf l) last, length-last, length-take (end - 37) (drop 37 (one p)), length-drop 37 (one p))
 
-      pub text-written : {p q r : Bytes} {n : ℕ} → p ≡ first → q ≡ linesOf l → n ≡ free → r ≡ line (n / 256 ∷ n % 256 ∷ []) → three p q r ≡ listingText layout35 (diskOfTrack18 layout35 b) l
-      text-written {p} {q} {r} {n} filled between total ended =
+      pub text-written : {p q r : Bytes} → p ≡ first → q ≡ linesOf l → r ≡ last → three p q r ≡ listingText layout35 (diskOfTrack18 layout35 b) l
+      text-written {p} {q} filled between ended =
           let w = writing-lent (after-first filled) (linesOf l) last refl end (omega (arith, lines)) between in
-          let close : r ≡ last = ended ∙ ap (λ (n : ℕ). line (n / 256 ∷ n % 256 ∷ [])) total in
-          let all = writing-lent w last [] (sym (append-nil last)) (length (two p q)) (omega (arith, w .size, length-last)) close in
+          let all = writing-lent w last [] (sym (append-nil last)) (length (two p q)) (omega (arith, w .size, length-last)) ended in
           writing-finished all refl ∙ sym text-pieces

@@ -1,5 +1,5 @@
 -- The parts of the listing's text that the code writes one by one (01, Sleeve listing). The whole text is d64spec's `listingText`.
--- In order: digits; the occupied slots by number; their lines; what the code knows of a directory that was read; the listing of its slots; the program's buffer, and what it prints.
+-- In order: digits; the occupied slots by number; their lines; the last line; what the code knows of a directory that was read; the listing of its slots; the program's buffer, and what it prints.
 use Prim.Native.Nat.{ℕ, _+_, _*_, _/_, _%_, _≤_, _<_}
 use mathlib.Core.Path.{_≡_}
 use mathlib.Core.Bool.{not}
@@ -10,7 +10,7 @@ use Rattle.d64spec.specs.Lists.{Bytes, All, join, filter, range, splice, zeros}
 use Rattle.d64spec.specs.Answers.{Result, done, wrongBuffer, _>>_, need}
 use Rattle.d64spec.specs.Geometry.{layout35}
 use Rattle.d64spec.specs.Directory.{Slot, isEmpty}
-use Rattle.d64spec.specs.Listing.{Listed, digit, diskOfTrack18, line, listSlots, listingReply, listingText, slotFrame}
+use Rattle.d64spec.specs.Listing.{Listed, digit, diskOfTrack18, freeTotal, line, listSlots, listingReply, listingText, slotFrame}
 use Rattle.answers.specs.Faults.{verdictOf, answerTo, whereFine}
 use Rattle.answers.specs.declared.Report.{Report}
 use Rattle.directory.specs.Directories.{slotAt, firstRepeated}
@@ -28,6 +28,10 @@ occupiedFrom b ss k n = filter (λ s. not (isEmpty (s .bytes))) (map (slotAt b s
 -- a line for each of these slots
 unfoldable pub linesOf : List Slot → Bytes
 linesOf l = join (map (λ s. line (slotFrame (s .bytes))) l)
+
+-- the last line: the map's free sectors in two bytes, high first
+unfoldable pub freeLine : Bytes → Bytes
+freeLine m = line (freeTotal layout35 m / 256 ∷ freeTotal layout35 m % 256 ∷ [])
 
 -- how many these slots are, where track 18 shows no fault of theirs
 unfoldable pub countSlots : List Slot → Result ℕ

@@ -1,14 +1,15 @@
 // The sleeve listing (01, Sleeve listing): the library call on any bytes and any text buffer, and what the program prints.
-// Every refusal is made before the first byte of the text is written.
+// Every refusal is made before the first byte of the text is written, and reports length 0 and 0 sectors.
 mod lines;
 mod slots;
 
 ghost use mathlib.Core.Path.{_≡_};
 ghost use lib.ListN.{length};
 ghost use Rattle.d64spec.specs.Geometry.{layout35};
-ghost use Rattle.d64spec.specs.Listing.{diskOfTrack18, freeTotal, listingText, refusalLine};
-ghost use Rattle.answers.specs.declared.Verdict.{Verdict};
-ghost use Rattle.sleeve.specs.Texts.{Prints, ReadySlots, RoomFor, SlotsListed, blankText, occupiedFrom};
+ghost use Rattle.d64spec.specs.Answers.{answerOf};
+ghost use Rattle.d64spec.specs.Listing.{callListing, diskOfTrack18, freeTotal, headFrame, line, listingOutput, listingText, refusalLine};
+ghost use Rattle.answers.specs.Faults.{faultOf};
+ghost use Rattle.sleeve.specs.Texts.{Prints, ReadySlots, RoomFor, SlotsListed, blankText, freeLine, occupiedFrom};
 ghost use Rattle.sleeve.specs.Sleeves.{SleeveListed, SleevePrinted};
 use answers::Fault;
 use answers::Report;
@@ -36,6 +37,25 @@ fn free_total(map: &[u8]) -> u16
     sum
 }
 
+// Fills the text with the first line: the map sector's bytes 90 to 9F and A2 to A3.
+fn write_head(map: &[u8], text: &mut [u8])
+    requires { ⌜ (length (now map) ≡ 256) × (length (now text) ≡ 37) ⌝ }
+    ensures { λ _. ⌜ now (text .exit) ≡ line (headFrame (now (map .entry))) ⌝ }
+{
+    lines::write_line(&map[144..160], &map[162..164], text);
+}
+
+// Fills the text with the last line: the free sectors in two bytes, high first.
+fn write_free(map: &[u8], text: &mut [u8])
+    requires { ⌜ (length (now map) ≡ 256) × (length (now text) ≡ 5) ⌝ }
+    ensures { λ _. ⌜ now (text .exit) ≡ freeLine (now (map .entry)) ⌝ }
+{
+    let free = free_total(map);
+    let high = [(free / 256) as u8];
+    let low = [(free % 256) as u8];
+    lines::write_line(&high, &low, text);
+}
+
 // Fills the text: the disk's name and id, a line for each occupied slot below `end`, the free sectors.
 fn write_text(track18: &[u8], sectors: &[u8; 18], end: usize, text: &mut [u8])
     requires { ⌜ RoomFor (now track18) (now sectors) end (now text) 42 ⌝ }
@@ -43,23 +63,9 @@ fn write_text(track18: &[u8], sectors: &[u8; 18], end: usize, text: &mut [u8])
 {
     let map = &track18[0..256];
     let last = text.len() - 5;
-    lines::write_line(&map[144..160], &map[162..164], &mut text[0..37]);
+    write_head(map, &mut text[0..37]);
     slots::write_slots(track18, sectors, end, &mut text[37..last]);
-    let free = free_total(map);
-    let high = [(free / 256) as u8];
-    let low = [(free % 256) as u8];
-    lines::write_line(&high, &low, &mut text[last..]);
-}
-
-// A report of a refusal: length 0 and 0 sectors.
-fn refuse(fault: Fault) -> Report
-    ensures { λ r. ⌜ r ≡ record { verdict = Verdict.Refused fault; length = 0; sectors = 0 } ⌝ }
-{
-    Report {
-        verdict: Verdict::Refused(fault),
-        length: 0,
-        sectors: 0,
-    }
+    write_free(map, &mut text[last..]);
 }
 
 // Lists the slots of a directory that was read: refused with 4 to 6 or, last, 16.
@@ -76,15 +82,23 @@ fn list_slots(
     let checked = slots::check_slots(track18, sectors, end, repeated);
     let verdict = checked.verdict;
     match verdict {
-        Verdict::Refused(fault) => refuse(fault),
+        Verdict::Refused(_) => Report {
+            verdict,
+            length: 0,
+            sectors: 0,
+        },
         Verdict::Fine => {
             let length = 43 * checked.files + 42;
             if text.len() < length {
-                return refuse(Fault::WrongBuffer);
+                return Report {
+                    verdict: Verdict::Refused(Fault::WrongBuffer),
+                    length: 0,
+                    sectors: 0,
+                };
             }
             write_text(track18, sectors, end, &mut text[0..length]);
             Report {
-                verdict: Verdict::Fine,
+                verdict,
                 length: length as u32,
                 sectors: 0,
             }
@@ -99,7 +113,11 @@ pub fn list_track18(track18: &[u8], text: &mut [u8]) -> Report
     let read = directory::read_directory(track18);
     let verdict = read.verdict;
     match verdict {
-        Verdict::Refused(fault) => refuse(fault),
+        Verdict::Refused(_) => Report {
+            verdict,
+            length: 0,
+            sectors: 0,
+        },
         Verdict::Fine => {
             let sectors = read.sectors;
             list_slots(track18, &sectors, 8 * read.count, read.repeated, text)
@@ -118,11 +136,35 @@ fn print_refusal(number: u8) -> Printed
     Printed { text, length: 3 }
 }
 
+// A fault, printed: its number.
+fn print_fault(fault: Fault) -> Printed
+    ensures { λ r. ⌜ Prints (refusalLine (answerOf (faultOf fault) .number)) r ⌝ }
+{
+    let answer = answers::answer_of(fault);
+    print_refusal(answer.number)
+}
+
 // A text buffer with room for every listing.
 fn blank_text() -> [u8; 6234]
     ensures { λ r. ⌜ r ≡ blankText ⌝ }
 {
     [0u8; 6234]
+}
+
+// The listing of track 18's bytes, printed, or its fault.
+fn print_listing(track18: &[u8]) -> Printed
+    ensures { λ r. ⌜ Prints (listingOutput (callListing layout35 (now (track18 .entry)) blankText)) r ⌝ }
+{
+    let mut text = blank_text();
+    let report = list_track18(track18, &mut text);
+    let verdict = report.verdict;
+    match verdict {
+        Verdict::Refused(fault) => print_fault(fault),
+        Verdict::Fine => Printed {
+            text,
+            length: report.length as usize,
+        },
+    }
 }
 
 // What the program prints, given its whole standard input: the listing of an image's track 18, or the refusal's number.
@@ -132,17 +174,5 @@ pub fn sleeve_output(input: &[u8]) -> Printed
     if input.len() != 174848 {
         return print_refusal(1);
     }
-    let mut text = blank_text();
-    let report = list_track18(&input[91392..96256], &mut text);
-    let verdict = report.verdict;
-    match verdict {
-        Verdict::Refused(fault) => {
-            let answer = answers::answer_of(fault);
-            print_refusal(answer.number)
-        }
-        Verdict::Fine => Printed {
-            text,
-            length: report.length as usize,
-        },
-    }
+    print_listing(&input[91392..96256])
 }

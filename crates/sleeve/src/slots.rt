@@ -34,11 +34,8 @@ pub(crate) fn check_slots(
             };
             let verdict = directory::check_entry(slot, place, k == repeated);
             match verdict {
-                Verdict::Refused(fault) => {
-                    return Checked {
-                        verdict: Verdict::Refused(fault),
-                        files,
-                    };
+                Verdict::Refused(_) => {
+                    return Checked { verdict, files };
                 }
                 Verdict::Fine => {
                     files += 1;

@@ -18,35 +18,17 @@ part-map-end c = search needs
 sub-last : tie.Need-sub-last
 sub-last c = search needs
 
-sub-write-line : tie.Need-sub-write-line
-sub-write-line c = search needs
+sub-write-head : tie.Need-sub-write-head
+sub-write-head c = search needs
 
-part-write-line-start : tie.Need-part-write-line-start
-part-write-line-start c = search needs
+part-write-head-start : tie.Need-part-write-head-start
+part-write-head-start c = search needs
 
-part-write-line-end : tie.Need-part-write-line-end
-part-write-line-end c = search needs
+part-write-head-end : tie.Need-part-write-head-end
+part-write-head-end c = search needs
 
-sub-write-line-2 : tie.Need-sub-write-line-2
-sub-write-line-2 c = search needs
-
-part-write-line-start-2 : tie.Need-part-write-line-start-2
-part-write-line-start-2 c = search needs
-
-part-write-line-end-2 : tie.Need-part-write-line-end-2
-part-write-line-end-2 c = search needs
-
-sub-write-line-3 : tie.Need-sub-write-line-3
-sub-write-line-3 c = search needs
-
-part-write-line-start-3 : tie.Need-part-write-line-start-3
-part-write-line-start-3 c = search needs
-
-part-write-line-end-3 : tie.Need-part-write-line-end-3
-part-write-line-end-3 c = search needs
-
-write-line-requires : tie.Need-write-line-requires
-write-line-requires c κs = search needs
+write-head-requires : tie.Need-write-head-requires
+write-head-requires c κs = search needs
 
 sub-write-slots : tie.Need-sub-write-slots
 sub-write-slots c = search needs
@@ -60,50 +42,34 @@ part-write-slots-end c = search needs
 write-slots-requires : tie.Need-write-slots-requires
 write-slots-requires c κs =
     let w = c .before .before .before in
-    let s = w .before .before .before .before .before .before .before in
+    let s = w .before .before .before .before .before in
     let b = s .args .track18 .now in
-    let room = room-for-lines b _ (s .pre .whole) (length-lines b _ (s .pre .whole) (s .pre .inside) 0 (s .args .end)) (s .args .text .now) (s .pre .size) (w .write-line .ensures) in
+    let room = room-for-lines b _ (s .pre .whole) (length-lines b _ (s .pre .whole) (s .pre .inside) 0 (s .args .end)) (s .args .text .now) (s .pre .size) (w .write-head .ensures) in
     record { whole = s .pre .whole; inside = s .pre .inside; size = omega (arith, room) }
 
-free-total-requires : tie.Need-free-total-requires
-free-total-requires c κs = search needs
+sub-write-free : tie.Need-sub-write-free
+sub-write-free c = search needs
 
-cast-t29 : tie.Need-cast-t29
-cast-t29 c = search needs
+part-write-free-start : tie.Need-part-write-free-start
+part-write-free-start c = search needs
 
-cast-t29-2 : tie.Need-cast-t29-2
-cast-t29-2 c = search needs
+part-write-free-end : tie.Need-part-write-free-end
+part-write-free-end c = search needs
 
-slice-aggregate-write-line : tie.Need-slice-aggregate-write-line
-slice-aggregate-write-line c = search needs
-
-slice-aggregate-write-line-2 : tie.Need-slice-aggregate-write-line-2
-slice-aggregate-write-line-2 c = search needs
-
-sub-write-line-4 : tie.Need-sub-write-line-4
-sub-write-line-4 c = search needs
-
-part-write-line-start-4 : tie.Need-part-write-line-start-4
-part-write-line-start-4 c = search needs
-
-part-write-line-end-4 : tie.Need-part-write-line-end-4
-part-write-line-end-4 c = search needs
-
-write-line-requires-2 : tie.Need-write-line-requires-2
-write-line-requires-2 c κs = search needs
+write-free-requires : tie.Need-write-free-requires
+write-free-requires c κs = search needs
 
 same-length : tie.Need-same-length
 same-length c = search needs
 
 returns : tie.Need-returns
 returns c =
-    let f = c .before .before .before .before .before .before in
-    let q = f .before .before .before in
+    let q = c .before .before .before .before .before .before in
     let w = q .before .before .before .before in
-    let s = w .before .before .before .before .before .before .before in
+    let s = w .before .before .before .before .before in
     let b = s .args .track18 .now in
     text-written b _ (s .pre .whole) (length-lines b _ (s .pre .whole) (s .pre .inside) 0 (s .args .end)) (s .args .text .now) (s .pre .size)
-    (w .write-line .ensures) (q .write-slots .ensures) (f .free-total .ensures) (c .before .before .write-line2 .ensures)
+    (w .write-head .ensures) (q .write-slots .ensures) (c .before .before .write-free .ensures)
 
 pub write-text-spec : {M : Type 1} → statement M
 write-text-spec =
@@ -113,28 +79,17 @@ write-text-spec =
     part-map-start
     part-map-end
     sub-last
-    sub-write-line
-    part-write-line-start
-    part-write-line-end
-    sub-write-line-2
-    part-write-line-start-2
-    part-write-line-end-2
-    sub-write-line-3
-    part-write-line-start-3
-    part-write-line-end-3
-    write-line-requires
+    sub-write-head
+    part-write-head-start
+    part-write-head-end
+    write-head-requires
     sub-write-slots
     part-write-slots-start
     part-write-slots-end
     write-slots-requires
-    free-total-requires
-    cast-t29
-    cast-t29-2
-    slice-aggregate-write-line
-    slice-aggregate-write-line-2
-    sub-write-line-4
-    part-write-line-start-4
-    part-write-line-end-4
-    write-line-requires-2
+    sub-write-free
+    part-write-free-start
+    part-write-free-end
+    write-free-requires
     same-length
     returns)
