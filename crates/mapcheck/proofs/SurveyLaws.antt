@@ -1,24 +1,30 @@
--- What the survey of a track's sectors keeps: the bits and the count of the sectors passed. In order: one bit; the sizes; the loop. Assumes nothing.
-use Prim.Native.Nat.{ℕ, _+_, _*_, _%_, _^_, _≤_, _<_}
+-- What the survey of a track's sectors keeps: the bits and the count of the sectors passed.
+-- In order: one bit; the sizes; the loop; a track without an owner; four bytes of the table at once. Assumes nothing.
+use Prim.Native.Nat.{ℕ, zero, suc, _+_, _-_, _*_, _%_, _^_, _≤_, _<_}
 use native.Mathlib.Omega.{arith}
+use native.Mathlib.Decide.{ℕ-discrete, decLe}
 use native.Mathlib.Nat.{pow-le-pow-right}
 use native.Mathlib.Numerals.{add-one}
-use mathlib.Core.Path.{_≡_, refl, ap, _∙_}
+use mathlib.Core.Path.{_≡_, refl, sym, ap, _∙_}
 use mathlib.Core.Bool.{Bool, true, false}
 use mathlib.Core.List.{List, map}
 use lib.ListN.{getD}
 use lib.Dec.{eqb}
-use borrow.Author.Tests.{eq-eqb, ne-eqb}
+use borrow.Author.Tests.{eq-eqb, ne-eqb, eqb-true, eqb-false}
 use Rattle.d64spec.specs.Lists.{indicator, range, sum}
 use Rattle.mapentry.proofs.OnesLaws.{sum-map-last, sum-map-le}
-use Rattle.mapcheck.specs.MapChecks.{binary, freeBit, freeMask, freeCount, Surveyed}
+use Rattle.mapcheck.specs.MapChecks.{binary, freeBit, freeMask, freeCount, Surveyed, IsFour}
 use Rattle.mapcheck.proofs.MaskLaws.{binary-more, binary-lt}
 
-power-le : (s : ℕ) → s < 24 → 2 ^ s ≤ 8388608
-power-le s h = let below : s ≤ 23 = omega arith in pow-le-pow-right {n = 2} (omega arith) below
+power-le : (s : ℕ) → s ≤ 24 → 2 ^ s ≤ 16777216
+power-le s h = pow-le-pow-right {n = 2} (omega arith) h
 
--- the bit of a sector below 24 is not shifted out of 32
-pub shifted : (s : ℕ) → s < 24 → 1 * 2 ^ s % 4294967296 ≡ 2 ^ s
+pub power-pos : (s : ℕ) → 1 ≤ 2 ^ s
+power-pos zero = omega arith
+power-pos (suc s) = omega (arith, power-pos s)
+
+-- a bit up to 24 is not shifted out of 32
+pub shifted : (s : ℕ) → s ≤ 24 → 1 * 2 ^ s % 4294967296 ≡ 2 ^ s
 shifted s h = omega (arith, power-le s h)
 
 module _ (own : List ℕ) (first : ℕ) where
@@ -67,8 +73,8 @@ unfolding freeMask freeCount binary
 surveying-start own first n = record { passed = omega arith; masked = refl; counted = refl }
 
 module _ {own : List ℕ} {first n mask count s : ℕ} (c : Surveying own first n mask count s) where
-  -- the mask with one more bit has at most 24
-  pub surveying-mask-lt : s < 24 → mask + 2 ^ s < 16777216
+  -- the mask with one more bit has at most 25
+  pub surveying-mask-lt : s ≤ 24 → mask + 2 ^ s < 33554432
   surveying-mask-lt h = omega (arith, c .masked, mask-lt own first s, power-le s h)
 
   pub surveying-count-le : count ≤ s
@@ -97,3 +103,106 @@ module _ {own : List ℕ} {first n mask count s : ℕ} (c : Surveying own first 
       let passed : s ≤ n = c .passed in
       let all : s ≡ n = omega arith in
       record { mask = c .masked ∙ ap (freeMask own first) all; count = c .counted ∙ ap (freeCount own first) all }
+
+-- ---- a track without an owner
+
+-- nobody owns any of the n sectors from number first on
+abbrev Unowned : List ℕ → ℕ → ℕ → Type 0
+Unowned own first n = (s : ℕ) → s < n → getD own (first + s) 0 ≡ 0
+
+module _ (own : List ℕ) (first n : ℕ) where
+  surveying-all : Unowned own first n → (s : ℕ) → s ≤ n → Surveying own first n (2 ^ s - 1) s s
+  surveying-all free zero h = surveying-start own first n
+  surveying-all free (suc s) h =
+      let next : s + 1 ≡ suc s = add-one s in
+      rw next at (surveying-free (surveying-all free s (omega arith)) {mask′ = 2 ^ suc s - 1} {count′ = suc s} h (free s h) (omega (arith, power-pos s)) (omega arith))
+
+  count-all : Unowned own first n → freeCount own first n ≡ n
+  count-all free = sym (surveying-all free n (omega arith) .counted)
+
+-- as many free sectors as there are: each is
+unowned-of-count : (own : List ℕ) (first n : ℕ) → freeCount own first n ≡ n → Unowned own first n
+unowned-of-count own first zero e s h = absurd (omega arith)
+unowned-of-count own first (suc n) e s h =
+    let more : freeCount own first (suc n) ≡ freeCount own first n + freeBit own first n = rw add-one at (count-more own first n) in
+    elim (ℕ-discrete s n) [
+      | yes q ↦ rw q (elim (ℕ-discrete (getD own (first + n) 0) 0) [
+        | yes free ↦ free
+        | no owned ↦ absurd (omega (arith, free-bit-owned own first n owned, count-le own first n))
+      ])
+      | no q ↦ unowned-of-count own first n (omega (arith, free-bit-le own first n, count-le own first n)) s (omega arith)
+    ]
+
+-- all bits are set, and all are counted
+pub surveyed-all : {own : List ℕ} {first n mask count : ℕ} → freeCount own first n ≡ n → mask ≡ 2 ^ n - 1 → count ≡ n → Surveyed own first n (record { mask = mask; count = count })
+surveyed-all {own} {first} {n} e m k =
+    let all = surveying-all own first n (unowned-of-count own first n e) n (omega arith) in
+    record { mask = m ∙ all .masked; count = k ∙ all .counted }
+
+-- ---- four bytes of the table at once
+
+module _ {own : List ℕ} {a r : ℕ} (four : IsFour own a r) where
+  four-zero : r ≡ 0 → (i : ℕ) → a ≤ i → i < a + 4 → getD own i 0 ≡ 0
+  four-zero e i l h =
+      let value = four .value in
+      go (i - a) (omega arith) (omega arith) (omega arith) (omega arith) (omega arith) (omega arith)
+    where
+      go : (k : ℕ) → k < 4 → i ≡ a + k → getD own a 0 ≡ 0 → getD own (a + 1) 0 ≡ 0 → getD own (a + 2) 0 ≡ 0 → getD own (a + 3) 0 ≡ 0 → getD own i 0 ≡ 0
+      go zero b at first second third fourth = let z : i ≡ a = omega arith in rw z first
+      go (suc zero) b at first second third fourth = rw at second
+      go (suc (suc zero)) b at first second third fourth = rw at third
+      go (suc (suc (suc zero))) b at first second third fourth = rw at fourth
+      go (suc (suc (suc (suc k)))) b at first second third fourth = absurd (omega arith)
+
+  zero-four : ((i : ℕ) → a ≤ i → i < a + 4 → getD own i 0 ≡ 0) → r ≡ 0
+  zero-four all =
+      omega (
+        arith,
+        four .value,
+        all a (omega arith) (omega arith),
+        all (a + 1) (omega arith) (omega arith),
+        all (a + 2) (omega arith) (omega arith),
+        all (a + 3) (omega arith) (omega arith),
+      )
+
+module _ {own : List ℕ} {first n a b c d e f p q r s t u : ℕ} (A : IsFour own a p) (B : IsFour own b q) (C : IsFour own c r) (D : IsFour own d s) (E : IsFour own e t) (F : IsFour own f u) where
+  -- sixteen bytes from the first on, and the last eight: they add up to 0 exactly where all n sectors are free
+  pub untouched-exact : 16 ≤ n → n ≤ 24 → a ≡ first → b ≡ first + 4 → c ≡ first + 8 → d ≡ first + 12 → e ≡ first + n - 8 → f ≡ first + n - 4
+      → eqb (p + q + r + s + t + u) 0 ≡ eqb (freeCount own first n) n
+  untouched-exact low high ea eb ec ed ee ef = go (eqb (p + q + r + s + t + u) 0) refl
+    where
+      none : p + q + r + s + t + u ≡ 0 → Unowned own first n
+      none nothing i h =
+          elim (decLe 4 i) [
+            | no early ↦ four-zero A (omega arith) (first + i) (omega arith) (omega arith)
+            | yes second ↦ elim (decLe 8 i) [
+              | no early ↦ four-zero B (omega arith) (first + i) (omega arith) (omega arith)
+              | yes third ↦ elim (decLe 12 i) [
+                | no early ↦ four-zero C (omega arith) (first + i) (omega arith) (omega arith)
+                | yes fourth ↦ elim (decLe 16 i) [
+                  | no early ↦ four-zero D (omega arith) (first + i) (omega arith) (omega arith)
+                  | yes fifth ↦ elim (decLe (n - 4) i) [
+                    | no early ↦ four-zero E (omega arith) (first + i) (omega arith) (omega arith)
+                    | yes last ↦ four-zero F (omega arith) (first + i) (omega arith) (omega arith)
+                  ]
+                ]
+              ]
+            ]
+          ]
+
+      all : Unowned own first n → p + q + r + s + t + u ≡ 0
+      all free =
+          let part : (k : ℕ) → first ≤ k → k < first + n → getD own k 0 ≡ 0 = λ k l h. let at : first + (k - first) ≡ k = omega arith in rw at at (free (k - first) (omega arith)) in
+          omega (
+            arith,
+            zero-four A (λ k l h. part k (omega arith) (omega arith)),
+            zero-four B (λ k l h. part k (omega arith) (omega arith)),
+            zero-four C (λ k l h. part k (omega arith) (omega arith)),
+            zero-four D (λ k l h. part k (omega arith) (omega arith)),
+            zero-four E (λ k l h. part k (omega arith) (omega arith)),
+            zero-four F (λ k l h. part k (omega arith) (omega arith)),
+          )
+
+      go : (x : Bool) → eqb (p + q + r + s + t + u) 0 ≡ x → x ≡ eqb (freeCount own first n) n
+      go true y = sym (eq-eqb _ n (count-all own first n (none (eqb-true _ 0 y))))
+      go false y = sym (ne-eqb _ n (λ h. eqb-false _ 0 y (all (unowned-of-count own first n h))))

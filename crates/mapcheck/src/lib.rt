@@ -3,8 +3,10 @@
 // at once: bits past the track's last sector are 0 in it, as they must be in the map.
 ghost use mathlib.Core.Path.{_≡_};
 ghost use Prim.Native.Nat.{_+_, _≤_};
+ghost use lib.ListN.{length};
+ghost use lib.Dec.{eqb};
 ghost use Rattle.answers.specs.Faults.{verdictOf};
-ghost use Rattle.mapcheck.specs.MapChecks.{Surveyed, trackCorrect, mapVerdict};
+ghost use Rattle.mapcheck.specs.MapChecks.{IsFour, freeCount, Surveyed, trackCorrect, mapVerdict};
 use answers::Fault;
 use answers::Verdict;
 
@@ -14,8 +16,35 @@ struct FreeSectors {
     count: u8,
 }
 
-// The free ones of the sectors from number `first` on.
-fn survey(own: &[u8; 683], first: usize, sectors: u8) -> FreeSectors
+// The number of four bytes of the owner table, low byte first: one load.
+fn four(own: &[u8], at: usize) -> u64
+    requires { ⌜ at + 4 ≤ length (now own) ⌝ }
+    ensures { λ r. ⌜ IsFour (now (own .entry)) at r ⌝ }
+{
+    own[at] as u64
+        + 256 * (own[at + 1] as u64)
+        + 65536 * (own[at + 2] as u64)
+        + 16777216 * (own[at + 3] as u64)
+}
+
+// Whether nobody owns any of the n sectors from number `first` on: all n are free. Sixteen bytes are added from the first on, and the last eight, some
+// of them twice.
+fn untouched(own: &[u8], first: usize, n: usize) -> bool
+    requires { ⌜ (first + n ≤ length (now own)) × (16 ≤ n) × (n ≤ 24) ⌝ }
+    ensures { λ r. ⌜ r ≡ eqb (freeCount (now (own .entry)) first n) n ⌝ }
+{
+    let last = first + n;
+    four(own, first)
+        + four(own, first + 4)
+        + four(own, first + 8)
+        + four(own, first + 12)
+        + four(own, last - 8)
+        + four(own, last - 4)
+        == 0
+}
+
+// The free ones of the sectors from number `first` on, asked one by one.
+fn survey_each(own: &[u8; 683], first: usize, sectors: u8) -> FreeSectors
     requires { ⌜ (first + sectors ≤ 683) × (sectors ≤ 24) ⌝ }
     ensures { λ r. ⌜ Surveyed (now (own .entry)) first sectors r ⌝ }
 {
@@ -30,6 +59,20 @@ fn survey(own: &[u8; 683], first: usize, sectors: u8) -> FreeSectors
         s += 1;
     }
     FreeSectors { mask, count }
+}
+
+// The same; where nobody owns any, as on most tracks, all bits are set.
+fn survey(own: &[u8; 683], first: usize, sectors: u8) -> FreeSectors
+    requires { ⌜ (first + sectors ≤ 683) × (16 ≤ sectors) × (sectors ≤ 24) ⌝ }
+    ensures { λ r. ⌜ Surveyed (now (own .entry)) first sectors r ⌝ }
+{
+    if untouched(own, first, sectors as usize) {
+        return FreeSectors {
+            mask: (1 << sectors) - 1,
+            count: sectors,
+        };
+    }
+    survey_each(own, first, sectors)
 }
 
 // Whether a track's entry marks exactly the sectors that nobody owns, and counts them.

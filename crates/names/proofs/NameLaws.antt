@@ -1,11 +1,12 @@
 -- Names and the field that holds one: the name rule by the first $A0, and when two names are equal (01, The directory).
--- In order: the field of a slot; a field against a name filled up; the name rule, case by case; the two comparisons where names keep the rule.
+-- In order: the field of a slot; neighbours that need not be asked; a field against a name filled up; the name rule, case by case; the two comparisons where names keep the rule.
 -- A field is given as any list f that is a slot's bytes 05 to 14. Laws of the bytes alone: PaddingLaws. Assumes nothing.
 use mathlib.Core.Path.{_≡_, refl, sym, ap, ap₂, _∙_}
 use mathlib.Core.Bool.{Bool, true, false, _&&_, not, and-false}
 use mathlib.Core.List.{_++_}
 use Prim.Native.Nat.{ℕ, _+_, _-_, _≤_, _<_}
 use native.Mathlib.Omega.{arith}
+use native.Mathlib.Decide.{decLe}
 use lib.ListN.{length, getD, take, drop, replicate, length-append, length-take, length-drop, length-replicate, take-append-drop}
 use lib.Seq.{drop-append-seam, getD-take, getD-drop}
 use lib.Dec.{eqb}
@@ -13,11 +14,11 @@ use borrow.Author.Tests.{ne-eqb}
 use Rattle.d64spec.specs.Lists.{Bytes, byte, equal}
 use Rattle.d64spec.specs.Directory.{nameField, nameOf, padded, validName}
 use Rattle.d64spec.specs.Reply.{validNameArgument}
-use Rattle.names.specs.Names.{nameLength, paddedOnce}
+use Rattle.names.specs.Names.{nameLength, paddedOnce, RestFits, fourOf}
 use Rattle.d64spec.proofs.ListLaws.{eq-of-equal}
 use Rattle.d64spec.proofs.RuleLaws.{name-exact, name-argument-exact}
 use Rattle.parts.proofs.EqualLaws.{equal-iff, equal-lengths-differ, equal-append}
-use Rattle.names.proofs.PaddingLaws.{letters, count-letters, nameLength-append-padding, letters-append-padding, letters-of-padding, length-take-nameLength, nameLength-drop-padding, nameLength-drop-letter, paddedOnce-nameLength}
+use Rattle.names.proofs.PaddingLaws.{letters, count-letters, nameLength-append-padding, letters-append-padding, letters-of-padding, length-take-nameLength, nameLength-drop-padding, nameLength-drop-letter, paddedOnce-nameLength, paddedOnce-last, paddedOnce-rest, four-padding}
 
 -- ---- the field of a slot
 
@@ -28,6 +29,28 @@ length-nameField s whole = simp (length-take, length-drop) (omega arith)
 -- byte i of the field is byte 3 + i of what is lent
 pub byte-nameField : (s : Bytes) (n i : ℕ) → n ≡ 3 + i → i < 16 → byte s n ≡ byte (nameField s) i
 byte-nameField s n i e h = ap (byte s) e ∙ sym (getD-take 16 (drop 3 s) i 0 h ∙ getD-drop 3 s i 0)
+
+-- ---- neighbours that need not be asked
+
+module _ (s : Bytes) (whole : 19 ≤ length s) where
+  -- from the last byte on there are none
+  pub fits-last : {end : ℕ} → end ≡ 15 → RestFits s end
+  fits-last {end} e =
+      record { whole = whole; inside = omega arith; rest = paddedOnce-last (nameField s) end (omega (arith, length-nameField s whole)) }
+
+  -- and where the last eight bytes are $A0, by two numbers, none from the byte before them on
+  pub fits-padding : ((i : ℕ) → byte s i < 256) → {x y end : ℕ} → x ≡ fourOf s 11 → y ≡ fourOf s 15 → x ≡ 0xA0A0A0A0 → y ≡ 0xA0A0A0A0
+      → 7 ≤ end → end ≤ 15 → RestFits s end
+  fits-padding small {end = end} low high ex ey l h =
+      record { whole = whole; inside = h; rest = paddedOnce-rest (nameField s) (15 - end) end (omega (arith, length-nameField s whole)) padding }
+    where
+      padding : (j : ℕ) → end < j → j < length (nameField s) → byte (nameField s) j ≡ 0xA0
+      padding j past t =
+          let inside : j < 16 = omega (arith, length-nameField s whole) in
+          sym (byte-nameField s (3 + j) j (omega arith) inside) ∙ elim (decLe 12 j) [
+            | yes late ↦ four-padding s small 15 (sym high ∙ ey) (3 + j) (omega arith) (omega arith)
+            | no early ↦ four-padding s small 11 (sym low ∙ ex) (3 + j) (omega arith) (omega arith)
+          ]
 
 -- ---- a field against a name filled up
 

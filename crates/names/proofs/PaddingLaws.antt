@@ -1,18 +1,18 @@
 -- Bytes and $A0, the padding of names: which bytes are not $A0, and where the first $A0 is (01, The directory).
--- In order: the bytes that are not $A0; the first $A0; both where only padding follows it; the first $A0 from an index on; neighbours.
+-- In order: the bytes that are not $A0; the first $A0; both where only padding follows it; the first $A0 from an index on; neighbours; four at once.
 -- Not here: names and the field that holds one (NameLaws). Assumes nothing.
 use mathlib.Core.Path.{_≡_, refl, sym, ap, ap₂, _∙_}
 use mathlib.Core.Bool.{Bool, true, false, cond, not, _&&_, _||_, or-true}
 use mathlib.Core.List.{[], _∷_, _++_, append-nil}
-use Prim.Native.Nat.{ℕ, zero, suc, _+_, _-_, _≤_, _<_}
+use Prim.Native.Nat.{ℕ, zero, suc, _+_, _*_, _-_, _≤_, _<_}
 use native.Mathlib.Omega.{arith}
 use native.Mathlib.Numerals.{add-one}
 use lib.ListN.{length, getD, take, drop, replicate, take-append-drop, drop-of-length-le}
 use lib.Seq.{drop-cons, take-length, length-take-le}
 use lib.Dec.{eqb}
 use borrow.Author.Tests.{eq-eqb, ne-eqb, eqb-true, eqb-false}
-use Rattle.d64spec.specs.Lists.{Bytes, indicator, filter, count, equal}
-use Rattle.names.specs.Names.{nameLength, paddedOnce}
+use Rattle.d64spec.specs.Lists.{Bytes, byte, indicator, filter, count, equal}
+use Rattle.names.specs.Names.{nameLength, paddedOnce, fourOf}
 
 -- ---- the bytes that are not $A0
 
@@ -155,3 +155,31 @@ module _ (f : Bytes) (i : ℕ) (more : i + 1 < length f) where
 -- the last byte has no neighbour
 pub paddedOnce-last : (f : Bytes) (i : ℕ) → length f ≡ i + 1 → paddedOnce (drop i f) ≡ true
 paddedOnce-last f i e = rw (drop-cons f i 0 (omega arith)) (rw (drop-of-length-le f {i = suc i} (omega arith)))
+
+-- nor has any byte another one than $A0 behind it, where all that follow are $A0
+pub paddedOnce-rest : (f : Bytes) (n i : ℕ) → length f ≡ i + 1 + n → ((j : ℕ) → i < j → j < length f → getD f j 0 ≡ 0xA0) → paddedOnce (drop i f) ≡ true
+paddedOnce-rest f zero i e all = paddedOnce-last f i (omega arith)
+paddedOnce-rest f (suc n) i e all =
+    paddedOnce-padding f i (omega arith) (all (i + 1) (omega arith) (omega arith)) ∙ paddedOnce-rest f n (i + 1) (omega arith) (λ j l h. all j (omega arith) h)
+
+-- ---- four at once, as one number
+
+-- the lowest digit to the base 256, and the rest
+digit-eq : (a x y : ℕ) → a < 256 → a + 256 * x ≡ 0xA0 + 256 * y → (a ≡ 0xA0) × (x ≡ y)
+digit-eq a x y low e = (omega arith, omega arith)
+
+-- four bytes whose number is that of four $A0 are $A0
+pub four-padding : (s : Bytes) → ((i : ℕ) → byte s i < 256) → (a : ℕ) → fourOf s a ≡ 0xA0A0A0A0 → (i : ℕ) → a ≤ i → i < a + 4 → byte s i ≡ 0xA0
+unfolding fourOf
+four-padding s small a e i l h =
+    let first = digit-eq (byte s a) (byte s (a + 1) + 256 * (byte s (a + 2) + 256 * byte s (a + 3))) 0xA0A0A0 (small a) (omega arith) in
+    let second = digit-eq (byte s (a + 1)) (byte s (a + 2) + 256 * byte s (a + 3)) 0xA0A0 (small (a + 1)) (first .1) in
+    let third = digit-eq (byte s (a + 2)) (byte s (a + 3)) 0xA0 (small (a + 2)) (second .1) in
+    go (i - a) (omega arith) (omega arith) (first .0) (second .0) (third .0) (third .1)
+  where
+    go : (k : ℕ) → k < 4 → i ≡ a + k → byte s a ≡ 0xA0 → byte s (a + 1) ≡ 0xA0 → byte s (a + 2) ≡ 0xA0 → byte s (a + 3) ≡ 0xA0 → byte s i ≡ 0xA0
+    go zero b at first second third fourth = let z : i ≡ a = omega arith in rw z first
+    go (suc zero) b at first second third fourth = rw at second
+    go (suc (suc zero)) b at first second third fourth = rw at third
+    go (suc (suc (suc zero))) b at first second third fourth = rw at fourth
+    go (suc (suc (suc (suc k)))) b at first second third fourth = absurd (omega arith)

@@ -2,12 +2,12 @@
 // A slot is lent as its bytes 02 to 1F, so byte i of document 01 is at i - 2.
 // Every public function takes any slice: what it gives is the definition's value there.
 ghost use mathlib.Core.Path.{_≡_};
-ghost use Prim.Native.Nat.{_-_, _≤_};
+ghost use Prim.Native.Nat.{_+_, _-_, _≤_};
 ghost use lib.ListN.{length, drop, replicate};
 ghost use Rattle.d64spec.specs.Lists.{equal};
 ghost use Rattle.d64spec.specs.Directory.{nameField, padded, validName};
 ghost use Rattle.d64spec.specs.Reply.{validNameArgument};
-ghost use Rattle.names.specs.Names.{nameLength, paddedOnce};
+ghost use Rattle.names.specs.Names.{nameLength, paddedOnce, RestFits, fourOf};
 
 // What a name shorter than 16 bytes is filled up with.
 const PADDING: [u8; 16] = [0xA0; 16];
@@ -41,13 +41,24 @@ pub fn name_field(slot: &[u8]) -> &[u8]
     parts::clipped(slot, 3, 16)
 }
 
-// Whether no other byte stands behind a $A0 in a slot's name: two neighbours are asked at a time.
-fn padded_once(slot: &[u8]) -> bool
-    requires { ⌜ 19 ≤ length (now slot) ⌝ }
+// The number of four bytes, low byte first: one load.
+fn four(bytes: &[u8], at: usize) -> u32
+    requires { ⌜ at + 4 ≤ length (now bytes) ⌝ }
+    ensures { λ r. ⌜ r ≡ fourOf (now (bytes .entry)) at ⌝ }
+{
+    bytes[at] as u32
+        + 256 * (bytes[at + 1] as u32)
+        + 65536 * (bytes[at + 2] as u32)
+        + 16777216 * (bytes[at + 3] as u32)
+}
+
+// Whether no other byte stands behind a $A0 in a slot's name, where none does from byte `end` of the name on: two neighbours are asked at a time.
+fn neighbours_fit(slot: &[u8], end: usize) -> bool
+    requires { ⌜ RestFits (now slot) end ⌝ }
     ensures { λ r. ⌜ r ≡ paddedOnce (nameField (now (slot .entry))) ⌝ }
 {
     let mut i: usize = 0;
-    while i < 15 {
+    while i < end {
         if slot[i + 3] == 0xA0 {
             if slot[i + 4] != 0xA0 {
                 return false;
@@ -56,6 +67,19 @@ fn padded_once(slot: &[u8]) -> bool
         i += 1;
     }
     true
+}
+
+// Whether no other byte stands behind a $A0 in a slot's name. Where its last eight bytes are $A0, as in most names, only seven pairs are left to ask.
+fn padded_once(slot: &[u8]) -> bool
+    requires { ⌜ 19 ≤ length (now slot) ⌝ }
+    ensures { λ r. ⌜ r ≡ paddedOnce (nameField (now (slot .entry))) ⌝ }
+{
+    if four(slot, 11) == 0xA0A0A0A0 {
+        if four(slot, 15) == 0xA0A0A0A0 {
+            return neighbours_fit(slot, 7);
+        }
+    }
+    neighbours_fit(slot, 15)
 }
 
 // Whether a slot's name keeps the rule: 1 to 16 bytes that are not $A0, then only $A0.

@@ -1,75 +1,32 @@
--- `mapcheck::survey`. The loop keeps `Surveying`: the bits and the count of the sectors passed. What falls is the number of sectors not yet passed.
--- Assumes nothing.
-use Prim.Native.Nat.{_-_}
+-- `mapcheck::survey`: where nobody owns a sector of the track, its bits are all set; else they are asked one by one. Assumes nothing.
+use mathlib.Core.Path.{sym, _∙_}
 use native.Mathlib.Omega.{arith}
-use mathlib.Core.Logic.{⊎-elim}
 use borrow.Author.Needs.{needs}
-use Rattle.mapcheck.proofs.SurveyLaws.{Surveying, surveying-start, surveying-mask-lt, surveying-count-le, surveying-free, surveying-owned, surveying-finished, shifted}
+use borrow.Author.Tests.{eqb-true}
+use Rattle.mapcheck.proofs.SurveyLaws.{surveyed-all, shifted, power-pos}
 use Rattle.mapcheck.proofs.survey.Statement.{statement}
 use Rattle.mapcheck.proofs.survey.Tie as tie
 
-abbrev Inv-loop : tie.InvT-loop
-Inv-loop own first sectors mask₀ count₀ s₀ mask count s = Surveying own first sectors mask count s
+untouched-requires : tie.Need-untouched-requires
+untouched-requires c κs = search needs
 
-abbrev μ-loop : tie.MeasureT-loop
-μ-loop own first sectors mask₀ count₀ s₀ mask count s = sectors - s
+shl-t9 : tie.Need-shl-t9
+shl-t9 c = search needs
 
-loop-holds : tie.Need-loop-holds Inv-loop μ-loop
-loop-holds c = surveying-start _ _ _
+sub-t10 : tie.Need-sub-t10
+sub-t10 c = let n = c .before .before .before .args .sectors in omega (arith, shifted n (omega arith), power-pos n)
 
-cast-if1 : tie.Need-cast-if1 Inv-loop μ-loop
-cast-if1 c = search needs
+returns : tie.Need-returns
+returns c =
+    let n = c .before .before .before .args .sectors in
+    surveyed-all (eqb-true _ n (sym (c .before .untouched .ensures) ∙ c .if1 .taken)) (omega (arith, shifted n (omega arith))) (omega arith)
 
-add-if1 : tie.Need-add-if1 Inv-loop μ-loop
-add-if1 c = search needs
+survey-each-requires : tie.Need-survey-each-requires
+survey-each-requires c κs = search needs
 
-element-copy-out-if1 : tie.Need-element-copy-out-if1 Inv-loop μ-loop
-element-copy-out-if1 c = search needs
-
-cast-mask : tie.Need-cast-mask Inv-loop μ-loop
-cast-mask c = search needs
-
-shl-mask : tie.Need-shl-mask Inv-loop μ-loop
-shl-mask c = search needs
-
-add-mask : tie.Need-add-mask Inv-loop μ-loop
-add-mask c =
-    let l = c .before .before .before .loop in
-    omega (arith, shifted (l .s) (omega arith), surveying-mask-lt (l .inv) (omega arith))
-
-add-count : tie.Need-add-count Inv-loop μ-loop
-add-count c = omega (arith, surveying-count-le (c .before .before .before .loop .inv))
-
-add-s : tie.Need-add-s Inv-loop μ-loop
-add-s c = search needs
-
-loop-less : tie.Need-loop-less Inv-loop μ-loop
-loop-less c = search needs
-
-loop-again : tie.Need-loop-again Inv-loop μ-loop
-loop-again c =
-    let l = c .before .before .before .loop in
-    ⊎-elim (λ w. surveying-free (l .inv) (omega arith) (omega (arith, w .0 .taken)) (omega (arith, w .1, shifted (l .s) (omega arith))) (omega (arith, w .2)))
-    (λ w. surveying-owned (l .inv) (omega arith) (w .0 .left) (omega (arith, w .1)) (omega (arith, w .2))) (c .if1 .came)
-
-returns : tie.Need-returns Inv-loop μ-loop
-returns c = surveying-finished (c .before .loop .inv) (omega arith)
+returns-2 : tie.Need-returns-2
+returns-2 c = search needs
 
 pub survey-spec : {M : Type 1} → statement M
 survey-spec =
-    tie.close
-    (tie.spec
-    Inv-loop
-    μ-loop
-    loop-holds
-    cast-if1
-    add-if1
-    element-copy-out-if1
-    cast-mask
-    shl-mask
-    add-mask
-    add-count
-    add-s
-    loop-less
-    loop-again
-    returns)
+    tie.close (tie.spec untouched-requires shl-t9 sub-t10 returns survey-each-requires returns-2)

@@ -1,94 +1,38 @@
--- `names::padded_once` meets its contract. The loop keeps: no other byte stands behind a $A0 up to here, so that the neighbours from here on decide.
--- What falls is the number of bytes left. Assumes nothing.
-use mathlib.Core.Path.{_≡_, refl, sym, _∙_}
-use mathlib.Core.Logic.{inl, inr}
-use Prim.Native.Nat.{ℕ, _+_, _-_, _≤_, _<_}
+-- `names::padded_once` meets its contract: the neighbours that are not asked need not be, so that those asked decide. Assumes nothing.
 use native.Mathlib.Omega.{arith}
-use lib.ListN.{length, drop}
 use borrow.Author.Needs.{needs}
-use Rattle.d64spec.specs.Lists.{Bytes, byte}
-use Rattle.d64spec.specs.Directory.{nameField}
-use Rattle.names.specs.Names.{paddedOnce}
-use Rattle.names.proofs.PaddingLaws.{paddedOnce-letter, paddedOnce-padding, paddedOnce-broken, paddedOnce-last}
-use Rattle.names.proofs.NameLaws.{length-nameField, byte-nameField}
+use Rattle.names.proofs.NameLaws.{fits-last, fits-padding}
 use Rattle.names.proofs.padded_once.Statement.{statement}
 use Rattle.names.proofs.padded_once.Tie as tie
 
-abbrev Inv-loop : tie.InvT-loop
-Inv-loop slot i₀ i = (i ≤ 15) × (paddedOnce (drop i (nameField slot)) ≡ paddedOnce (nameField slot))
+four-requires : tie.Need-four-requires
+four-requires c κs = search needs
 
-abbrev μ-loop : tie.MeasureT-loop
-μ-loop slot i₀ i = 15 - i
+four-requires-2 : tie.Need-four-requires-2
+four-requires-2 c κs = search needs
 
--- two neighbours of a name
-record Neighbours (s : Bytes) (i : ℕ) : Type 0 where
-  more : i + 1 < length (nameField s)
-  here : byte (nameField s) i ≡ byte s (i + 3)
-  next : byte (nameField s) (i + 1) ≡ byte s (i + 4)
+neighbours-fit-requires : tie.Need-neighbours-fit-requires
+neighbours-fit-requires c κs =
+    let k = c .before .before .before .before in
+    fits-padding _ (k .before .pre) (λ i. omega (arith, k .shared-slice-known .given i))
+    (c .before .before .before .four .ensures) (c .before .four2 .ensures) (c .before .before .if1 .taken) (c .if2 .taken) (omega arith) (omega arith)
 
-neighbours : (s : Bytes) (i : ℕ) → 19 ≤ length s → i < 15 → Neighbours s i
-neighbours s i whole h = record {
-  more = omega (arith, length-nameField s whole);
-  here = sym (byte-nameField s (i + 3) i (omega arith) (omega arith));
-  next = sym (byte-nameField s (i + 4) (i + 1) (omega arith) (omega arith));
-}
+returns : tie.Need-returns
+returns c = c .neighbours-fit .ensures
 
-loop-holds : tie.Need-loop-holds Inv-loop μ-loop
-loop-holds c = (omega arith, refl)
+neighbours-fit-requires-2 : tie.Need-neighbours-fit-requires-2
+neighbours-fit-requires-2 c κs = fits-last _ (c .before .before .before .pre) (omega arith)
 
-add-if1 : tie.Need-add-if1 Inv-loop μ-loop
-add-if1 c = search needs
-
-shared-slice-read-if1 : tie.Need-shared-slice-read-if1 Inv-loop μ-loop
-shared-slice-read-if1 c = search needs
-
-add-if2 : tie.Need-add-if2 Inv-loop μ-loop
-add-if2 c = search needs
-
-shared-slice-read-if2 : tie.Need-shared-slice-read-if2 Inv-loop μ-loop
-shared-slice-read-if2 c = search needs
-
-returns : tie.Need-returns Inv-loop μ-loop
-returns c =
-    let l = c .before .before .before .before .before in
-    let n = neighbours (l .before .args .slot .now) (l .loop .i) (l .before .pre) (omega arith) in
-    sym (paddedOnce-broken _ (l .loop .i) (n .more) (omega arith) (λ e. omega arith)) ∙ l .loop .inv .1
-
-add-i : tie.Need-add-i Inv-loop μ-loop
-add-i c = search needs
-
-loop-less : tie.Need-loop-less Inv-loop μ-loop
-loop-less c = search needs
-
-loop-again : tie.Need-loop-again Inv-loop μ-loop
-loop-again c =
-    let l = c .before .before .before in
-    let n = neighbours (l .before .args .slot .now) (l .loop .i) (l .before .pre) (omega arith) in (
-      omega arith,
-      elim (c .if1 .came) [
-        | inl padding ↦ let e = padding .2 .left in sym (paddedOnce-padding _ (l .loop .i) (n .more) (omega arith)) ∙ l .loop .inv .1
-        | inr letter ↦ let e = letter .left in sym (paddedOnce-letter _ (l .loop .i) (n .more) (λ z. omega arith)) ∙ l .loop .inv .1
-      ],
-    )
-
-returns-2 : tie.Need-returns-2 Inv-loop μ-loop
-returns-2 c =
-    let l = c .before in
-    sym (paddedOnce-last _ (l .loop .i) (omega (arith, length-nameField (l .before .args .slot .now) (l .before .pre)))) ∙ l .loop .inv .1
+returns-2 : tie.Need-returns-2
+returns-2 c = c .neighbours-fit2 .ensures
 
 pub padded-once-spec : {M : Type 1} → statement M
 padded-once-spec =
     tie.close
     (tie.spec
-    Inv-loop
-    μ-loop
-    loop-holds
-    add-if1
-    shared-slice-read-if1
-    add-if2
-    shared-slice-read-if2
+    four-requires
+    four-requires-2
+    neighbours-fit-requires
     returns
-    add-i
-    loop-less
-    loop-again
+    neighbours-fit-requires-2
     returns-2)

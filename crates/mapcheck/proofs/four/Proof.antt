@@ -1,0 +1,98 @@
+-- `mapcheck::four` meets its contract: the digits are bytes, so that nothing wraps. Assumes nothing.
+use Prim.Native.Nat.{ℕ, _+_, _<_}
+use native.Mathlib.Omega.{arith}
+use borrow.Author.Needs.{needs}
+use mathlib.Core.List.{List}
+use lib.ListN.{getD}
+use Rattle.mapcheck.proofs.four.Statement.{statement}
+use Rattle.mapcheck.proofs.four.Tie as tie
+
+-- the four digits
+record Digits (b : List ℕ) (a : ℕ) : Type 0 where
+  first : getD b a 0 < 256
+  second : getD b (a + 1) 0 < 256
+  third : getD b (a + 2) 0 < 256
+  fourth : getD b (a + 3) 0 < 256
+
+digits : (c : tie.After-shared-slice-known) → Digits (c .before .args .own .now) (c .before .args .at)
+digits c =
+    let a = c .before .args .at in
+    let known = c .shared-slice-known .given in
+    record { first = omega (arith, known a); second = omega (arith, known (a + 1)); third = omega (arith, known (a + 2)); fourth = omega (arith, known (a + 3)) }
+
+shared-slice-read-result : tie.Need-shared-slice-read-result
+shared-slice-read-result c = search needs
+
+cast-result : tie.Need-cast-result
+cast-result c = let d = digits c in omega arith
+
+add-result : tie.Need-add-result
+add-result c = search needs
+
+shared-slice-read-result-2 : tie.Need-shared-slice-read-result-2
+shared-slice-read-result-2 c = search needs
+
+cast-result-2 : tie.Need-cast-result-2
+cast-result-2 c = let d = digits (c .before) in omega arith
+
+mul-result : tie.Need-mul-result
+mul-result c = let d = digits (c .before) in omega arith
+
+add-result-2 : tie.Need-add-result-2
+add-result-2 c = let d = digits (c .before) in omega arith
+
+add-result-3 : tie.Need-add-result-3
+add-result-3 c = search needs
+
+shared-slice-read-result-3 : tie.Need-shared-slice-read-result-3
+shared-slice-read-result-3 c = search needs
+
+cast-result-3 : tie.Need-cast-result-3
+cast-result-3 c = let d = digits (c .before .before) in omega arith
+
+mul-result-2 : tie.Need-mul-result-2
+mul-result-2 c = let d = digits (c .before .before) in omega arith
+
+add-result-4 : tie.Need-add-result-4
+add-result-4 c = let d = digits (c .before .before) in omega arith
+
+add-result-5 : tie.Need-add-result-5
+add-result-5 c = search needs
+
+shared-slice-read-result-4 : tie.Need-shared-slice-read-result-4
+shared-slice-read-result-4 c = search needs
+
+cast-result-4 : tie.Need-cast-result-4
+cast-result-4 c = let d = digits (c .before .before .before) in omega arith
+
+mul-result-3 : tie.Need-mul-result-3
+mul-result-3 c = let d = digits (c .before .before .before) in omega arith
+
+add-result-6 : tie.Need-add-result-6
+add-result-6 c = let d = digits (c .before .before .before) in omega arith
+
+returns : tie.Need-returns
+returns c = let d = digits (c .before .before .before) in record { value = omega arith; small = omega arith }
+
+pub four-spec : {M : Type 1} → statement M
+four-spec =
+    tie.close
+    (tie.spec
+    shared-slice-read-result
+    cast-result
+    add-result
+    shared-slice-read-result-2
+    cast-result-2
+    mul-result
+    add-result-2
+    add-result-3
+    shared-slice-read-result-3
+    cast-result-3
+    mul-result-2
+    add-result-4
+    add-result-5
+    shared-slice-read-result-4
+    cast-result-4
+    mul-result-3
+    add-result-6
+    returns)
