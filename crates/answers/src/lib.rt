@@ -76,6 +76,24 @@ fn placed(number: u8, at: Place) -> Answer
     }
 }
 
+// What a call reports where it has no length and no sectors to tell: 0 and 0.
+pub fn report_of(verdict: Verdict) -> Report
+    ensures { λ r. ⌜ r ≡ record { verdict = verdict; length = 0; sectors = 0 } ⌝ }
+{
+    Report {
+        verdict,
+        length: 0,
+        sectors: 0,
+    }
+}
+
+// A refused call's report: length 0 and 0 sectors.
+pub fn refuse(fault: Fault) -> Report
+    ensures { λ r. ⌜ r ≡ record { verdict = Verdict.Refused fault; length = 0; sectors = 0 } ⌝ }
+{
+    report_of(Verdict::Refused(fault))
+}
+
 // The answer of a fault: document 01's number, and the fault's place.
 pub fn answer_of(fault: Fault) -> Answer
     ensures { λ r. ⌜ meant r ≡ answerOf (faultOf fault) ⌝ }

@@ -9,7 +9,6 @@ ghost use Rattle.reading.specs.Replies.{informationOf};
 ghost use Rattle.d64.specs.HostForms.{entryBytes, hostTell, hostListing};
 ghost use Rattle.d64.specs.HostCalls.{HostServed, EntryGiven};
 use answers::Fault;
-use answers::Report;
 use answers::Verdict;
 use reading::FileInformation;
 
@@ -17,17 +16,6 @@ use reading::FileInformation;
 const BLOCK_BYTES: usize = 9;
 // The number of a refusal for a block of any other size.
 const WRONG_BUFFER: u32 = 16;
-
-// A report of length 0 and 0 sectors.
-fn report_of(verdict: Verdict) -> Report
-    ensures { λ r. ⌜ r ≡ record { verdict = verdict; length = 0; sectors = 0 } ⌝ }
-{
-    Report {
-        verdict,
-        length: 0,
-        sectors: 0,
-    }
-}
 
 // Checks the image: the first fault of steps 1 to 4 with its place, or 0. It reports length 0 and 0 sectors.
 #[no_mangle]
@@ -39,7 +27,7 @@ pub extern "C" fn d64_check(image: &[u8], answer: &mut [u8]) -> u32
     }
     let checked = diskcheck::check_image(image);
     let verdict = checked.verdict;
-    let report = report_of(verdict);
+    let report = answers::report_of(verdict);
     answers::give_answer(report, answer)
 }
 
@@ -127,7 +115,7 @@ pub extern "C" fn d64_tell(
     let information = told.information;
     let filled = entry_bytes(information);
     let given = give_entry(verdict, &filled, entry);
-    let report = report_of(given);
+    let report = answers::report_of(given);
     answers::give_answer(report, answer)
 }
 

@@ -16,7 +16,7 @@ use Rattle.d64spec.specs.Chain.{Link, to, bad, linkTo, decodeFileLink, fileLink
 use Rattle.d64spec.proofs.BoundLaws.{sectorNumber-lt, fileLink-on, linkTo-on}
 use Rattle.d64spec.proofs.RunTheorem.{sectors35}
 use Rattle.sectors.proofs.SectorLaws.{byte-disk, byte-disk-first}
-use Rattle.geometry.specs.Layout.{addressOf, onDiskBy, numberBy}
+use Rattle.geometry.specs.Layout.{addressOf, onDiskBy, numberBy, IsCounts, IsFirsts}
 use Rattle.geometry.specs.declared.Address.{Address as CodeAddress}
 use Rattle.geometry.proofs.LentTableLaws.{tracks-of-onDisk}
 use Rattle.links.proofs.LinkLaws.{file-ends, file-bad, file-to}
@@ -28,7 +28,7 @@ use Rattle.owners.proofs.TableLaws.{freeCount, freeCount-le}
 use Rattle.owners.proofs.Walking.{Walking, walking-start, walking-ends, walking-bad, walking-owned, walking-moved, walking-fewer}
 use Rattle.diskcheck.specs.declared.chain.Claim as claims
 use Rattle.diskcheck.specs.declared.chain.Claim.the-variants as claim
-use Rattle.diskcheck.specs.Chains.{Claimed, claimOf, claimed, claimOff, chainWalk, Ready, IsCounts, IsFirsts}
+use Rattle.diskcheck.specs.Chains.{Claimed, claimOf, claimed, claimOff, chainWalk, Ready}
 
 -- ---- the links on the way
 

@@ -2,16 +2,15 @@
 -- In order: what a claim answers; the definition's walk with the table after it; what the loop may rely on. Laws: proofs/ChainLaws.
 use Prim.Native.Nat.{ℕ, _≤_}
 use mathlib.Core.Path.{_≡_}
-use mathlib.Core.Bool.{true, cond, _&&_}
+use mathlib.Core.Bool.{cond, _&&_}
 use mathlib.Core.List.{List, map}
 use lib.ListN.{length}
 use lib.Dec.{eqb, ltb}
 use Rattle.d64spec.specs.Lists.{Bytes}
 use Rattle.d64spec.specs.Answers.{Address, Result, refused, done}
-use Rattle.d64spec.specs.Geometry.{layout35, sectorNumber, onDisk}
+use Rattle.d64spec.specs.Geometry.{layout35, sectorNumber}
 use Rattle.d64spec.specs.Image.{disk}
 use Rattle.d64spec.specs.Chain.{linkTo, fileLink, steps, walk}
-use Rattle.geometry.specs.Layout.{onDiskBy, numberBy}
 use Rattle.answers.specs.declared.Place.{Place}
 use Rattle.answers.specs.declared.Fault.the-variants.{BadLink}
 use Rattle.answers.specs.Faults.{faultOf}
@@ -48,11 +47,3 @@ pub record Ready (img own : List ℕ) (id : ℕ) : Type 0 where
   pub size : length img ≡ 174848
   pub long : length own ≡ 683
   pub owner : 1 ≤ id
-
--- the layout's own table of each track's sectors (01, Tracks and sectors)
-pub record IsCounts (l : List ℕ) : Type 0 where
-  pub agrees : (r : Address) → onDiskBy l r ≡ onDisk layout35 r
-
--- the layout's own table of each track's first sector number (01, Tracks and sectors)
-pub record IsFirsts (l : List ℕ) : Type 0 where
-  pub agrees : (r : Address) → onDisk layout35 r ≡ true → numberBy l r ≡ sectorNumber layout35 r

@@ -1,7 +1,7 @@
 // A file's chain, claimed sector by sector in the owner table (01, Chains; Order of the check, 3).
 ghost use mathlib.Core.Path.{_≡_};
-ghost use Rattle.geometry.specs.Layout.{addressOf};
-ghost use Rattle.diskcheck.specs.Chains.{claimOf, claimed, chainWalk, claimOff, Ready, IsCounts, IsFirsts};
+ghost use Rattle.geometry.specs.Layout.{addressOf, IsCounts, IsFirsts};
+ghost use Rattle.diskcheck.specs.Chains.{claimOf, claimed, chainWalk, claimOff, Ready};
 use answers::Fault;
 use answers::Place;
 use geometry::Address;

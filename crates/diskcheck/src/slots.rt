@@ -4,7 +4,7 @@ ghost use Prim.Native.Nat.{_*_, _<_};
 ghost use lib.ListN.{length};
 ghost use Rattle.d64spec.specs.Lists.{All};
 ghost use Rattle.answers.specs.Faults.{sectorOf, whereFine};
-ghost use Rattle.diskcheck.specs.Chains.{IsCounts, IsFirsts};
+ghost use Rattle.geometry.specs.Layout.{IsCounts, IsFirsts};
 ghost use Rattle.diskcheck.specs.SlotChecks.{FileReady, fileStep, occupiedStep, LentSlot, SlotReady, slotStep, SlotsReady, slotsStep};
 use crate::chain::Claim;
 use answers::Fault;

@@ -9,7 +9,7 @@ use lib.ListN.{length, getD, List·getD-eq-default}
 use borrow.Author.Tests.{ltb-true}
 use Rattle.d64spec.specs.Answers.{Address}
 use Rattle.d64spec.specs.Geometry.{layout35, sectorsOn, onDisk, sectorNumber}
-use Rattle.geometry.specs.Layout.{entryBy, onDiskBy, numberBy}
+use Rattle.geometry.specs.Layout.{entryBy, onDiskBy, numberBy, IsCounts, IsFirsts}
 use Rattle.geometry.proofs.Tables.{counts, firsts}
 use Rattle.geometry.proofs.TableLaws.{count-none, count-past, first-at}
 
@@ -46,3 +46,10 @@ unfolding numberBy sectorNumber
 numberBy-firsts r on =
     let k = tracks-of-onDisk r on in
     ap (λ (x : ℕ). x + r .sector) (entryBy-at firsts (r .track) (k .0) ∙ sym (first-at (r .track) (k .0) (k .1)))
+
+-- THE LAYOUT'S OWN TABLES
+pub counts35 : IsCounts counts
+counts35 = record { agrees = onDiskBy-counts }
+
+pub firsts35 : IsFirsts firsts
+firsts35 = record { agrees = numberBy-firsts }

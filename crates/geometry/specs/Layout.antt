@@ -36,3 +36,11 @@ onDiskBy counts r = ltb (r .sector) (entryBy counts (r .track))
 -- a sector's number, by a table of each track's first sector number from track 1 on
 unfoldable pub numberBy : List ℕ → DiskAddress → ℕ
 numberBy firsts r = entryBy firsts (r .track) + r .sector
+
+-- a table of each track's sectors as the layout has it (01, Tracks and sectors)
+pub record IsCounts (l : List ℕ) : Type 0 where
+  pub agrees : (r : DiskAddress) → onDiskBy l r ≡ onDisk layout35 r
+
+-- a table of each track's first sector number as the layout has it, where it is asked for sectors of the disk (01, Tracks and sectors)
+pub record IsFirsts (l : List ℕ) : Type 0 where
+  pub agrees : (r : DiskAddress) → onDisk layout35 r ≡ true → numberBy l r ≡ sectorNumber layout35 r

@@ -16,10 +16,8 @@ use Rattle.d64spec.proofs.ChainLaws.{chain-follow}
 use Rattle.d64spec.proofs.RunTheorem.{sectors35}
 use Rattle.sectors.proofs.SectorLaws.{byte-disk, byte-disk-first}
 use Rattle.links.proofs.LinkLaws.{file-bad, file-ends, file-to}
-use Rattle.geometry.specs.Layout.{numberBy}
-use Rattle.geometry.proofs.Tables.{firsts}
-use Rattle.geometry.proofs.LentTableLaws.{numberBy-firsts}
-use Rattle.reading.specs.ChainReads.{sectorsFrom, ChainFrom, NumbersSectors}
+use Rattle.geometry.specs.Layout.{numberBy, IsFirsts}
+use Rattle.reading.specs.ChainReads.{sectorsFrom, ChainFrom}
 
 pub follow-length : (g : Geometry) (link : Bytes → Link) (d : Disk) (n : ℕ) (k : Link) → length (follow g link d n k) ≤ n
 follow-length g link d zero k = omega arith
@@ -56,10 +54,6 @@ module _ (g : Geometry) (link : Bytes → Link) (d : Disk) where
       let same : q ≡ r = cc in
       (l, ap (λ (x : Address). x ∷ l) same, rw same at (c .1))
 
--- the layout's own table gives each sector its number
-pub numbers35 : NumbersSectors firsts
-numbers35 = record { number = numberBy-firsts }
-
 -- ---- the step
 
 -- n is the number of the sector r, which lies whole in the image, and whose two link bytes are read there
@@ -83,9 +77,9 @@ module _ {img : Bytes} {r : Address} (c : ChainFrom img r) where
   number-lt = omega (arith, sectorNumber-lt layout35 r (c .on), sectors35)
 
   -- the sector at hand, by a table of the tracks' first numbers
-  pub visited : {firsts : List ℕ} {n : ℕ} → NumbersSectors firsts → n ≡ numberBy firsts r → Visited img r n
+  pub visited : {firsts : List ℕ} {n : ℕ} → IsFirsts firsts → n ≡ numberBy firsts r → Visited img r n
   visited {firsts} {n} numbers e =
-      let is : n ≡ sectorNumber layout35 r = e ∙ numbers .number r (c .on) in
+      let is : n ≡ sectorNumber layout35 r = e ∙ numbers .agrees r (c .on) in
       record {
         number = is;
         inside = omega (arith, number-lt, c .size);

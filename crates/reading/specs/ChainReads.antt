@@ -11,7 +11,7 @@ use Rattle.d64spec.specs.Geometry.{layout35, sectorNumber, onDisk}
 use Rattle.d64spec.specs.Image.{disk}
 use Rattle.d64spec.specs.Chain.{to, fileLink, steps, Chain, follow, chainData}
 use Rattle.d64spec.specs.Store.{lastOf}
-use Rattle.geometry.specs.Layout.{numberBy}
+use Rattle.geometry.specs.Layout.{IsFirsts}
 use Rattle.reading.specs.declared.copying.Copied.{Copied}
 
 -- the sectors met along the links from the sector r on (01, Chains)
@@ -32,14 +32,10 @@ pub record ChainFrom (img : Bytes) (r : Address) : Type 0 where
   pub on : onDisk layout35 r ≡ true
   pub chain : Chain layout35 (fileLink layout35) (disk img) (to r) (sectorsFrom img r)
 
--- a table that gives each sector of the disk its number (01, Tracks and sectors)
-pub record NumbersSectors (firsts : List ℕ) : Type 0 where
-  pub number : (r : Address) → onDisk layout35 r ≡ true → numberBy firsts r ≡ sectorNumber layout35 r
-
 -- what the walk for the last byte relies on
 pub record WalkReady (img firsts : List ℕ) (r : Address) : Type 0 where
   pub chain : ChainFrom img r
-  pub numbers : NumbersSectors firsts
+  pub numbers : IsFirsts firsts
 
 -- besides, the output has room for the chain's data
 pub record CopyFits (img out : Bytes) (r : Address) : Type 0 where
@@ -49,7 +45,7 @@ pub record CopyFits (img out : Bytes) (r : Address) : Type 0 where
 -- what the copy relies on
 pub record CopyReady (img out firsts : List ℕ) (r : Address) : Type 0 where
   pub fits : CopyFits img out r
-  pub numbers : NumbersSectors firsts
+  pub numbers : IsFirsts firsts
 
 -- `size` bytes behind the link of the sector that starts at byte `start` lie in the image, and as many from index `at` on in the output
 pub record DataFits (img out : Bytes) (start size at : ℕ) : Type 0 where

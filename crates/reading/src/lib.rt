@@ -33,17 +33,6 @@ pub struct Told {
     pub information: FileInformation,
 }
 
-// A report of a refusal: length 0 and 0 sectors.
-fn refuse(fault: Fault) -> Report
-    ensures { λ r. ⌜ r ≡ record { verdict = Verdict.Refused fault; length = 0; sectors = 0 } ⌝ }
-{
-    Report {
-        verdict: Verdict::Refused(fault),
-        length: 0,
-        sectors: 0,
-    }
-}
-
 // A refused tell: all zero.
 fn tell_nothing(fault: Fault) -> Told
     ensures { λ r. ⌜ r ≡ record { verdict = Verdict.Refused fault; information = nothingTold } ⌝ }
@@ -75,7 +64,7 @@ fn read_slot(img: &[u8], slot: &[u8], out: &mut [u8]) -> Report
     if out.len() < 254 * count {
         let last = copying::last_byte(img, first) as usize;
         if out.len() < 254 * (count - 1) + last - 1 {
-            return refuse(Fault::WrongBuffer);
+            return answers::refuse(Fault::WrongBuffer);
         }
     }
     let copied = copying::copy_chain(img, first, out);
@@ -94,7 +83,7 @@ fn read_found(img: &[u8], name: &[u8], sectors: &[u8; 18], end: usize, out: &mut
     let track18 = &img[91392..96256];
     let k = finding::find_named(track18, sectors, name, end);
     if k == end {
-        return refuse(Fault::NotFound);
+        return answers::refuse(Fault::NotFound);
     }
     read_slot(img, directory::slot_at(track18, sectors, k), out)
 }
@@ -105,15 +94,15 @@ pub fn read_file(img: &[u8], name: &[u8], out: &mut [u8]) -> Report
     ensures { λ r. ⌜ replyOf r (now (img .entry)) (now (out .exit)) ≡ perform layout35 (now (img .entry)) (read (now (name .entry)) (now (out .entry))) ⌝ }
 {
     if img.len() != 174848 {
-        return refuse(Fault::WrongSize);
+        return answers::refuse(Fault::WrongSize);
     }
     if !names::valid_name_argument(name) {
-        return refuse(Fault::BadNameArgument);
+        return answers::refuse(Fault::BadNameArgument);
     }
     let checked = diskcheck::check_image(img);
     let verdict = checked.verdict;
     match verdict {
-        Verdict::Refused(fault) => refuse(fault),
+        Verdict::Refused(fault) => answers::refuse(fault),
         Verdict::Fine => read_found(img, name, &checked.sectors, 8 * checked.count, out),
     }
 }

@@ -18,7 +18,6 @@ use Rattle.d64spec.specs.Listing.{listSlots}
 use Rattle.d64spec.proofs.ResultLaws.{need-done, need-true}
 use Rattle.answers.specs.Faults.{faultOf, verdictOf, whereFine}
 use Rattle.answers.specs.declared.Fault.{Fault}
-use Rattle.answers.specs.declared.Verdict.{Verdict}
 use Rattle.answers.specs.declared.Verdict.the-variants.{Fine, Refused}
 use Rattle.directory.specs.Directories.{IsSlot, slotAt, slotBytes, namesBelow, firstRepeated, entryVerdict}
 use Rattle.directory.proofs.RepeatLaws.{ValidBelow, firstRepeated-le, past-empty}
@@ -106,9 +105,9 @@ module _ {b : Bytes} {ss : List ℕ} {end files k : ℕ} (w : Counting b ss end 
           sym (w .found) ∙ ap (listSlots (namesBelow b ss k)) (occupied-here b ss h occupied)
           ∙ ap₂ (λ (v : Result (Unit {0})) (names : List Bytes). v >> listSlots names (occupiedFrom b ss (k + 1) (end - (k + 1)))) asked (sym (names-here b ss k occupied))
 
-      pub counting-refused : (f : Fault) {v : Verdict} → v ≡ Refused f → verdictOf v ≡ entryVerdict s (address 18 (getD ss (k / 8) 0)) k (eqb k repeated) → SlotsCounted (occupiedFrom b ss 0 end) end (record { verdict = v; files = files })
+      pub counting-refused : (f : Fault) → verdictOf (Refused f) ≡ entryVerdict s (address 18 (getD ss (k / 8) 0)) k (eqb k repeated) → SlotsCounted (occupiedFrom b ss 0 end) end (record { verdict = Refused f; files = files })
       unfolding verdictOf whereFine countSlots
-      counting-refused f fault e = record { counted = rw (listed, sym e, fault); few = omega (arith, w .small) }
+      counting-refused f e = record { counted = rw (listed, sym e); few = omega (arith, w .small) }
 
       pub counting-moved : verdictOf Fine ≡ entryVerdict s (address 18 (getD ss (k / 8) 0)) k (eqb k repeated) → {files′ : ℕ} → files′ ≡ files + 1 → Counting b ss end files′ (k + 1)
       unfolding verdictOf

@@ -13,6 +13,7 @@ use Rattle.d64spec.specs.Listing.{line, slotFrame}
 use Rattle.d64spec.proofs.ListingLaws.{line-length}
 use Rattle.directory.specs.Directories.{slotAt, slotBytes}
 use Rattle.directory.proofs.SlotBytesLaws.{isSlot-part, slotBytes-part}
+use Rattle.directory.proofs.SearchLaws.{sector-lt}
 use Rattle.sleeve.specs.Texts.{occupiedFrom, linesOf}
 
 -- ---- slot k and those behind it
@@ -59,14 +60,9 @@ lines-cons s l = refl
 
 -- ---- all lines
 
-all-at : (l : List ℕ) → All (λ s. s < 19) l → (i : ℕ) → getD l i 0 < 19
-all-at [] a i = omega arith
-all-at (x ∷ l) a zero = a .0
-all-at (x ∷ l) a (suc i) = all-at l (a .1) i
-
 module _ (b : Bytes) (ss : List ℕ) (whole : length b ≡ 4864) (inside : All (λ s. s < 19) ss) where
   pub length-slot : (k : ℕ) → length (slotBytes b ss k) ≡ 30
-  length-slot k = ap length (sym (slotBytes-part b ss k)) ∙ isSlot-part b ss k .full whole (all-at ss inside (k / 8))
+  length-slot k = ap length (sym (slotBytes-part b ss k)) ∙ isSlot-part b ss k .full whole (sector-lt ss inside (k / 8))
 
   none : (k : ℕ) → length (linesOf (occupiedFrom b ss k 0)) ≡ 43 * length (occupiedFrom b ss k 0)
   unfolding linesOf occupiedFrom

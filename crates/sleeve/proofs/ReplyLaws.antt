@@ -20,7 +20,6 @@ use Rattle.answers.specs.Faults.{answerTo, faultOf, verdictOf, whereFine}
 use Rattle.answers.specs.declared.Fault.{Fault}
 use Rattle.answers.specs.declared.Fault.the-variants.{WrongBuffer}
 use Rattle.answers.specs.declared.Report.{Report}
-use Rattle.answers.specs.declared.Verdict.{Verdict}
 use Rattle.answers.specs.declared.Verdict.the-variants.{Fine, Refused}
 use Rattle.directory.specs.Directories.{DirectoryRead, sectorCount, sectorsOf, trackDirectory}
 use Rattle.directory.specs.declared.Directory.{Directory}
@@ -31,8 +30,8 @@ use Rattle.sleeve.specs.Sleeves.{SleeveListed}
 use Rattle.sleeve.proofs.TextLaws.{length-text}
 
 -- a refusal's report
-abbrev pub refusal : Verdict → Report
-refusal v = record { verdict = v; length = 0; sectors = 0 }
+abbrev pub refusal : Fault → Report
+refusal f = record { verdict = Refused f; length = 0; sectors = 0 }
 
 -- ---- slots
 
@@ -47,37 +46,41 @@ module _ (b : Bytes) (l : List Slot) (text : Bytes) where
   listing = listingText layout35 (diskOfTrack18 layout35 b) l
 
   -- a slot's fault
-  pub listed-refused : (f : Fault) {v : Verdict} → v ≡ Refused f → (n : ℕ) → whereFine v n ≡ countSlots l → SlotsListed b l text (refusal v) text
+  pub listed-refused : (f : Fault) (n : ℕ) → whereFine (Refused f) n ≡ countSlots l → {r : Report} → r ≡ refusal f → SlotsListed b l text r text
   unfolding whereFine countSlots verdictOf answerTo listFound listingReply
-  listed-refused f fault n e =
-      let first : refused (faultOf f) ≡ (listSlots [] l >> done (length l)) = rw fault at e in
-      record { reply = rw (fault, refused-first (faultOf f) (listSlots [] l) (length l)); sectors = refl }
+  listed-refused f n e same = record {
+    reply = rw (same, refused-first (faultOf f) (listSlots [] l) (length l));
+    sectors = ap (λ (x : Report). x .sectors) same;
+  }
 
-  module _ (whole : length b ≡ 4864) (lines : length (linesOf l) ≡ 43 * length l) {v : Verdict} (none : v ≡ Fine) (files : ℕ) (counted : whereFine v files ≡ countSlots l) where
+  module _ (whole : length b ≡ 4864) (lines : length (linesOf l) ≡ 43 * length l) (files : ℕ) (counted : whereFine Fine files ≡ countSlots l) where
     fine : (listSlots [] l ≡ done tt) × (length l ≡ files)
     unfolding whereFine countSlots
-    fine = let h = then-done (listSlots [] l) (done (length l)) files (sym (rw none at counted)) in (h .1, done-inj (h .2))
+    fine = let h = then-done (listSlots [] l) (done (length l)) files (sym counted) in (h .1, done-inj (h .2))
 
     pub listed-length : length listing ≡ 43 * files + 42
     listed-length = omega (arith, length-text b l whole lines, fine .1)
 
     -- too little room
-    pub listed-short : length text < 43 * files + 42 → SlotsListed b l text (refusal (Refused WrongBuffer)) text
+    pub listed-short : length text < 43 * files + 42 → {r : Report} → r ≡ refusal WrongBuffer → SlotsListed b l text r text
     unfolding verdictOf answerTo faultOf listFound listingReply
-    listed-short short = record { reply = rw (fine .0, lt-leb (length listing) (length text) (omega (arith, listed-length))); sectors = refl }
+    listed-short short {r} same = record {
+      reply = rw (same, fine .0, lt-leb (length listing) (length text) (omega (arith, listed-length)));
+      sectors = ap (λ (x : Report). x .sectors) same;
+    }
 
     -- room for the text
     pub listed-room : (n : ℕ) → n ≡ 43 * files + 42 → n ≤ length text → length (take (n - 0) text) ≡ 42 + 43 * length l
     listed-room n long room = omega (arith, length-take (n - 0) text, fine .1)
 
     -- the text at the start of the buffer, through a part that was lent
-    pub listed-done : (n : ℕ) → n ≡ 43 * files + 42 → n ≤ length text → {part : Bytes} → part ≡ listing → SlotsListed b l text (record { verdict = v; length = n; sectors = 0 }) (part ++ drop (n - 0) text)
+    pub listed-done : (n : ℕ) → n ≡ 43 * files + 42 → n ≤ length text → {part : Bytes} → part ≡ listing → SlotsListed b l text (record { verdict = Fine; length = n; sectors = 0 }) (part ++ drop (n - 0) text)
     unfolding verdictOf answerTo listFound listingReply
     listed-done n long room {part} filled =
         let reported : n ≡ length listing = omega (arith, listed-length) in
         let start : 0 + length listing ≡ length listing - 0 = omega arith in
         record {
-          reply = rw (none, fine .0, le-leb (length listing) (length text) (omega (arith, listed-length)), filled, reported, start);
+          reply = rw (fine .0, le-leb (length listing) (length text) (omega (arith, listed-length)), filled, reported, start);
           sectors = refl;
         }
 
@@ -94,11 +97,11 @@ listing-found b text = go (eqb (length b) (256 * sectorsOn layout35 18)) (checkD
 
 module _ (b text : Bytes) {r : Directory} (read : DirectoryRead b r) where
   -- a fault of the size or of the directory
-  pub sleeve-refused : (f : Fault) → r .verdict ≡ Refused f → SleeveListed b text (refusal (r .verdict)) text
+  pub sleeve-refused : (f : Fault) → r .verdict ≡ Refused f → {s : Report} → s ≡ refusal f → SleeveListed b text s text
   unfolding whereFine verdictOf answerTo listingReply
-  sleeve-refused f e =
+  sleeve-refused f e same =
       let found : callListing layout35 b text ≡ refused (faultOf f) = listing-found b text ∙ rw (sym (read .walked), e) in
-      record { reply = rw (e, found); sectors = refl }
+      record { reply = rw (same, found); sectors = ap (λ (x : Report). x .sectors) same }
 
   module _ (fine : r .verdict ≡ Fine) where
     walked : trackDirectory b ≡ done (sectorsOf (r .sectors) (r .count))

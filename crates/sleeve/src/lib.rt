@@ -82,23 +82,15 @@ fn list_slots(
     let checked = slots::check_slots(track18, sectors, end, repeated);
     let verdict = checked.verdict;
     match verdict {
-        Verdict::Refused(_) => Report {
-            verdict,
-            length: 0,
-            sectors: 0,
-        },
+        Verdict::Refused(fault) => answers::refuse(fault),
         Verdict::Fine => {
             let length = 43 * checked.files + 42;
             if text.len() < length {
-                return Report {
-                    verdict: Verdict::Refused(Fault::WrongBuffer),
-                    length: 0,
-                    sectors: 0,
-                };
+                return answers::refuse(Fault::WrongBuffer);
             }
             write_text(track18, sectors, end, &mut text[0..length]);
             Report {
-                verdict,
+                verdict: Verdict::Fine,
                 length: length as u32,
                 sectors: 0,
             }
@@ -113,11 +105,7 @@ pub fn list_track18(track18: &[u8], text: &mut [u8]) -> Report
     let read = directory::read_directory(track18);
     let verdict = read.verdict;
     match verdict {
-        Verdict::Refused(_) => Report {
-            verdict,
-            length: 0,
-            sectors: 0,
-        },
+        Verdict::Refused(fault) => answers::refuse(fault),
         Verdict::Fine => {
             let sectors = read.sectors;
             list_slots(track18, &sectors, 8 * read.count, read.repeated, text)

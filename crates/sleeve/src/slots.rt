@@ -34,8 +34,11 @@ pub(crate) fn check_slots(
             };
             let verdict = directory::check_entry(slot, place, k == repeated);
             match verdict {
-                Verdict::Refused(_) => {
-                    return Checked { verdict, files };
+                Verdict::Refused(fault) => {
+                    return Checked {
+                        verdict: Verdict::Refused(fault),
+                        files,
+                    };
                 }
                 Verdict::Fine => {
                     files += 1;

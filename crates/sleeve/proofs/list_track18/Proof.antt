@@ -8,11 +8,14 @@ use Rattle.sleeve.proofs.list_track18.Tie as tie
 read-directory-requires : tie.Need-read-directory-requires
 read-directory-requires c κs = search needs
 
+enum-known-verdict : tie.Need-enum-known-verdict
+enum-known-verdict c = search needs
+
+refuse-requires : tie.Need-refuse-requires
+refuse-requires c κs = search needs
+
 enum-told : tie.Need-enum-told
 enum-told c = search needs
-
-enum-told-2 : tie.Need-enum-told-2
-enum-told-2 c = search needs
 
 mul-list-slots : tie.Need-mul-list-slots
 mul-list-slots c = omega (arith, c .before .before .before .before .before .read-directory .ensures .few)
@@ -21,10 +24,12 @@ list-slots-requires : tie.Need-list-slots-requires
 list-slots-requires c κs =
     let e = c .before .before .before .before in
     let d = e .before .before in
-    sleeve-ready _ (d .before .before .before .args .text .now) (d .read-directory .ensures) (e .enum-told2 .given .1)
+    sleeve-ready _ (d .before .before .before .args .text .now) (d .read-directory .ensures) (e .enum-told .given .1)
 
 returns : tie.Need-returns
-returns c = sleeve-refused _ _ (c .before .before .read-directory .ensures) _ (c .enum-told .given .1)
+returns c =
+    let d = c .before .before .before .before in
+    sleeve-refused _ _ (d .read-directory .ensures) _ (c .before .before .verdict .given .1) (c .refuse .ensures)
 
 same-length : tie.Need-same-length
 same-length c = search needs
@@ -34,15 +39,16 @@ returns-2 c =
     let l = c .before .before in
     let e = l .before .before .before .before .before in
     let d = e .before .before in
-    sleeve-listed _ _ (d .read-directory .ensures) (e .enum-told2 .given .1) (l .list-slots .ensures)
+    sleeve-listed _ _ (d .read-directory .ensures) (e .enum-told .given .1) (l .list-slots .ensures)
 
 pub list-track18-spec : {M : Type 1} → statement M
 list-track18-spec =
     tie.close
     (tie.spec
     read-directory-requires
+    enum-known-verdict
+    refuse-requires
     enum-told
-    enum-told-2
     mul-list-slots
     list-slots-requires
     returns

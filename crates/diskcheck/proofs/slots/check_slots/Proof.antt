@@ -1,11 +1,11 @@
 -- `diskcheck::slots::check_slots` meets its contract: the tables that it lends are the layout's.
 use borrow.Author.Needs.{needs}
-use Rattle.geometry.proofs.LentTableLaws.{onDiskBy-counts, numberBy-firsts}
+use Rattle.geometry.proofs.LentTableLaws.{counts35, firsts35}
 use Rattle.diskcheck.proofs.slots.check_slots.Statement.{statement}
 use Rattle.diskcheck.proofs.slots.check_slots.Tie as tie
 
 check-all-requires : tie.Need-check-all-requires
-check-all-requires c κs = (search needs, record { agrees = onDiskBy-counts }, record { agrees = numberBy-firsts })
+check-all-requires c κs = (search needs, counts35, firsts35)
 
 returns : tie.Need-returns
 returns c = search needs

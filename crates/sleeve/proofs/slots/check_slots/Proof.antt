@@ -30,27 +30,28 @@ slot-at-requires c κs = search needs
 is-empty-requires : tie.Need-is-empty-requires Inv-loop μ-loop
 is-empty-requires c κs = search needs
 
-element-copy-out-t15 : tie.Need-element-copy-out-t15 Inv-loop μ-loop
-element-copy-out-t15 c = omega (arith, c .before .before .before .before .before .before .pre .few)
+element-copy-out-t16 : tie.Need-element-copy-out-t16 Inv-loop μ-loop
+element-copy-out-t16 c = omega (arith, c .before .before .before .before .before .before .pre .few)
 
-cast-t16 : tie.Need-cast-t16 Inv-loop μ-loop
-cast-t16 c = omega (arith, c .before .before .before .before .before .before .before .pre .few)
+cast-t17 : tie.Need-cast-t17 Inv-loop μ-loop
+cast-t17 c = omega (arith, c .before .before .before .before .before .before .before .pre .few)
 
 check-entry-requires : tie.Need-check-entry-requires Inv-loop μ-loop
 check-entry-requires c κs = search needs
 
-enum-told : tie.Need-enum-told Inv-loop μ-loop
-enum-told c = search needs
+enum-known-verdict : tie.Need-enum-known-verdict Inv-loop μ-loop
+enum-known-verdict c = search needs
 
 returns : tie.Need-returns Inv-loop μ-loop
 returns c =
-    let e = c .before .before in
+    let e = c .before .before .before in
     let t = e .before .before in
     let l = t .before .before .before in
-    counting-refused (l .before .loop .inv) (omega (arith, l .loop-test .taken)) (t .before .before .slot-at .ensures) (l .before .before .before .pre .first) (occupied t) _ (c .enum-told .given .1) (e .check-entry .ensures)
+    counting-refused (l .before .loop .inv) (omega (arith, l .loop-test .taken)) (t .before .before .slot-at .ensures) (l .before .before .before .pre .first) (occupied t) _
+    (rw (c .before .verdict .given .1) at (e .check-entry .ensures))
 
-enum-told-2 : tie.Need-enum-told-2 Inv-loop μ-loop
-enum-told-2 c = search needs
+enum-told : tie.Need-enum-told Inv-loop μ-loop
+enum-told c = search needs
 
 add-files : tie.Need-add-files Inv-loop μ-loop
 add-files c = let l = c .before .before .before .before .before .before .before .before in omega (arith, l .loop .inv .small, l .before .before .pre .few)
@@ -82,12 +83,12 @@ check-slots-spec =
     loop-holds
     slot-at-requires
     is-empty-requires
-    element-copy-out-t15
-    cast-t16
+    element-copy-out-t16
+    cast-t17
     check-entry-requires
-    enum-told
+    enum-known-verdict
     returns
-    enum-told-2
+    enum-told
     add-files
     add-k
     loop-less
