@@ -1,9 +1,9 @@
 -- Names as two numbers of 64 bits: two name fields are equal exactly where both numbers are, since their bytes are digits to the base 256.
--- In order: digits; the bytes of a word; the words of a name field; two slots. Assumes nothing.
+-- In order: the bytes of a word, by its halves; the words of a name field; two slots. Assumes nothing.
 use mathlib.Core.Path.{_≡_, sym, ap, _∙_}
 use mathlib.Core.Bool.{Bool, _&&_, and-true}
 use mathlib.Core.List.{[], _∷_}
-use Prim.Native.Nat.{ℕ, zero, suc, _+_, _*_, _-_, _≤_, _<_}
+use Prim.Native.Nat.{ℕ, _+_, _*_, _≤_, _<_}
 use native.Mathlib.Omega.{arith}
 use native.Mathlib.Decide.{decLe}
 use lib.ListN.{length}
@@ -11,60 +11,45 @@ use lib.Seq.{ext-getD}
 use lib.Dec.{eqb}
 use Rattle.d64spec.specs.Lists.{Bytes, byte, equal}
 use Rattle.d64spec.specs.Directory.{nameField}
+use Rattle.parts.specs.Numbers.{fourOf}
 use Rattle.parts.proofs.EqualLaws.{equal-iff}
+use Rattle.parts.proofs.NumberLaws.{bytes-of-four}
 use Rattle.names.proofs.NameLaws.{length-nameField, byte-nameField}
-use Rattle.directory.specs.NameWords.{halfOf, wordOf}
+use Rattle.directory.specs.NameWords.{wordOf}
 
 -- thirty bytes: what a slot has
 pub record Thirty (s : Bytes) : Type 0 where
   pub long : length s ≡ 30
   pub small : (i : ℕ) → byte s i < 256
 
--- ---- digits
+-- ---- the bytes of a word
 
--- a lowest digit, and the rest
-digit-eq : (a x c y : ℕ) → a < 256 → c < 256 → a + 256 * x ≡ c + 256 * y → (a ≡ c) × (x ≡ y)
-digit-eq a x c y low high e = (omega arith, omega arith)
-
+-- a lower half, and the rest
 half-eq : (a x c y : ℕ) → a < 4294967296 → c < 4294967296 → a + 4294967296 * x ≡ c + 4294967296 * y → (a ≡ c) × (x ≡ y)
 half-eq a x c y low high e = (omega arith, omega arith)
 
--- ---- the bytes of a word
-
-half-lt : (s : Bytes) → Thirty s → (a : ℕ) → halfOf s a < 4294967296
-unfolding halfOf
+half-lt : (s : Bytes) → Thirty s → (a : ℕ) → fourOf s a < 4294967296
+unfolding fourOf
 half-lt s thirty a = omega (arith, thirty .small a, thirty .small (a + 1), thirty .small (a + 2), thirty .small (a + 3))
 
 module _ (s t : Bytes) (thirty-s : Thirty s) (thirty-t : Thirty t) where
-  bytes-of-half : (a : ℕ) → halfOf s a ≡ halfOf t a → (i : ℕ) → i < 4 → byte s (a + i) ≡ byte t (a + i)
-  unfolding halfOf
-  bytes-of-half a e =
-      let first = digit-eq (byte s a) (byte s (a + 1) + 256 * (byte s (a + 2) + 256 * byte s (a + 3))) (byte t a) (byte t (a + 1) + 256 * (byte t (a + 2) + 256 * byte t (a + 3))) (thirty-s .small a) (thirty-t .small a) (omega arith) in
-      let second = digit-eq (byte s (a + 1)) (byte s (a + 2) + 256 * byte s (a + 3)) (byte t (a + 1)) (byte t (a + 2) + 256 * byte t (a + 3)) (thirty-s .small (a + 1)) (thirty-t .small (a + 1)) (first .1) in
-      let third = digit-eq (byte s (a + 2)) (byte s (a + 3)) (byte t (a + 2)) (byte t (a + 3)) (thirty-s .small (a + 2)) (thirty-t .small (a + 2)) (second .1) in
-      go (first .0) (second .0) (third .0) (third .1)
-    where
-      go : byte s a ≡ byte t a → byte s (a + 1) ≡ byte t (a + 1) → byte s (a + 2) ≡ byte t (a + 2) → byte s (a + 3) ≡ byte t (a + 3)
-          → (i : ℕ) → i < 4 → byte s (a + i) ≡ byte t (a + i)
-      go first second third fourth zero h = let z : a + 0 ≡ a = omega arith in rw z first
-      go first second third fourth (suc zero) h = second
-      go first second third fourth (suc (suc zero)) h = third
-      go first second third fourth (suc (suc (suc zero))) h = fourth
-      go first second third fourth (suc (suc (suc (suc i)))) h = absurd (omega arith)
+  bytes-of-half : (a : ℕ) → fourOf s a ≡ fourOf t a → (i : ℕ) → a ≤ i → i < a + 4 → byte s i ≡ byte t i
+  unfolding fourOf
+  bytes-of-half = bytes-of-four s (byte t) (thirty-s .small) (thirty-t .small)
 
-  bytes-of-word : (a : ℕ) → wordOf s a ≡ wordOf t a → (i : ℕ) → i < 8 → byte s (a + i) ≡ byte t (a + i)
+  bytes-of-word : (a : ℕ) → wordOf s a ≡ wordOf t a → (i : ℕ) → a ≤ i → i < a + 8 → byte s i ≡ byte t i
   unfolding wordOf
-  bytes-of-word a e i h =
-      let halves = half-eq (halfOf s a) (halfOf s (a + 4)) (halfOf t a) (halfOf t (a + 4)) (half-lt s thirty-s a) (half-lt t thirty-t a) e in
-      elim (decLe 4 i) [
-        | yes past ↦ let at : a + 4 + (i - 4) ≡ a + i = omega arith in rw at at (bytes-of-half (a + 4) (halves .1) (i - 4) (omega arith))
-        | no before ↦ bytes-of-half a (halves .0) i (omega arith)
+  bytes-of-word a e i l h =
+      let halves = half-eq (fourOf s a) (fourOf s (a + 4)) (fourOf t a) (fourOf t (a + 4)) (half-lt s thirty-s a) (half-lt t thirty-t a) e in
+      elim (decLe (a + 4) i) [
+        | yes past ↦ bytes-of-half (a + 4) (halves .1) i past (omega arith)
+        | no before ↦ bytes-of-half a (halves .0) i l (omega arith)
       ]
 
 -- ---- the words of a name field
 
-half-nameField : (s : Bytes) (n a : ℕ) → n ≡ 3 + a → a + 4 ≤ 16 → halfOf s n ≡ halfOf (nameField s) a
-unfolding halfOf
+half-nameField : (s : Bytes) (n a : ℕ) → n ≡ 3 + a → a + 4 ≤ 16 → fourOf s n ≡ fourOf (nameField s) a
+unfolding fourOf
 half-nameField s n a e h =
     omega (
       arith,
@@ -89,8 +74,8 @@ module _ (s t : Bytes) (thirty-s : Thirty s) (thirty-t : Thirty t) where
       let long-s = length-nameField s (omega (arith, thirty-s .long)) in
       let long-t = length-nameField t (omega (arith, thirty-t .long)) in
       ext-getD 0 (nameField s) (nameField t) (omega arith) (λ i h. elim (decLe 8 i) [
-        | yes past ↦ here (11 + (i - 8)) i (omega arith) (omega arith) (bytes-of-word s t thirty-s thirty-t 11 high (i - 8) (omega arith))
-        | no before ↦ here (3 + i) i (omega arith) (omega arith) (bytes-of-word s t thirty-s thirty-t 3 low i (omega arith))
+        | yes past ↦ here (3 + i) i (omega arith) (omega arith) (bytes-of-word s t thirty-s thirty-t 11 high (3 + i) (omega arith) (omega arith))
+        | no before ↦ here (3 + i) i (omega arith) (omega arith) (bytes-of-word s t thirty-s thirty-t 3 low (3 + i) (omega arith) (omega arith))
       ])
     where
       here : (n i : ℕ) → n ≡ 3 + i → i < 16 → byte s n ≡ byte t n → byte (nameField s) i ≡ byte (nameField t) i

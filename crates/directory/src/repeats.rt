@@ -6,25 +6,14 @@ ghost use Prim.Native.Nat.{_≤_, _+_, _<_};
 ghost use lib.ListN.{length};
 ghost use Rattle.d64spec.specs.Lists.{All};
 ghost use Rattle.directory.specs.Directories.{firstRepeated};
-ghost use Rattle.directory.specs.NameWords.{IsHalf, wordOf, hashOf, holdsPair};
-
-// The number of four bytes, low byte first.
-fn half(bytes: &[u8], at: usize) -> u64
-    requires { ⌜ at + 4 ≤ length (now bytes) ⌝ }
-    ensures { λ r. ⌜ IsHalf (now (bytes .entry)) at r ⌝ }
-{
-    bytes[at] as u64
-        + 256 * (bytes[at + 1] as u64)
-        + 65536 * (bytes[at + 2] as u64)
-        + 16777216 * (bytes[at + 3] as u64)
-}
+ghost use Rattle.directory.specs.NameWords.{wordOf, hashOf, holdsPair};
 
 // The number of eight bytes, low byte first; by halves, each of which compiles to one load.
 fn word(bytes: &[u8], at: usize) -> u64
     requires { ⌜ at + 8 ≤ length (now bytes) ⌝ }
     ensures { λ r. ⌜ r ≡ wordOf (now (bytes .entry)) at ⌝ }
 {
-    half(bytes, at) + 4294967296 * half(bytes, at + 4)
+    parts::four_at(bytes, at) + 4294967296 * parts::four_at(bytes, at + 4)
 }
 
 // A hash of a name's two words: one product, by an odd number near 2^28 over the golden ratio.

@@ -13,7 +13,9 @@ use lib.Dec.{eqb}
 use borrow.Author.Tests.{eq-eqb, ne-eqb, eqb-true, eqb-false}
 use Rattle.d64spec.specs.Lists.{indicator, range, sum}
 use Rattle.mapentry.proofs.OnesLaws.{sum-map-last, sum-map-le}
-use Rattle.mapcheck.specs.MapChecks.{binary, freeBit, freeMask, freeCount, Surveyed, IsFour}
+use Rattle.parts.specs.Numbers.{fourOf, IsFour}
+use Rattle.parts.proofs.NumberLaws.{each-four}
+use Rattle.mapcheck.specs.MapChecks.{binary, freeBit, freeMask, freeCount, Surveyed}
 use Rattle.mapcheck.proofs.MaskLaws.{binary-more, binary-lt}
 
 power-le : (s : ℕ) → s ≤ 24 → 2 ^ s ≤ 16777216
@@ -143,18 +145,11 @@ surveyed-all {own} {first} {n} e m k =
 
 module _ {own : List ℕ} {a r : ℕ} (four : IsFour own a r) where
   four-zero : r ≡ 0 → (i : ℕ) → a ≤ i → i < a + 4 → getD own i 0 ≡ 0
-  four-zero e i l h =
-      let value = four .value in
-      go (i - a) (omega arith) (omega arith) (omega arith) (omega arith) (omega arith) (omega arith)
-    where
-      go : (k : ℕ) → k < 4 → i ≡ a + k → getD own a 0 ≡ 0 → getD own (a + 1) 0 ≡ 0 → getD own (a + 2) 0 ≡ 0 → getD own (a + 3) 0 ≡ 0 → getD own i 0 ≡ 0
-      go zero b at first second third fourth = let z : i ≡ a = omega arith in rw z first
-      go (suc zero) b at first second third fourth = rw at second
-      go (suc (suc zero)) b at first second third fourth = rw at third
-      go (suc (suc (suc zero))) b at first second third fourth = rw at fourth
-      go (suc (suc (suc (suc k)))) b at first second third fourth = absurd (omega arith)
+  unfolding fourOf
+  four-zero e = let value = four .value in each-four (λ i. getD own i 0 ≡ 0) a (omega arith) (omega arith) (omega arith) (omega arith)
 
   zero-four : ((i : ℕ) → a ≤ i → i < a + 4 → getD own i 0 ≡ 0) → r ≡ 0
+  unfolding fourOf
   zero-four all =
       omega (
         arith,

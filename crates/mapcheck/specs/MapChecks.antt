@@ -1,7 +1,7 @@
 -- Step 4 of the check on the map sector alone, against the owner table (01, Order of the check, 4; The map).
--- In order: a track's free sectors as a number and how many they are; four bytes of the table as a number; an entry's bitmap as a number; the step.
+-- In order: a track's free sectors as a number and how many they are; an entry's bitmap as a number; the step.
 -- Laws: proofs/MaskLaws (numbers are equal exactly where all their bits are), TrackLaws (a track's test is d64spec's), StepLaws (so is the step).
-use Prim.Native.Nat.{ℕ, _+_, _*_, _^_, _<_}
+use Prim.Native.Nat.{ℕ, _+_, _*_, _^_}
 use mathlib.Core.Path.{_≡_}
 use mathlib.Core.Bool.{Bool, _&&_}
 use mathlib.Core.List.{List, map}
@@ -34,11 +34,6 @@ freeCount own first n = sum (map (freeBit own first) (range 0 n))
 pub record Surveyed (own : List ℕ) (first n : ℕ) (r : FreeSectors) : Type 0 where
   pub mask : r .mask ≡ freeMask own first n
   pub count : r .count ≡ freeCount own first n
-
--- r is the number of the four bytes of the owner table from a on, low byte first, which 32 bits hold
-pub record IsFour (own : List ℕ) (a r : ℕ) : Type 0 where
-  pub value : r ≡ getD own a 0 + 256 * getD own (a + 1) 0 + 65536 * getD own (a + 2) 0 + 16777216 * getD own (a + 3) 0
-  pub small : r < 4294967296
 
 -- the three bitmap bytes of an entry as a number: bit s for sector s (01, The map)
 unfoldable pub bitmapOf : Bytes → ℕ

@@ -6,7 +6,7 @@ ghost use Prim.Native.Nat.{_+_, _≤_};
 ghost use lib.ListN.{length};
 ghost use lib.Dec.{eqb};
 ghost use Rattle.answers.specs.Faults.{verdictOf};
-ghost use Rattle.mapcheck.specs.MapChecks.{IsFour, freeCount, Surveyed, trackCorrect, mapVerdict};
+ghost use Rattle.mapcheck.specs.MapChecks.{freeCount, Surveyed, trackCorrect, mapVerdict};
 use answers::Fault;
 use answers::Verdict;
 
@@ -16,17 +16,6 @@ struct FreeSectors {
     count: u8,
 }
 
-// The number of four bytes of the owner table, low byte first: one load.
-fn four(own: &[u8], at: usize) -> u64
-    requires { ⌜ at + 4 ≤ length (now own) ⌝ }
-    ensures { λ r. ⌜ IsFour (now (own .entry)) at r ⌝ }
-{
-    own[at] as u64
-        + 256 * (own[at + 1] as u64)
-        + 65536 * (own[at + 2] as u64)
-        + 16777216 * (own[at + 3] as u64)
-}
-
 // Whether nobody owns any of the n sectors from number `first` on: all n are free. Sixteen bytes are added from the first on, and the last eight, some
 // of them twice.
 fn untouched(own: &[u8], first: usize, n: usize) -> bool
@@ -34,12 +23,12 @@ fn untouched(own: &[u8], first: usize, n: usize) -> bool
     ensures { λ r. ⌜ r ≡ eqb (freeCount (now (own .entry)) first n) n ⌝ }
 {
     let last = first + n;
-    four(own, first)
-        + four(own, first + 4)
-        + four(own, first + 8)
-        + four(own, first + 12)
-        + four(own, last - 8)
-        + four(own, last - 4)
+    parts::four_at(own, first)
+        + parts::four_at(own, first + 4)
+        + parts::four_at(own, first + 8)
+        + parts::four_at(own, first + 12)
+        + parts::four_at(own, last - 8)
+        + parts::four_at(own, last - 4)
         == 0
 }
 

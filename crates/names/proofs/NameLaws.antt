@@ -14,9 +14,10 @@ use borrow.Author.Tests.{ne-eqb}
 use Rattle.d64spec.specs.Lists.{Bytes, byte, equal}
 use Rattle.d64spec.specs.Directory.{nameField, nameOf, padded, validName}
 use Rattle.d64spec.specs.Reply.{validNameArgument}
-use Rattle.names.specs.Names.{nameLength, paddedOnce, RestFits, fourOf}
+use Rattle.names.specs.Names.{nameLength, paddedOnce, RestFits}
 use Rattle.d64spec.proofs.ListLaws.{eq-of-equal}
 use Rattle.d64spec.proofs.RuleLaws.{name-exact, name-argument-exact}
+use Rattle.parts.specs.Numbers.{fourOf}
 use Rattle.parts.proofs.EqualLaws.{equal-iff, equal-lengths-differ, equal-append}
 use Rattle.names.proofs.PaddingLaws.{letters, count-letters, nameLength-append-padding, letters-append-padding, letters-of-padding, length-take-nameLength, nameLength-drop-padding, nameLength-drop-letter, paddedOnce-nameLength, paddedOnce-last, paddedOnce-rest, four-padding}
 

@@ -4,7 +4,7 @@
 use mathlib.Core.Path.{_≡_, refl, sym, ap, ap₂, _∙_}
 use mathlib.Core.Bool.{Bool, true, false, cond, not, _&&_, _||_, or-true}
 use mathlib.Core.List.{[], _∷_, _++_, append-nil}
-use Prim.Native.Nat.{ℕ, zero, suc, _+_, _*_, _-_, _≤_, _<_}
+use Prim.Native.Nat.{ℕ, zero, suc, _+_, _-_, _≤_, _<_}
 use native.Mathlib.Omega.{arith}
 use native.Mathlib.Numerals.{add-one}
 use lib.ListN.{length, getD, take, drop, replicate, take-append-drop, drop-of-length-le}
@@ -12,7 +12,9 @@ use lib.Seq.{drop-cons, take-length, length-take-le}
 use lib.Dec.{eqb}
 use borrow.Author.Tests.{eq-eqb, ne-eqb, eqb-true, eqb-false}
 use Rattle.d64spec.specs.Lists.{Bytes, byte, indicator, filter, count, equal}
-use Rattle.names.specs.Names.{nameLength, paddedOnce, fourOf}
+use Rattle.parts.specs.Numbers.{fourOf}
+use Rattle.parts.proofs.NumberLaws.{bytes-of-four}
+use Rattle.names.specs.Names.{nameLength, paddedOnce}
 
 -- ---- the bytes that are not $A0
 
@@ -164,22 +166,6 @@ paddedOnce-rest f (suc n) i e all =
 
 -- ---- four at once, as one number
 
--- the lowest digit to the base 256, and the rest
-digit-eq : (a x y : ℕ) → a < 256 → a + 256 * x ≡ 0xA0 + 256 * y → (a ≡ 0xA0) × (x ≡ y)
-digit-eq a x y low e = (omega arith, omega arith)
-
 -- four bytes whose number is that of four $A0 are $A0
 pub four-padding : (s : Bytes) → ((i : ℕ) → byte s i < 256) → (a : ℕ) → fourOf s a ≡ 0xA0A0A0A0 → (i : ℕ) → a ≤ i → i < a + 4 → byte s i ≡ 0xA0
-unfolding fourOf
-four-padding s small a e i l h =
-    let first = digit-eq (byte s a) (byte s (a + 1) + 256 * (byte s (a + 2) + 256 * byte s (a + 3))) 0xA0A0A0 (small a) (omega arith) in
-    let second = digit-eq (byte s (a + 1)) (byte s (a + 2) + 256 * byte s (a + 3)) 0xA0A0 (small (a + 1)) (first .1) in
-    let third = digit-eq (byte s (a + 2)) (byte s (a + 3)) 0xA0 (small (a + 2)) (second .1) in
-    go (i - a) (omega arith) (omega arith) (first .0) (second .0) (third .0) (third .1)
-  where
-    go : (k : ℕ) → k < 4 → i ≡ a + k → byte s a ≡ 0xA0 → byte s (a + 1) ≡ 0xA0 → byte s (a + 2) ≡ 0xA0 → byte s (a + 3) ≡ 0xA0 → byte s i ≡ 0xA0
-    go zero b at first second third fourth = let z : i ≡ a = omega arith in rw z first
-    go (suc zero) b at first second third fourth = rw at second
-    go (suc (suc zero)) b at first second third fourth = rw at third
-    go (suc (suc (suc zero))) b at first second third fourth = rw at fourth
-    go (suc (suc (suc (suc k)))) b at first second third fourth = absurd (omega arith)
+four-padding s small a e = bytes-of-four s (λ i. 0xA0) small (λ i. omega arith) a e

@@ -1,12 +1,12 @@
 -- What the contracts of names cite beside document 01's own definitions (01, The directory).
 -- Not here: nameField, validName (d64spec, Directory), validNameArgument (d64spec, Reply). Laws: proofs/PaddingLaws, NameLaws.
-use Prim.Native.Nat.{ℕ, suc, _+_, _*_, _≤_}
+use Prim.Native.Nat.{ℕ, suc, _≤_}
 use mathlib.Core.Path.{_≡_}
 use mathlib.Core.Bool.{Bool, true, cond, not, _&&_, _||_}
 use mathlib.Core.List.{[], _∷_}
 use lib.ListN.{length, drop}
 use lib.Dec.{eqb}
-use Rattle.d64spec.specs.Lists.{Bytes, byte}
+use Rattle.d64spec.specs.Lists.{Bytes}
 use Rattle.d64spec.specs.Directory.{nameField}
 
 -- how many bytes stand before the first $A0: all of them, where there is none (01, The directory: a name, then only $A0)
@@ -25,7 +25,3 @@ pub record RestFits (s : Bytes) (end : ℕ) : Type 0 where
   pub whole : 19 ≤ length s
   pub inside : end ≤ 15
   pub rest : paddedOnce (drop end (nameField s)) ≡ true
-
--- the number of the four bytes from a on, low byte first
-unfoldable pub fourOf : Bytes → ℕ → ℕ
-fourOf b a = byte b a + 256 * byte b (a + 1) + 65536 * byte b (a + 2) + 16777216 * byte b (a + 3)

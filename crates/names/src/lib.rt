@@ -2,12 +2,12 @@
 // A slot is lent as its bytes 02 to 1F, so byte i of document 01 is at i - 2.
 // Every public function takes any slice: what it gives is the definition's value there.
 ghost use mathlib.Core.Path.{_≡_};
-ghost use Prim.Native.Nat.{_+_, _-_, _≤_};
+ghost use Prim.Native.Nat.{_-_, _≤_};
 ghost use lib.ListN.{length, drop, replicate};
 ghost use Rattle.d64spec.specs.Lists.{equal};
 ghost use Rattle.d64spec.specs.Directory.{nameField, padded, validName};
 ghost use Rattle.d64spec.specs.Reply.{validNameArgument};
-ghost use Rattle.names.specs.Names.{nameLength, paddedOnce, RestFits, fourOf};
+ghost use Rattle.names.specs.Names.{nameLength, paddedOnce, RestFits};
 
 // What a name shorter than 16 bytes is filled up with.
 const PADDING: [u8; 16] = [0xA0; 16];
@@ -41,17 +41,6 @@ pub fn name_field(slot: &[u8]) -> &[u8]
     parts::clipped(slot, 3, 16)
 }
 
-// The number of four bytes, low byte first: one load.
-fn four(bytes: &[u8], at: usize) -> u32
-    requires { ⌜ at + 4 ≤ length (now bytes) ⌝ }
-    ensures { λ r. ⌜ r ≡ fourOf (now (bytes .entry)) at ⌝ }
-{
-    bytes[at] as u32
-        + 256 * (bytes[at + 1] as u32)
-        + 65536 * (bytes[at + 2] as u32)
-        + 16777216 * (bytes[at + 3] as u32)
-}
-
 // Whether no other byte stands behind a $A0 in a slot's name, where none does from byte `end` of the name on: two neighbours are asked at a time.
 fn neighbours_fit(slot: &[u8], end: usize) -> bool
     requires { ⌜ RestFits (now slot) end ⌝ }
@@ -74,8 +63,8 @@ fn padded_once(slot: &[u8]) -> bool
     requires { ⌜ 19 ≤ length (now slot) ⌝ }
     ensures { λ r. ⌜ r ≡ paddedOnce (nameField (now (slot .entry))) ⌝ }
 {
-    if four(slot, 11) == 0xA0A0A0A0 {
-        if four(slot, 15) == 0xA0A0A0A0 {
+    if parts::four_at(slot, 11) == 0xA0A0A0A0 {
+        if parts::four_at(slot, 15) == 0xA0A0A0A0 {
             return neighbours_fit(slot, 7);
         }
     }

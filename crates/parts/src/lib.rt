@@ -1,14 +1,27 @@
 // Bytes of a slice, read and compared for any slice and any numbers: what the crates above share.
-// Nothing wraps and nothing is out of range: a byte past the end reads as 0, a part ends where the slice ends.
+// Nothing wraps and nothing is out of range: a byte past the end reads as 0, a part ends where the slice ends; only `four_at` asks for its range.
 ghost use mathlib.Core.Path.{_≡_};
-ghost use lib.ListN.{take, drop};
+ghost use Prim.Native.Nat.{_+_, _≤_};
+ghost use lib.ListN.{length, take, drop};
 ghost use Rattle.d64spec.specs.Lists.{byte, equal};
+ghost use Rattle.parts.specs.Numbers.{IsFour};
 
 // Byte `at`, or 0 past the end.
 pub fn byte_at(bytes: &[u8], at: usize) -> u8
     ensures { λ r. ⌜ r ≡ byte (now (bytes .entry)) at ⌝ }
 {
     if at < bytes.len() { bytes[at] } else { 0 }
+}
+
+// The number of the four bytes from index `at` on, low byte first: with its range asked of the caller it compiles to one load.
+pub fn four_at(bytes: &[u8], at: usize) -> u64
+    requires { ⌜ at + 4 ≤ length (now bytes) ⌝ }
+    ensures { λ r. ⌜ IsFour (now (bytes .entry)) at r ⌝ }
+{
+    bytes[at] as u64
+        + 256 * (bytes[at + 1] as u64)
+        + 65536 * (bytes[at + 2] as u64)
+        + 16777216 * (bytes[at + 3] as u64)
 }
 
 // At most `count` bytes from index `start` on: fewer where the slice ends before.

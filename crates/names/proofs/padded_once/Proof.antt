@@ -5,17 +5,17 @@ use Rattle.names.proofs.NameLaws.{fits-last, fits-padding}
 use Rattle.names.proofs.padded_once.Statement.{statement}
 use Rattle.names.proofs.padded_once.Tie as tie
 
-four-requires : tie.Need-four-requires
-four-requires c κs = search needs
+four-at-requires : tie.Need-four-at-requires
+four-at-requires c κs = search needs
 
-four-requires-2 : tie.Need-four-requires-2
-four-requires-2 c κs = search needs
+four-at-requires-2 : tie.Need-four-at-requires-2
+four-at-requires-2 c κs = search needs
 
 neighbours-fit-requires : tie.Need-neighbours-fit-requires
 neighbours-fit-requires c κs =
     let k = c .before .before .before .before in
     fits-padding _ (k .before .pre) (λ i. omega (arith, k .shared-slice-known .given i))
-    (c .before .before .before .four .ensures) (c .before .four2 .ensures) (c .before .before .if1 .taken) (c .if2 .taken) (omega arith) (omega arith)
+    (c .before .before .before .four-at .ensures .value) (c .before .four-at2 .ensures .value) (c .before .before .if1 .taken) (c .if2 .taken) (omega arith) (omega arith)
 
 returns : tie.Need-returns
 returns c = c .neighbours-fit .ensures
@@ -30,8 +30,8 @@ pub padded-once-spec : {M : Type 1} → statement M
 padded-once-spec =
     tie.close
     (tie.spec
-    four-requires
-    four-requires-2
+    four-at-requires
+    four-at-requires-2
     neighbours-fit-requires
     returns
     neighbours-fit-requires-2

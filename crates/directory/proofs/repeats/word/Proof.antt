@@ -5,25 +5,25 @@ use Rattle.directory.specs.NameWords.{wordOf}
 use Rattle.directory.proofs.repeats.word.Statement.{statement}
 use Rattle.directory.proofs.repeats.word.Tie as tie
 
-half-requires : tie.Need-half-requires
-half-requires c κs = search needs
+four-at-requires : tie.Need-four-at-requires
+four-at-requires c κs = search needs
 
-add-half : tie.Need-add-half
-add-half c = search needs
+add-four-at : tie.Need-add-four-at
+add-four-at c = search needs
 
-half-requires-2 : tie.Need-half-requires-2
-half-requires-2 c κs = search needs
+four-at-requires-2 : tie.Need-four-at-requires-2
+four-at-requires-2 c κs = search needs
 
 mul-result : tie.Need-mul-result
-mul-result c = omega (arith, c .half2 .ensures .small)
+mul-result c = omega (arith, c .four-at2 .ensures .small)
 
 add-result : tie.Need-add-result
-add-result c = omega (arith, c .before .half .ensures .small, c .half2 .ensures .small)
+add-result c = omega (arith, c .before .four-at .ensures .small, c .four-at2 .ensures .small)
 
 returns : tie.Need-returns
 unfolding wordOf
-returns c = omega (arith, c .before .half .ensures .value, c .half2 .ensures .value)
+returns c = omega (arith, c .before .four-at .ensures .value, c .four-at2 .ensures .value)
 
 pub word-spec : {M : Type 1} → statement M
 word-spec =
-    tie.close (tie.spec half-requires add-half half-requires-2 mul-result add-result returns)
+    tie.close (tie.spec four-at-requires add-four-at four-at-requires-2 mul-result add-result returns)

@@ -1,20 +1,20 @@
--- `mapcheck::four` meets its contract: the digits are bytes, so that nothing wraps. Assumes nothing.
+-- `parts::four_at` meets its contract: the digits are bytes, so that nothing wraps. Assumes nothing.
 use Prim.Native.Nat.{ℕ, _+_, _<_}
 use native.Mathlib.Omega.{arith}
 use borrow.Author.Needs.{needs}
-use mathlib.Core.List.{List}
-use lib.ListN.{getD}
-use Rattle.mapcheck.proofs.four.Statement.{statement}
-use Rattle.mapcheck.proofs.four.Tie as tie
+use Rattle.d64spec.specs.Lists.{Bytes, byte}
+use Rattle.parts.specs.Numbers.{fourOf}
+use Rattle.parts.proofs.four_at.Statement.{statement}
+use Rattle.parts.proofs.four_at.Tie as tie
 
 -- the four digits
-record Digits (b : List ℕ) (a : ℕ) : Type 0 where
-  first : getD b a 0 < 256
-  second : getD b (a + 1) 0 < 256
-  third : getD b (a + 2) 0 < 256
-  fourth : getD b (a + 3) 0 < 256
+record Digits (b : Bytes) (a : ℕ) : Type 0 where
+  first : byte b a < 256
+  second : byte b (a + 1) < 256
+  third : byte b (a + 2) < 256
+  fourth : byte b (a + 3) < 256
 
-digits : (c : tie.After-shared-slice-known) → Digits (c .before .args .own .now) (c .before .args .at)
+digits : (c : tie.After-shared-slice-known) → Digits (c .before .args .bytes .now) (c .before .args .at)
 digits c =
     let a = c .before .args .at in
     let known = c .shared-slice-known .given in
@@ -72,10 +72,11 @@ add-result-6 : tie.Need-add-result-6
 add-result-6 c = let d = digits (c .before .before .before) in omega arith
 
 returns : tie.Need-returns
+unfolding fourOf
 returns c = let d = digits (c .before .before .before) in record { value = omega arith; small = omega arith }
 
-pub four-spec : {M : Type 1} → statement M
-four-spec =
+pub four-at-spec : {M : Type 1} → statement M
+four-at-spec =
     tie.close
     (tie.spec
     shared-slice-read-result
