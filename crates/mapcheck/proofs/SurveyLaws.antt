@@ -8,7 +8,7 @@ use native.Mathlib.Numerals.{add-one}
 use mathlib.Core.Path.{_≡_, refl, sym, ap, _∙_}
 use mathlib.Core.Bool.{Bool, true, false}
 use mathlib.Core.List.{List, map}
-use lib.ListN.{getD}
+use lib.ListN.{length, getD}
 use lib.Dec.{eqb}
 use borrow.Author.Tests.{eq-eqb, ne-eqb, eqb-true, eqb-false}
 use Rattle.d64spec.specs.Lists.{indicator, range, sum}
@@ -143,17 +143,17 @@ surveyed-all {own} {first} {n} e m k =
 
 -- ---- four bytes of the table at once
 
-module _ {own : List ℕ} {a r : ℕ} (four : IsFour own a r) where
+module _ {own : List ℕ} {a r : ℕ} (four : IsFour own a r) (inside : a + 4 ≤ length own) where
   four-zero : r ≡ 0 → (i : ℕ) → a ≤ i → i < a + 4 → getD own i 0 ≡ 0
   unfolding fourOf
-  four-zero e = let value = four .value in each-four (λ i. getD own i 0 ≡ 0) a (omega arith) (omega arith) (omega arith) (omega arith)
+  four-zero e = let value = four .value inside in each-four (λ i. getD own i 0 ≡ 0) a (omega arith) (omega arith) (omega arith) (omega arith)
 
   zero-four : ((i : ℕ) → a ≤ i → i < a + 4 → getD own i 0 ≡ 0) → r ≡ 0
   unfolding fourOf
   zero-four all =
       omega (
         arith,
-        four .value,
+        four .value inside,
         all a (omega arith) (omega arith),
         all (a + 1) (omega arith) (omega arith),
         all (a + 2) (omega arith) (omega arith),
@@ -162,23 +162,23 @@ module _ {own : List ℕ} {a r : ℕ} (four : IsFour own a r) where
 
 module _ {own : List ℕ} {first n a b c d e f p q r s t u : ℕ} (A : IsFour own a p) (B : IsFour own b q) (C : IsFour own c r) (D : IsFour own d s) (E : IsFour own e t) (F : IsFour own f u) where
   -- sixteen bytes from the first on, and the last eight: they add up to 0 exactly where all n sectors are free
-  pub untouched-exact : 16 ≤ n → n ≤ 24 → a ≡ first → b ≡ first + 4 → c ≡ first + 8 → d ≡ first + 12 → e ≡ first + n - 8 → f ≡ first + n - 4
+  pub untouched-exact : first + n ≤ length own → 16 ≤ n → n ≤ 24 → a ≡ first → b ≡ first + 4 → c ≡ first + 8 → d ≡ first + 12 → e ≡ first + n - 8 → f ≡ first + n - 4
       → eqb (p + q + r + s + t + u) 0 ≡ eqb (freeCount own first n) n
-  untouched-exact low high ea eb ec ed ee ef = go (eqb (p + q + r + s + t + u) 0) refl
+  untouched-exact room low high ea eb ec ed ee ef = go (eqb (p + q + r + s + t + u) 0) refl
     where
       none : p + q + r + s + t + u ≡ 0 → Unowned own first n
       none nothing i h =
           elim (decLe 4 i) [
-            | no early ↦ four-zero A (omega arith) (first + i) (omega arith) (omega arith)
+            | no early ↦ four-zero A (omega arith) (omega arith) (first + i) (omega arith) (omega arith)
             | yes second ↦ elim (decLe 8 i) [
-              | no early ↦ four-zero B (omega arith) (first + i) (omega arith) (omega arith)
+              | no early ↦ four-zero B (omega arith) (omega arith) (first + i) (omega arith) (omega arith)
               | yes third ↦ elim (decLe 12 i) [
-                | no early ↦ four-zero C (omega arith) (first + i) (omega arith) (omega arith)
+                | no early ↦ four-zero C (omega arith) (omega arith) (first + i) (omega arith) (omega arith)
                 | yes fourth ↦ elim (decLe 16 i) [
-                  | no early ↦ four-zero D (omega arith) (first + i) (omega arith) (omega arith)
+                  | no early ↦ four-zero D (omega arith) (omega arith) (first + i) (omega arith) (omega arith)
                   | yes fifth ↦ elim (decLe (n - 4) i) [
-                    | no early ↦ four-zero E (omega arith) (first + i) (omega arith) (omega arith)
-                    | yes last ↦ four-zero F (omega arith) (first + i) (omega arith) (omega arith)
+                    | no early ↦ four-zero E (omega arith) (omega arith) (first + i) (omega arith) (omega arith)
+                    | yes last ↦ four-zero F (omega arith) (omega arith) (first + i) (omega arith) (omega arith)
                   ]
                 ]
               ]
@@ -190,12 +190,12 @@ module _ {own : List ℕ} {first n a b c d e f p q r s t u : ℕ} (A : IsFour ow
           let part : (k : ℕ) → first ≤ k → k < first + n → getD own k 0 ≡ 0 = λ k l h. let at : first + (k - first) ≡ k = omega arith in rw at at (free (k - first) (omega arith)) in
           omega (
             arith,
-            zero-four A (λ k l h. part k (omega arith) (omega arith)),
-            zero-four B (λ k l h. part k (omega arith) (omega arith)),
-            zero-four C (λ k l h. part k (omega arith) (omega arith)),
-            zero-four D (λ k l h. part k (omega arith) (omega arith)),
-            zero-four E (λ k l h. part k (omega arith) (omega arith)),
-            zero-four F (λ k l h. part k (omega arith) (omega arith)),
+            zero-four A (omega arith) (λ k l h. part k (omega arith) (omega arith)),
+            zero-four B (omega arith) (λ k l h. part k (omega arith) (omega arith)),
+            zero-four C (omega arith) (λ k l h. part k (omega arith) (omega arith)),
+            zero-four D (omega arith) (λ k l h. part k (omega arith) (omega arith)),
+            zero-four E (omega arith) (λ k l h. part k (omega arith) (omega arith)),
+            zero-four F (omega arith) (λ k l h. part k (omega arith) (omega arith)),
           )
 
       go : (x : Bool) → eqb (p + q + r + s + t + u) 0 ≡ x → x ≡ eqb (freeCount own first n) n

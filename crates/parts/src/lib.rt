@@ -1,8 +1,7 @@
 // Bytes of a slice, read and compared for any slice and any numbers: what the crates above share.
-// Nothing wraps and nothing is out of range: a byte past the end reads as 0, a part ends where the slice ends; only `four_at` asks for its range.
+// Nothing wraps and nothing is out of range: a byte past the end reads as 0, a part ends where the slice ends.
 ghost use mathlib.Core.Path.{_≡_};
-ghost use Prim.Native.Nat.{_+_, _≤_};
-ghost use lib.ListN.{length, take, drop};
+ghost use lib.ListN.{take, drop};
 ghost use Rattle.d64spec.specs.Lists.{byte, equal};
 ghost use Rattle.parts.specs.Numbers.{IsFour};
 
@@ -13,11 +12,16 @@ pub fn byte_at(bytes: &[u8], at: usize) -> u8
     if at < bytes.len() { bytes[at] } else { 0 }
 }
 
-// The number of the four bytes from index `at` on, low byte first: with its range asked of the caller it compiles to one load.
+// The number of the four bytes from index `at` on, low byte first, or 0 where there are not four: compiles to one load.
 pub fn four_at(bytes: &[u8], at: usize) -> u64
-    requires { ⌜ at + 4 ≤ length (now bytes) ⌝ }
     ensures { λ r. ⌜ IsFour (now (bytes .entry)) at r ⌝ }
 {
+    if bytes.len() < 4 {
+        return 0;
+    }
+    if bytes.len() - 4 < at {
+        return 0;
+    }
     bytes[at] as u64
         + 256 * (bytes[at + 1] as u64)
         + 65536 * (bytes[at + 2] as u64)

@@ -59,7 +59,7 @@ returns : tie.Need-returns
 returns c =
     let k = c .before .before .before .before .before in
     untouched-exact (k .four-at .ensures) (c .before .before .before .before .four-at2 .ensures) (c .before .before .before .four-at3 .ensures)
-    (c .before .before .four-at4 .ensures) (c .before .four-at5 .ensures) (c .four-at6 .ensures) (omega arith) (omega arith)
+    (c .before .before .four-at4 .ensures) (c .before .four-at5 .ensures) (c .four-at6 .ensures) (omega arith) (omega arith) (omega arith)
     (omega arith) (omega arith) (omega arith) (omega arith) (omega arith) (omega arith)
 
 pub untouched-spec : {M : Type 1} → statement M

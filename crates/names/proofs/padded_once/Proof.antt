@@ -15,7 +15,7 @@ neighbours-fit-requires : tie.Need-neighbours-fit-requires
 neighbours-fit-requires c κs =
     let k = c .before .before .before .before in
     fits-padding _ (k .before .pre) (λ i. omega (arith, k .shared-slice-known .given i))
-    (c .before .before .before .four-at .ensures .value) (c .before .four-at2 .ensures .value) (c .before .before .if1 .taken) (c .if2 .taken) (omega arith) (omega arith)
+    (c .before .before .before .four-at .ensures .value (omega arith)) (c .before .four-at2 .ensures .value (omega arith)) (c .before .before .if1 .taken) (c .if2 .taken) (omega arith) (omega arith)
 
 returns : tie.Need-returns
 returns c = c .neighbours-fit .ensures

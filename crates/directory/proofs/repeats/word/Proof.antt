@@ -22,7 +22,7 @@ add-result c = omega (arith, c .before .four-at .ensures .small, c .four-at2 .en
 
 returns : tie.Need-returns
 unfolding wordOf
-returns c = omega (arith, c .before .four-at .ensures .value, c .four-at2 .ensures .value)
+returns c = omega (arith, c .before .four-at .ensures .value (omega arith), c .four-at2 .ensures .value (omega arith))
 
 pub word-spec : {M : Type 1} → statement M
 word-spec =
