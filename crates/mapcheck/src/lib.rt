@@ -23,6 +23,16 @@ fn untouched(own: &[u8], first: usize, n: usize) -> bool
     ensures { λ r. ⌜ r ≡ eqb (freeCount (now (own .entry)) first n) n ⌝ }
 {
     let last = first + n;
+    // always so; asked that the compiler, too, knows that all six lie in the table, and reads them without asking again
+    if last < 16 {
+        return false;
+    }
+    if own.len() < last {
+        return false;
+    }
+    if own.len() - 16 < first {
+        return false;
+    }
     parts::four_at(own, first)
         + parts::four_at(own, first + 4)
         + parts::four_at(own, first + 8)
