@@ -23,7 +23,7 @@ fn untouched(own: &[u8], first: usize, n: usize) -> bool
     ensures { λ r. ⌜ r ≡ eqb (freeCount (now (own .entry)) first n) n ⌝ }
 {
     let last = first + n;
-    // always so; asked that the compiler, too, knows that all six lie in the table, and reads them without asking again
+    // none of these three is ever so; they are asked so that the compiler, too, knows that all six numbers lie in the table
     if last < 16 {
         return false;
     }
