@@ -7,7 +7,7 @@ use mathlib.Core.Bool.{Bool, cond, not, _&&_}
 use mathlib.Core.List.{List, [], _∷_, _++_, map}
 use lib.ListN.{length, take, getD}
 use lib.Dec.{eqb, ltb}
-use Rattle.d64spec.specs.Lists.{Bytes, All, zeros, nameCount}
+use Rattle.d64spec.specs.Lists.{Bytes, All, filter, range, zeros, nameCount}
 use Rattle.d64spec.specs.Answers.{Address, address, wrongSize, badType, badName, duplicateName, Result, refused, done, _>>_, need}
 use Rattle.d64spec.specs.Geometry.{layout35, total, sectorsOn}
 use Rattle.d64spec.specs.Image.{disk}
@@ -29,6 +29,10 @@ slotAt b ss k = slotIn (disk b (getD ss (k / 8) 0)) (address 18 (getD ss (k / 8)
 -- the bytes 02 to 1F of slot k
 abbrev pub slotBytes : Bytes → List ℕ → ℕ → Bytes
 slotBytes b ss k = slotAt b ss k .bytes
+
+-- the occupied ones of the n slots from k on
+unfoldable pub occupiedFrom : Bytes → List ℕ → ℕ → ℕ → List Slot
+occupiedFrom b ss k n = filter (λ s. not (isEmpty (s .bytes))) (map (slotAt b ss) (range k n))
 
 -- p is slot k, with its 30 bytes where track 18 is whole and the sector is one of its 19
 pub record IsSlot (b : Bytes) (ss : List ℕ) (k : ℕ) (p : Bytes) : Type 0 where

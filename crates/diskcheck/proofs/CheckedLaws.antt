@@ -22,7 +22,7 @@ use Rattle.answers.specs.Faults.{faultOf, whereFine}
 use Rattle.owners.specs.OwnerTable.{ownerTable}
 use Rattle.directory.specs.Directories.{sectorsOf}
 use Rattle.diskcheck.specs.declared.Checked.{Checked}
-use Rattle.diskcheck.specs.SlotChecks.{occupiedFrom}
+use Rattle.diskcheck.specs.SlotChecks.{imageOccupied}
 use Rattle.diskcheck.specs.ImageChecks.{Found, foundIn, directoryCount, ImageChecked}
 use Rattle.diskcheck.proofs.TrackLaws.{sectorsOf-whole, occupied-by-track18}
 
@@ -32,7 +32,7 @@ pub record FineImage (img : Bytes) (r : Checked) : Type 0 where
   pub contents : checkImage layout35 img ≡ done (record { walked = directorySectors layout35 (disk img); found = files layout35 (disk img) })
   pub sectors : sectorsOf (r .sectors) (r .count) ≡ directorySectors layout35 (disk img)
   pub whole : r .count ≤ length (r .sectors)
-  pub occupied : directory.occupied layout35 (disk img) ≡ occupiedFrom img (r .sectors) 0 (8 * r .count)
+  pub occupied : directory.occupied layout35 (disk img) ≡ imageOccupied img (r .sectors) 0 (8 * r .count)
   pub owners : r .owners ≡ ownerTable layout35 (directorySectors layout35 (disk img)) (files layout35 (disk img))
 
 -- a check that is done has met an accepted image's directory and files

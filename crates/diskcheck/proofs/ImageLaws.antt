@@ -35,7 +35,7 @@ use Rattle.directory.proofs.Track18Laws.{directory-of-track18, sectors-18}
 use Rattle.mapcheck.specs.MapChecks.{mapVerdict}
 use Rattle.mapcheck.proofs.StepLaws.{verdict-same}
 use Rattle.diskcheck.specs.declared.Checked.{Checked}
-use Rattle.diskcheck.specs.SlotChecks.{occupiedFrom, tableWithFiles, slotsStep, SlotsReady}
+use Rattle.diskcheck.specs.SlotChecks.{imageOccupied, tableWithFiles, slotsStep, SlotsReady}
 use Rattle.diskcheck.specs.ImageChecks.{Found, foundIn, directoryCount, tableFound, ImageChecked, restStep}
 use Rattle.diskcheck.proofs.TrackLaws.{track18-lent, map-lent, sectorsOf-whole, occupied-by-track18}
 
@@ -111,7 +111,7 @@ module _ (img : Bytes) where
       let ds : List Address = sectorsOf ss n in
       let own : List ℕ = directoryTable layout35 ds in
       ap (λ (l : List Slot). tableWithFiles own (checkSlots layout35 (disk img) (owned own) [] l) >>= (λ own. mapAfter ds own)) (occupied-by-track18 img ss n inside whole)
-      ∙ regroup (tableWithFiles own (checkSlots layout35 (disk img) (owned own) [] (occupiedFrom img ss 0 (8 * n)))) (mapVerdict (disk img (sectorNumber layout35 mapAddress)))
+      ∙ regroup (tableWithFiles own (checkSlots layout35 (disk img) (owned own) [] (imageOccupied img ss 0 (8 * n)))) (mapVerdict (disk img (sectorNumber layout35 mapAddress)))
       (λ own. record { directory = ds; table = own })
     where
       regroup : (x : Result (List ℕ)) (m : List ℕ → Result (Unit {0})) (f : List ℕ → Found) → (x >>= (λ o. m o >> done (f o))) ≡ ((x >>= (λ o. m o >> done o)) >>= (λ o. done (f o)))

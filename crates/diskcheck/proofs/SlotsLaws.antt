@@ -26,10 +26,10 @@ use Rattle.answers.specs.Faults.{whereFine}
 use Rattle.owners.specs.OwnerTable.{owned, withOwner, fileOwner}
 use Rattle.owners.proofs.TableLaws.{length-withOwner, alike-withOwner}
 use Rattle.owners.proofs.SlotsTable.{slots-alike, slot-lt}
-use Rattle.directory.specs.Directories.{firstRepeated}
+use Rattle.directory.specs.Directories.{firstRepeated, occupiedFrom}
 use Rattle.directory.proofs.EntryLaws.{number-at}
 use Rattle.directory.proofs.RepeatLaws.{ValidBelow, new-name, past-empty}
-use Rattle.diskcheck.specs.SlotChecks.{imageSlot, imageNames, occupiedFrom, tableWith, slotStep, tableWithFiles, slotsStep, SlotReady, SlotsReady}
+use Rattle.diskcheck.specs.SlotChecks.{imageSlot, imageNames, imageOccupied, tableWith, slotStep, tableWithFiles, slotsStep, SlotReady, SlotsReady}
 
 -- ---- slot by slot
 
@@ -41,7 +41,7 @@ tableWithFiles-next own s c (done fs) = refl
 
 -- SLOT BY SLOT: the check of the slots from k on is slot k, then the rest with the table after it
 pub slots-next : (img own ss : List ℕ) (k n : ℕ) → length own ≡ 683 → slotsStep img own ss k (suc n) ≡ (slotStep img own ss k >>= (λ own′. slotsStep img own′ ss (suc k) n))
-unfolding slotsStep slotStep tableWithFiles tableWith
+unfolding slotsStep slotStep tableWithFiles tableWith occupiedFrom
 slots-next img own ss k n long = go (isEmpty (s .bytes)) refl
   where
     s : Slot
@@ -51,7 +51,7 @@ slots-next img own ss k n long = go (isEmpty (s .bytes)) refl
     names = nameOf (s .bytes) ∷ imageNames img ss k
 
     later : List ℕ → Result (List File)
-    later owners = checkSlots layout35 (disk img) owners names (occupiedFrom img ss (suc k) n)
+    later owners = checkSlots layout35 (disk img) owners names (imageOccupied img ss (suc k) n)
 
     chain : Result (List Address)
     chain = checkSlot layout35 (disk img) (owned own) (imageNames img ss k) s
@@ -66,17 +66,17 @@ slots-next img own ss k n long = go (isEmpty (s .bytes)) refl
         let inside : All (λ x. x < length own) l = subst (λ (t : ℕ). All (λ x. x < t) l) (sectors35 ∙ sym long) (slot-lt layout35 (disk img) (owned own) (imageNames img ss k) s c e) in
         tableWithFiles-next own s c (later (l ++ owned own))
         ∙ ap (λ (t : ℕ). tableWithFiles (withOwner (fileOwner t) l own) (later (l ++ owned own))) (number-at _ ss k)
-        ∙ ap (tableWithFiles own′) (slots-alike layout35 (disk img) (l ++ owned own) (owned own′) names (occupiedFrom img ss (suc k) n) (alike-withOwner (fileOwner k) (omega arith) l own inside))
+        ∙ ap (tableWithFiles own′) (slots-alike layout35 (disk img) (l ++ owned own) (owned own′) names (imageOccupied img ss (suc k) n) (alike-withOwner (fileOwner k) (omega arith) l own inside))
 
     go : (b : Bool) → isEmpty (s .bytes) ≡ b
-        → tableWithFiles own (checkSlots layout35 (disk img) (owned own) (imageNames img ss k) (cond (not (isEmpty (s .bytes))) (s ∷ occupiedFrom img ss (suc k) n) (occupiedFrom img ss (suc k) n)))
+        → tableWithFiles own (checkSlots layout35 (disk img) (owned own) (imageNames img ss k) (cond (not (isEmpty (s .bytes))) (s ∷ imageOccupied img ss (suc k) n) (imageOccupied img ss (suc k) n)))
         ≡ (cond (isEmpty (s .bytes)) (done own) (tableWith (fileOwner k) own chain)
-        >>= (λ own′. tableWithFiles own′ (checkSlots layout35 (disk img) (owned own′) (cond (isEmpty (s .bytes)) (imageNames img ss k) names) (occupiedFrom img ss (suc k) n))))
+        >>= (λ own′. tableWithFiles own′ (checkSlots layout35 (disk img) (owned own′) (cond (isEmpty (s .bytes)) (imageNames img ss k) names) (imageOccupied img ss (suc k) n))))
     go true e = rw e
     go false e = rw e (after chain refl)
 
 slots-none : (img own ss : List ℕ) (k : ℕ) → slotsStep img own ss k 0 ≡ done own
-unfolding slotsStep tableWithFiles
+unfolding slotsStep tableWithFiles occupiedFrom
 slots-none img own ss k = refl
 
 -- ---- a slot that passes

@@ -14,11 +14,11 @@ use Rattle.d64spec.specs.Directory.{isEmpty, occupiedIn}
 use Rattle.d64spec.specs.Listing.{bytesOfTrack18, diskOfTrack18}
 use Rattle.d64spec.proofs.FrameLaws.{same-slots}
 use Rattle.d64spec.proofs.ListingTheorem.{track18-length, track18-sectors}
-use Rattle.directory.specs.Directories.{sectorsOf, slotBytes, IsSlot}
+use Rattle.directory.specs.Directories.{sectorsOf, slotBytes, occupiedFrom, IsSlot}
 use Rattle.directory.proofs.SearchLaws.{sector-lt}
 use Rattle.directory.proofs.SlotListLaws.{disk-of-track18, occupied-by-number}
 use Rattle.directory.proofs.Track18Laws.{number-18}
-use Rattle.diskcheck.specs.SlotChecks.{imageSlot, occupiedFrom, LentSlot}
+use Rattle.diskcheck.specs.SlotChecks.{imageSlot, imageOccupied, LentSlot}
 
 -- ---- parts of the image
 
@@ -58,7 +58,8 @@ module _ (img : Bytes) where
   sectors-same (s ∷ ss) (suc n) a = (sector-same s (a .0), sectors-same ss n (a .1))
 
   -- THE OCCUPIED SLOTS of an image, by the numbers of the slots on its track 18
-  pub occupied-by-track18 : (ss : List ℕ) (n : ℕ) → All (λ s. s < 19) ss → n ≤ length ss → occupiedIn layout35 (disk img) (sectorsOf ss n) ≡ occupiedFrom img ss 0 (8 * n)
+  pub occupied-by-track18 : (ss : List ℕ) (n : ℕ) → All (λ s. s < 19) ss → n ≤ length ss → occupiedIn layout35 (disk img) (sectorsOf ss n) ≡ imageOccupied img ss 0 (8 * n)
+  unfolding occupiedFrom
   occupied-by-track18 ss n a h =
       ap (filter (λ s. not (isEmpty (s .bytes)))) (sym (same-slots layout35 (disk img) (diskOfTrack18 layout35 (bytesOfTrack18 layout35 img)) 0 (sectorsOf ss n) (sectors-same ss n a)))
       ∙ occupied-by-number (bytesOfTrack18 layout35 img) ss n h

@@ -6,7 +6,7 @@ use mathlib.Core.Bool.{Bool, true, false, cond, not}
 use mathlib.Core.List.{List, map}
 use lib.ListN.{length}
 use lib.Dec.{eqb}
-use Rattle.d64spec.specs.Lists.{Bytes, All, filter, nameCount, range}
+use Rattle.d64spec.specs.Lists.{Bytes, All, nameCount}
 use Rattle.d64spec.specs.Answers.{Address, wrongCount, Result, refused, done, _>>=_, _>>_, need}
 use Rattle.d64spec.specs.Geometry.{layout35, sectorNumber}
 use Rattle.d64spec.specs.Image.{disk}
@@ -14,7 +14,7 @@ use Rattle.d64spec.specs.Directory.{Slot, File, isEmpty, entryByte, nameOf, val
 use Rattle.d64spec.specs.Check.{checkSlot, checkSlots}
 use Rattle.d64spec.specs.Listing.{bytesOfTrack18}
 use Rattle.owners.specs.OwnerTable.{owned, withOwner, withFiles, fileOwner}
-use Rattle.directory.specs.Directories.{slotAt, namesBelow, firstRepeated, entryVerdict}
+use Rattle.directory.specs.Directories.{slotAt, namesBelow, firstRepeated, entryVerdict, occupiedFrom}
 use Rattle.diskcheck.specs.Chains.{chainWalk}
 
 -- slot k of the directory whose sectors on track 18 of the image are ss
@@ -31,8 +31,8 @@ abbrev pub imageNames : Bytes → List ℕ → ℕ → List Bytes
 imageNames img ss k = namesBelow (bytesOfTrack18 layout35 img) ss k
 
 -- the occupied slots among the n from k on
-abbrev pub occupiedFrom : Bytes → List ℕ → ℕ → ℕ → List Slot
-occupiedFrom img ss k n = filter (λ s. not (isEmpty (s .bytes))) (map (imageSlot img ss) (range k n))
+abbrev pub imageOccupied : Bytes → List ℕ → ℕ → ℕ → List Slot
+imageOccupied img ss k n = occupiedFrom (bytesOfTrack18 layout35 img) ss k n
 
 -- the table after a chain
 unfoldable pub tableWith : ℕ → List ℕ → Result (List Address) → Result (List ℕ)
@@ -68,7 +68,7 @@ tableWithFiles own (done fs) = done (withFiles layout35 fs own)
 
 -- THE DEFINITION'S CHECK of the n slots from k on, and the table after it
 unfoldable pub slotsStep : Bytes → List ℕ → List ℕ → ℕ → ℕ → Result (List ℕ)
-slotsStep img own ss k n = tableWithFiles own (checkSlots layout35 (disk img) (owned own) (imageNames img ss k) (occupiedFrom img ss k n))
+slotsStep img own ss k n = tableWithFiles own (checkSlots layout35 (disk img) (owned own) (imageNames img ss k) (imageOccupied img ss k n))
 
 -- an image and a table of the right size, the 30 bytes of a slot, and one of the 144 numbers of slots
 pub record FileReady (img own b : List ℕ) (number : ℕ) : Type 0 where

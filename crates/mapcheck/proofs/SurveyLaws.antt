@@ -6,24 +6,21 @@ use native.Mathlib.Decide.{ℕ-discrete, decLe}
 use native.Mathlib.Nat.{pow-le-pow-right}
 use native.Mathlib.Numerals.{add-one}
 use mathlib.Core.Path.{_≡_, refl, sym, ap, _∙_}
-use mathlib.Core.Bool.{Bool, true, false}
+use mathlib.Core.Bool.{Bool, true, false, _&&_}
 use mathlib.Core.List.{List, map}
 use lib.ListN.{length, getD}
-use lib.Dec.{eqb}
-use borrow.Author.Tests.{eq-eqb, ne-eqb, eqb-true, eqb-false}
+use lib.Pow.{pow-pos}
+use lib.Dec.{eqb, leb}
+use borrow.Author.Tests.{eq-eqb, ne-eqb, le-leb, lt-leb, eqb-true, eqb-false}
 use Rattle.d64spec.specs.Lists.{indicator, range, sum}
 use Rattle.mapentry.proofs.OnesLaws.{sum-map-last, sum-map-le}
 use Rattle.parts.specs.Numbers.{fourOf, IsFour}
 use Rattle.parts.proofs.NumberLaws.{each-four}
-use Rattle.mapcheck.specs.MapChecks.{binary, freeBit, freeMask, freeCount, Surveyed}
+use Rattle.mapcheck.specs.MapChecks.{binary, freeBit, freeMask, freeCount, Surveyed, unownedTrack}
 use Rattle.mapcheck.proofs.MaskLaws.{binary-more, binary-lt}
 
 power-le : (s : ℕ) → s ≤ 24 → 2 ^ s ≤ 16777216
 power-le s h = pow-le-pow-right {n = 2} (omega arith) h
-
-pub power-pos : (s : ℕ) → 1 ≤ 2 ^ s
-power-pos zero = omega arith
-power-pos (suc s) = omega (arith, power-pos s)
 
 -- a bit up to 24 is not shifted out of 32
 pub shifted : (s : ℕ) → s ≤ 24 → 1 * 2 ^ s % 4294967296 ≡ 2 ^ s
@@ -117,7 +114,7 @@ module _ (own : List ℕ) (first n : ℕ) where
   surveying-all free zero h = surveying-start own first n
   surveying-all free (suc s) h =
       let next : s + 1 ≡ suc s = add-one s in
-      rw next at (surveying-free (surveying-all free s (omega arith)) {mask′ = 2 ^ suc s - 1} {count′ = suc s} h (free s h) (omega (arith, power-pos s)) (omega arith))
+      rw next at (surveying-free (surveying-all free s (omega arith)) {mask′ = 2 ^ suc s - 1} {count′ = suc s} h (free s h) (omega (arith, pow-pos s)) (omega arith))
 
   count-all : Unowned own first n → freeCount own first n ≡ n
   count-all free = sym (surveying-all free n (omega arith) .counted)
@@ -134,6 +131,35 @@ unowned-of-count own first (suc n) e s h =
       ])
       | no q ↦ unowned-of-count own first n (omega (arith, free-bit-le own first n, count-le own first n)) s (omega arith)
     ]
+
+-- what the test of a whole track finds, by cases
+module _ (own : List ℕ) (first n : ℕ) where
+  pub unowned-few : n < 16 → false ≡ unownedTrack own first n
+  unfolding unownedTrack
+  unowned-few h = rw (lt-leb 16 n h)
+
+  pub unowned-many : 24 < n → false ≡ unownedTrack own first n
+  unfolding unownedTrack
+  unowned-many h = rw (le-leb 16 n (omega arith), lt-leb n 24 h)
+
+  pub unowned-past : 16 ≤ n → n ≤ 24 → length own < first + n → false ≡ unownedTrack own first n
+  unfolding unownedTrack
+  unowned-past low high h = rw (le-leb 16 n low, le-leb n 24 high, lt-leb (first + n) (length own) h)
+
+  pub unowned-inside : 16 ≤ n → n ≤ 24 → first + n ≤ length own → eqb (freeCount own first n) n ≡ unownedTrack own first n
+  unfolding unownedTrack
+  unowned-inside low high h = rw (le-leb 16 n low, le-leb n 24 high, le-leb (first + n) (length own) h)
+
+  -- where it holds, as many are free as there are
+  pub unowned-all : unownedTrack own first n ≡ true → freeCount own first n ≡ n
+  unfolding unownedTrack
+  unowned-all e = go (leb 16 n) (leb n 24) (leb (first + n) (length own)) e
+    where
+      go : (a b c : Bool) → (a && b && c && eqb (freeCount own first n) n) ≡ true → freeCount own first n ≡ n
+      go true true true h = eqb-true _ n h
+      go true true false h = absurd (let z : _≡_ {A = ℕ} 0 1 = cc in omega arith)
+      go true false c h = absurd (let z : _≡_ {A = ℕ} 0 1 = cc in omega arith)
+      go false b c h = absurd (let z : _≡_ {A = ℕ} 0 1 = cc in omega arith)
 
 -- all bits are set, and all are counted
 pub surveyed-all : {own : List ℕ} {first n mask count : ℕ} → freeCount own first n ≡ n → mask ≡ 2 ^ n - 1 → count ≡ n → Surveyed own first n (record { mask = mask; count = count })
@@ -163,8 +189,8 @@ module _ {own : List ℕ} {a r : ℕ} (four : IsFour own a r) (inside : a + 4 �
 module _ {own : List ℕ} {first n a b c d e f p q r s t u : ℕ} (A : IsFour own a p) (B : IsFour own b q) (C : IsFour own c r) (D : IsFour own d s) (E : IsFour own e t) (F : IsFour own f u) where
   -- sixteen bytes from the first on, and the last eight: they add up to 0 exactly where all n sectors are free
   pub untouched-exact : first + n ≤ length own → 16 ≤ n → n ≤ 24 → a ≡ first → b ≡ first + 4 → c ≡ first + 8 → d ≡ first + 12 → e ≡ first + n - 8 → f ≡ first + n - 4
-      → eqb (p + q + r + s + t + u) 0 ≡ eqb (freeCount own first n) n
-  untouched-exact room low high ea eb ec ed ee ef = go (eqb (p + q + r + s + t + u) 0) refl
+      → eqb (p + q + r + s + t + u) 0 ≡ unownedTrack own first n
+  untouched-exact room low high ea eb ec ed ee ef = go (eqb (p + q + r + s + t + u) 0) refl ∙ unowned-inside own first n low high room
     where
       none : p + q + r + s + t + u ≡ 0 → Unowned own first n
       none nothing i h =

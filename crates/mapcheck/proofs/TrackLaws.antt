@@ -1,13 +1,13 @@
--- A track's test as the code makes it is d64spec's `entryCorrect`. In order: how many sectors; a bit that is expected is the table's; the bitmap as a number; the
+-- A track's test as the code makes it is d64spec's `entryCorrect`. In order: a bit that is expected is the table's; the bitmap as a number; the
 -- count; the track. Stated once over the track's number of sectors. Assumes nothing.
 use Prim.Native.Nat.{ℕ, _+_, _-_, _≤_, _<_, zero-le}
 use native.Mathlib.Omega.{arith}
 use mathlib.Core.Path.{_≡_, refl, sym, ap, ap₂, _∙_}
 use mathlib.Core.Bool.{Bool, true, false, _&&_, not}
 use mathlib.Core.List.{List}
-use lib.ListN.{length, getD}
-use lib.Dec.{eqb, leb}
-use borrow.Author.Tests.{leb-true, lt-ltb, le-ltb, eqb-true, eq-eqb, ne-eqb, not-false}
+use lib.ListN.{length}
+use lib.Dec.{eqb}
+use borrow.Author.Tests.{lt-ltb, le-ltb, eqb-true, eq-eqb, ne-eqb, not-false}
 use Rattle.d64spec.specs.Lists.{Bytes, byte, range}
 use Rattle.d64spec.specs.Answers.{Address}
 use Rattle.d64spec.specs.Geometry.{Geometry, layout35, firstOn, sectorsOn, sectorNumber}
@@ -15,9 +15,6 @@ use Rattle.d64spec.specs.Map.{mapBit, mapOnes, expectedBit, wrongBits, entryCor
 use Rattle.d64spec.proofs.MapLaws.{filter-none, none-filter, range-at, range-all}
 use Rattle.d64spec.proofs.MapWriteLaws.{sum-same, bit-le}
 use Rattle.d64spec.proofs.RunTheorem.{valid35}
-use Rattle.geometry.proofs.Tables.{counts}
-use Rattle.geometry.proofs.Every.{every-at}
-use Rattle.geometry.proofs.TableLaws.{count-at}
 use Rattle.owners.specs.OwnerTable.{freeBy}
 use Rattle.mapentry.specs.MapEntry.{entryBit}
 use Rattle.mapentry.proofs.ShapeLaws.{EntryShape}
@@ -27,10 +24,6 @@ use Rattle.bamlaws.proofs.EntryChangeLaws.{bit-map-entry}
 use Rattle.mapcheck.specs.MapChecks.{binary, freeBit, freeMask, freeCount, Surveyed, bitmapOf, trackCorrect}
 use Rattle.mapcheck.specs.declared.FreeSectors.{FreeSectors}
 use Rattle.mapcheck.proofs.MaskLaws.{binary-same, bits-same, binary-past, bitmap-binary}
-
--- a track has at least sixteen sectors: 17 to 21 (01, Tracks and sectors)
-pub sixteen-sectors : (t : ℕ) → 1 ≤ t → t ≤ 35 → 16 ≤ sectorsOn layout35 t
-sixteen-sectors t low high = omega (arith, count-at t low, leb-true 16 (getD counts (t - 1) 0) (every-at (λ k x. leb 16 x) counts refl (t - 1) (omega arith)))
 
 -- ---- tests
 

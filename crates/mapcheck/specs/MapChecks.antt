@@ -5,8 +5,8 @@ use Prim.Native.Nat.{ℕ, _+_, _*_, _^_}
 use mathlib.Core.Path.{_≡_}
 use mathlib.Core.Bool.{Bool, _&&_}
 use mathlib.Core.List.{List, map}
-use lib.ListN.{getD}
-use lib.Dec.{eqb}
+use lib.ListN.{length, getD}
+use lib.Dec.{eqb, leb}
 use Rattle.d64spec.specs.Lists.{Bytes, byte, indicator, range, sum}
 use Rattle.d64spec.specs.Answers.{Result}
 use Rattle.d64spec.specs.Geometry.{layout35, tracks, firstOn, sectorsOn}
@@ -34,6 +34,10 @@ freeCount own first n = sum (map (freeBit own first) (range 0 n))
 pub record Surveyed (own : List ℕ) (first n : ℕ) (r : FreeSectors) : Type 0 where
   pub mask : r .mask ≡ freeMask own first n
   pub count : r .count ≡ freeCount own first n
+
+-- whether nobody owns any of the n sectors from number `first` on, where these are 16 to 24 and lie in the table
+unfoldable pub unownedTrack : List ℕ → ℕ → ℕ → Bool
+unownedTrack own first n = leb 16 n && leb n 24 && leb (first + n) (length own) && eqb (freeCount own first n) n
 
 -- the three bitmap bytes of an entry as a number: bit s for sector s (01, The map)
 unfoldable pub bitmapOf : Bytes → ℕ

@@ -3,10 +3,8 @@
 // at once: bits past the track's last sector are 0 in it, as they must be in the map.
 ghost use mathlib.Core.Path.{_≡_};
 ghost use Prim.Native.Nat.{_+_, _≤_};
-ghost use lib.ListN.{length};
-ghost use lib.Dec.{eqb};
 ghost use Rattle.answers.specs.Faults.{verdictOf};
-ghost use Rattle.mapcheck.specs.MapChecks.{freeCount, Surveyed, trackCorrect, mapVerdict};
+ghost use Rattle.mapcheck.specs.MapChecks.{unownedTrack, Surveyed, trackCorrect, mapVerdict};
 use answers::Fault;
 use answers::Verdict;
 
@@ -16,23 +14,24 @@ struct FreeSectors {
     count: u8,
 }
 
-// Whether nobody owns any of the n sectors from number `first` on: all n are free. Sixteen bytes are added from the first on, and the last eight, some
-// of them twice.
+// Whether nobody owns any of the n sectors from number `first` on, asked only of 16 to 24 sectors that lie in the table: sixteen bytes are
+// added from the first on, and the last eight, some of them twice.
 fn untouched(own: &[u8], first: usize, n: usize) -> bool
-    requires { ⌜ (first + n ≤ length (now own)) × (16 ≤ n) × (n ≤ 24) ⌝ }
-    ensures { λ r. ⌜ r ≡ eqb (freeCount (now (own .entry)) first n) n ⌝ }
+    ensures { λ r. ⌜ r ≡ unownedTrack (now (own .entry)) first n ⌝ }
 {
+    if n < 16 {
+        return false;
+    }
+    if 24 < n {
+        return false;
+    }
+    if own.len() < n {
+        return false;
+    }
+    if own.len() - n < first {
+        return false;
+    }
     let last = first + n;
-    // none of these three is ever so; they are asked so that the compiler, too, knows that all six numbers lie in the table
-    if last < 16 {
-        return false;
-    }
-    if own.len() < last {
-        return false;
-    }
-    if own.len() - 16 < first {
-        return false;
-    }
     parts::four_at(own, first)
         + parts::four_at(own, first + 4)
         + parts::four_at(own, first + 8)
@@ -62,7 +61,7 @@ fn survey_each(own: &[u8; 683], first: usize, sectors: u8) -> FreeSectors
 
 // The same; where nobody owns any, as on most tracks, all bits are set.
 fn survey(own: &[u8; 683], first: usize, sectors: u8) -> FreeSectors
-    requires { ⌜ (first + sectors ≤ 683) × (16 ≤ sectors) × (sectors ≤ 24) ⌝ }
+    requires { ⌜ (first + sectors ≤ 683) × (sectors ≤ 24) ⌝ }
     ensures { λ r. ⌜ Surveyed (now (own .entry)) first sectors r ⌝ }
 {
     if untouched(own, first, sectors as usize) {

@@ -17,8 +17,8 @@ use Rattle.d64spec.specs.Directory.{Slot, File, isEmpty, nameField, padded, val
 use Rattle.d64spec.specs.Listing.{bytesOfTrack18}
 use Rattle.d64spec.specs.Reply.{validNameArgument, filesNamed}
 use Rattle.names.proofs.NameLaws.{equal-nameField-padded}
-use Rattle.directory.specs.Directories.{slotBytes, IsSlot}
-use Rattle.diskcheck.specs.SlotChecks.{imageSlot, occupiedFrom}
+use Rattle.directory.specs.Directories.{slotBytes, occupiedFrom, IsSlot}
+use Rattle.diskcheck.specs.SlotChecks.{imageSlot, imageOccupied}
 use Rattle.reading.specs.FileSlots.{holdsFile, slotNamed, slotPlaced, SlotsThere}
 
 -- ---- the loops
@@ -101,11 +101,11 @@ foundAt img ss end i = cond (eqb i end) (refused notFound) (done (fileOf layout3
 module _ (img : Bytes) (ss : List ℕ) where
   -- the files of the occupied slots among the n from k on
   abbrev pub filesFrom : ℕ → ℕ → List File
-  filesFrom k n = map (fileOf layout35 (disk img)) (occupiedFrom img ss k n)
+  filesFrom k n = map (fileOf layout35 (disk img)) (imageOccupied img ss k n)
 
-  pub named-found : (name : Bytes) → validNameArgument name ≡ true → (end n k : ℕ) → k + n ≡ end → All (λ s. validName (s .bytes) ≡ true) (occupiedFrom img ss k n)
+  pub named-found : (name : Bytes) → validNameArgument name ≡ true → (end n k : ℕ) → k + n ≡ end → All (λ s. validName (s .bytes) ≡ true) (imageOccupied img ss k n)
       → first notFound (filesNamed name (filesFrom k n)) ≡ foundAt img ss end (slotNamed (bytesOfTrack18 layout35 img) ss name k n)
-  unfolding foundAt filesNamed fileOf first holdsFile
+  unfolding foundAt filesNamed fileOf first holdsFile occupiedFrom
   named-found name asked end zero k e valid = rw (eq-eqb k end (omega arith))
   named-found name asked end (suc n) k e valid = go (isEmpty (x .bytes)) valid (λ a. named-found name asked end n (suc k) (omega arith) a)
     where
@@ -113,7 +113,7 @@ module _ (img : Bytes) (ss : List ℕ) where
       x = imageSlot img ss k
 
       rest : List Slot
-      rest = occupiedFrom img ss (suc k) n
+      rest = imageOccupied img ss (suc k) n
 
       next : ℕ
       next = slotNamed (bytesOfTrack18 layout35 img) ss name (suc k) n
@@ -133,13 +133,13 @@ module _ (img : Bytes) (ss : List ℕ) where
 
   pub placed-found : (end n position k : ℕ) → k + n ≡ end
       → first notFound (drop position (filesFrom k n)) ≡ foundAt img ss end (slotPlaced (bytesOfTrack18 layout35 img) ss position k n)
-  unfolding foundAt first
+  unfolding foundAt first occupiedFrom
   placed-found end zero zero k e = rw (eq-eqb k end (omega arith))
   placed-found end zero (suc p) k e = rw (eq-eqb k end (omega arith))
   placed-found end (suc n) zero k e = go (isEmpty (imageSlot img ss k .bytes)) (placed-found end n zero (suc k) (omega arith))
     where
       rest : List Slot
-      rest = occupiedFrom img ss (suc k) n
+      rest = imageOccupied img ss (suc k) n
 
       go : (b : Bool) → first notFound (map (fileOf layout35 (disk img)) rest) ≡ foundAt img ss end (slotPlaced (bytesOfTrack18 layout35 img) ss zero (suc k) n)
           → first notFound (map (fileOf layout35 (disk img)) (cond (not b) (imageSlot img ss k ∷ rest) rest))
@@ -149,7 +149,7 @@ module _ (img : Bytes) (ss : List ℕ) where
   placed-found end (suc n) (suc p) k e = go (isEmpty (imageSlot img ss k .bytes)) (placed-found end n (suc p) (suc k) (omega arith)) (placed-found end n p (suc k) (omega arith))
     where
       rest : List Slot
-      rest = occupiedFrom img ss (suc k) n
+      rest = imageOccupied img ss (suc k) n
 
       go : (b : Bool) → first notFound (drop (suc p) (map (fileOf layout35 (disk img)) rest)) ≡ foundAt img ss end (slotPlaced (bytesOfTrack18 layout35 img) ss (suc p) (suc k) n)
           → first notFound (drop p (map (fileOf layout35 (disk img)) rest)) ≡ foundAt img ss end (slotPlaced (bytesOfTrack18 layout35 img) ss p (suc k) n)

@@ -20,7 +20,7 @@ use Rattle.d64spec.proofs.RunTheorem.{sectors35}
 use Rattle.directory.specs.Directories.{IsSlot}
 use Rattle.answers.specs.declared.Verdict.the-variants.{Fine}
 use Rattle.diskcheck.specs.declared.Checked.{Checked}
-use Rattle.diskcheck.specs.SlotChecks.{imageSlot, occupiedFrom}
+use Rattle.diskcheck.specs.SlotChecks.{imageSlot, imageOccupied}
 use Rattle.diskcheck.specs.ImageChecks.{ImageChecked}
 use Rattle.diskcheck.proofs.TrackLaws.{track18-lent, slot-lent}
 use Rattle.diskcheck.proofs.CheckedLaws.{fine-image}
@@ -71,10 +71,10 @@ module _ {img : Bytes} {ss : List ℕ} {end : ℕ} (there : CheckedSlots img ss 
   -- ---- the file of a name
 
   module _ (name : Bytes) (asked : validNameArgument name ≡ true) {k : ℕ} (is : k ≡ slotNamed (lentTrack18 img) ss name 0 end) where
-    names-valid : All (λ s. validName (s .bytes) ≡ true) (occupiedFrom img ss 0 end)
+    names-valid : All (λ s. validName (s .bytes) ≡ true) (imageOccupied img ss 0 end)
     unfolding fileOf
     names-valid =
-        all-of-map (ValidEntry layout35 (disk img)) (λ s. validName (s .bytes) ≡ true) (fileOf layout35 (disk img)) (λ s v. v .name) (occupiedFrom img ss 0 end)
+        all-of-map (ValidEntry layout35 (disk img)) (λ s. validName (s .bytes) ≡ true) (fileOf layout35 (disk img)) (λ s v. v .name) (imageOccupied img ss 0 end)
         (rw files-found at (there .accepted .content .entry))
 
     by-name : first notFound (filesNamed name (files layout35 (disk img))) ≡ foundAt img ss end k

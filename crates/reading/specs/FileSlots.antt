@@ -14,7 +14,7 @@ use Rattle.d64spec.specs.Directory as directory
 use Rattle.d64spec.specs.Check.{checkImage}
 use Rattle.d64spec.specs.Accepted.{Accepted}
 use Rattle.directory.specs.Directories.{slotBytes}
-use Rattle.diskcheck.specs.SlotChecks.{occupiedFrom}
+use Rattle.diskcheck.specs.SlotChecks.{imageOccupied}
 use Rattle.reading.specs.ChainReads.{sectorsFrom, dataFrom, lastByteFrom, ChainFrom}
 
 -- ---- slots
@@ -45,7 +45,7 @@ pub record CheckedSlots (img ss : List ℕ) (end : ℕ) : Type 0 where
   pub size : length img ≡ 174848
   pub accepted : Accepted layout35 img
   pub contents : checkImage layout35 img ≡ done (record { walked = directorySectors layout35 (disk img); found = files layout35 (disk img) })
-  pub occupied : directory.occupied layout35 (disk img) ≡ occupiedFrom img ss 0 end
+  pub occupied : directory.occupied layout35 (disk img) ≡ imageOccupied img ss 0 end
   pub inside : All (λ s. s < 19) ss
   pub few : end ≤ 144
 

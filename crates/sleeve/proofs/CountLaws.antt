@@ -19,10 +19,10 @@ use Rattle.d64spec.proofs.ResultLaws.{need-done, need-true}
 use Rattle.answers.specs.Faults.{faultOf, verdictOf, whereFine}
 use Rattle.answers.specs.declared.Fault.{Fault}
 use Rattle.answers.specs.declared.Verdict.the-variants.{Fine, Refused}
-use Rattle.directory.specs.Directories.{IsSlot, slotAt, slotBytes, namesBelow, firstRepeated, entryVerdict}
+use Rattle.directory.specs.Directories.{IsSlot, slotAt, slotBytes, namesBelow, firstRepeated, entryVerdict, occupiedFrom}
 use Rattle.directory.proofs.RepeatLaws.{ValidBelow, firstRepeated-le, past-empty}
 use Rattle.directory.proofs.EntryLaws.{entry-at}
-use Rattle.sleeve.specs.Texts.{SlotsCounted, countSlots, occupiedFrom}
+use Rattle.sleeve.specs.Texts.{SlotsCounted, countSlots}
 use Rattle.sleeve.proofs.OccupiedLaws.{occupied-empty, occupied-here, occupied-none}
 
 -- ---- the names below a slot

@@ -11,10 +11,10 @@ use Rattle.d64spec.specs.Lists.{Bytes, All}
 use Rattle.d64spec.specs.Directory.{Slot, isEmpty}
 use Rattle.d64spec.specs.Listing.{line, slotFrame}
 use Rattle.d64spec.proofs.ListingLaws.{line-length}
-use Rattle.directory.specs.Directories.{slotAt, slotBytes}
+use Rattle.directory.specs.Directories.{slotAt, slotBytes, occupiedFrom}
 use Rattle.directory.proofs.SlotBytesLaws.{isSlot-part, slotBytes-part}
 use Rattle.directory.proofs.SearchLaws.{sector-lt}
-use Rattle.sleeve.specs.Texts.{occupiedFrom, linesOf}
+use Rattle.sleeve.specs.Texts.{linesOf}
 
 -- ---- slot k and those behind it
 

@@ -21,11 +21,11 @@ use Rattle.answers.specs.declared.Fault.{Fault}
 use Rattle.answers.specs.declared.Fault.the-variants.{WrongBuffer}
 use Rattle.answers.specs.declared.Report.{Report}
 use Rattle.answers.specs.declared.Verdict.the-variants.{Fine, Refused}
-use Rattle.directory.specs.Directories.{DirectoryRead, sectorCount, sectorsOf, trackDirectory}
+use Rattle.directory.specs.Directories.{DirectoryRead, sectorCount, sectorsOf, trackDirectory, occupiedFrom}
 use Rattle.directory.specs.declared.Directory.{Directory}
 use Rattle.directory.proofs.SlotListLaws.{occupied-by-number}
 use Rattle.directory.proofs.Track18Laws.{sectors-18}
-use Rattle.sleeve.specs.Texts.{ReadySlots, SlotsListed, countSlots, linesOf, listFound, occupiedFrom}
+use Rattle.sleeve.specs.Texts.{ReadySlots, SlotsListed, countSlots, linesOf, listFound}
 use Rattle.sleeve.specs.Sleeves.{SleeveListed}
 use Rattle.sleeve.proofs.TextLaws.{length-text}
 

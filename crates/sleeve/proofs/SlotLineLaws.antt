@@ -8,8 +8,8 @@ use lib.ListN.{length, take, drop, length-append}
 use Rattle.d64spec.specs.Lists.{Bytes}
 use Rattle.d64spec.specs.Directory.{Slot, isEmpty}
 use Rattle.d64spec.specs.Listing.{line, slotFrame}
-use Rattle.directory.specs.Directories.{IsSlot, slotAt}
-use Rattle.sleeve.specs.Texts.{RoomFor, occupiedFrom, linesOf}
+use Rattle.directory.specs.Directories.{IsSlot, slotAt, occupiedFrom}
+use Rattle.sleeve.specs.Texts.{RoomFor, linesOf}
 use Rattle.sleeve.proofs.WriteLaws.{Writing, writing-start, writing-lent, writing-finished}
 use Rattle.sleeve.proofs.OccupiedLaws.{occupied-empty, occupied-here, occupied-none, length-slot, length-slot-line, length-lines, lines-cons}
 

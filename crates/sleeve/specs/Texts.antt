@@ -1,29 +1,24 @@
 -- The parts of the listing's text that the code writes one by one (01, Sleeve listing). The whole text is d64spec's `listingText`.
--- In order: digits; the occupied slots by number; their lines; the last line; what the code knows of a directory that was read; the listing of its slots; the program's buffer, and what it prints.
-use Prim.Native.Nat.{ℕ, _+_, _*_, _/_, _%_, _≤_, _<_}
+-- In order: digits; lines of slots; the last line; what the code knows of a directory that was read; the listing of its slots; the program's buffer, and what it prints.
+use Prim.Native.Nat.{ℕ, _+_, _-_, _*_, _/_, _%_, _≤_, _<_}
 use mathlib.Core.Path.{_≡_}
-use mathlib.Core.Bool.{not}
-use mathlib.Core.List.{List, [], _∷_, map}
-use lib.ListN.{length, take}
+use mathlib.Core.List.{List, [], _∷_, _++_, map}
+use lib.ListN.{length}
 use lib.Dec.{leb}
-use Rattle.d64spec.specs.Lists.{Bytes, All, join, filter, range, splice, zeros}
+use Rattle.d64spec.specs.Lists.{Bytes, All, join, splice, zeros}
 use Rattle.d64spec.specs.Answers.{Result, done, wrongBuffer, _>>_, need}
 use Rattle.d64spec.specs.Geometry.{layout35}
-use Rattle.d64spec.specs.Directory.{Slot, isEmpty}
+use Rattle.d64spec.specs.Directory.{Slot}
 use Rattle.d64spec.specs.Listing.{Listed, digit, diskOfTrack18, freeTotal, line, listSlots, listingReply, listingText, slotFrame}
 use Rattle.answers.specs.Faults.{verdictOf, answerTo, whereFine}
 use Rattle.answers.specs.declared.Report.{Report}
-use Rattle.directory.specs.Directories.{slotAt, firstRepeated}
+use Rattle.directory.specs.Directories.{firstRepeated, occupiedFrom}
 use Rattle.sleeve.specs.declared.slots.Checked.{Checked}
 use Rattle.sleeve.specs.declared.Printed.{Printed}
 
 -- each byte as two digits: a line without its end
 unfoldable pub digitsOf : Bytes → Bytes
 digitsOf b = join (map (λ c. digit (c / 16) ∷ digit (c % 16) ∷ []) b)
-
--- the occupied ones of the n slots from k on
-unfoldable pub occupiedFrom : Bytes → List ℕ → ℕ → ℕ → List Slot
-occupiedFrom b ss k n = filter (λ s. not (isEmpty (s .bytes))) (map (slotAt b ss) (range k n))
 
 -- a line for each of these slots
 unfoldable pub linesOf : List Slot → Bytes
@@ -72,7 +67,7 @@ pub record SlotsListed (b : Bytes) (l : List Slot) (text : Bytes) (r : Report) (
 unfoldable pub blankText : Bytes
 blankText = zeros 6234
 
--- these bytes are printed: they stand at the start of the text, and it says how many they are
+-- these bytes are printed: they stand at the start of the text, with zeros behind them, and it says how many they are
 pub record Prints (l : Bytes) (r : Printed) : Type 0 where
-  pub output : take (r .length) (r .text) ≡ l
+  pub text : r .text ≡ l ++ zeros (6234 - length l)
   pub size : r .length ≡ length l

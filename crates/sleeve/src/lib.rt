@@ -7,10 +7,11 @@ ghost use mathlib.Core.Path.{_≡_};
 ghost use lib.ListN.{length};
 ghost use Rattle.d64spec.specs.Geometry.{layout35};
 ghost use Rattle.d64spec.specs.Answers.{answerOf};
-ghost use Rattle.d64spec.specs.Listing.{callListing, diskOfTrack18, freeTotal, headFrame, line, listingOutput, listingText, refusalLine};
+ghost use Rattle.d64spec.specs.Listing.{callListing, diskOfTrack18, freeTotal, headFrame, line, listingOutput, listingText, refusalLine, sleeveOutput};
 ghost use Rattle.answers.specs.Faults.{faultOf};
-ghost use Rattle.sleeve.specs.Texts.{Prints, ReadySlots, RoomFor, SlotsListed, blankText, freeLine, occupiedFrom};
-ghost use Rattle.sleeve.specs.Sleeves.{SleeveListed, SleevePrinted};
+ghost use Rattle.directory.specs.Directories.{occupiedFrom};
+ghost use Rattle.sleeve.specs.Texts.{Prints, ReadySlots, RoomFor, SlotsListed, blankText, freeLine};
+ghost use Rattle.sleeve.specs.Sleeves.{SleeveListed};
 use answers::Fault;
 use answers::Report;
 use answers::Verdict;
@@ -157,7 +158,7 @@ fn print_listing(track18: &[u8]) -> Printed
 
 // What the program prints, given its whole standard input: the listing of an image's track 18, or the refusal's number.
 pub fn sleeve_output(input: &[u8]) -> Printed
-    ensures { λ r. ⌜ SleevePrinted (now (input .entry)) r ⌝ }
+    ensures { λ r. ⌜ Prints (sleeveOutput layout35 (now (input .entry))) r ⌝ }
 {
     if input.len() != 174848 {
         return print_refusal(1);

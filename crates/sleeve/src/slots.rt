@@ -2,7 +2,8 @@
 ghost use mathlib.Core.Path.{_≡_};
 ghost use lib.ListN.{length};
 ghost use Rattle.d64spec.specs.Listing.{line, slotFrame};
-ghost use Rattle.sleeve.specs.Texts.{ReadySlots, RoomFor, SlotsCounted, linesOf, occupiedFrom};
+ghost use Rattle.directory.specs.Directories.{occupiedFrom};
+ghost use Rattle.sleeve.specs.Texts.{ReadySlots, RoomFor, SlotsCounted, linesOf};
 use answers::Place;
 use answers::Verdict;
 

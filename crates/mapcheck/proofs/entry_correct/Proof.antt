@@ -5,7 +5,7 @@ use borrow.Author.Needs.{needs}
 use Rattle.geometry.proofs.TableLaws.{track-end-le}
 use Rattle.mapentry.proofs.ShapeLaws.{EntryShape, entry-shaped}
 use Rattle.mapcheck.specs.MapChecks.{bitmapOf}
-use Rattle.mapcheck.proofs.TrackLaws.{sixteen-sectors, track-wrong, track-by-count}
+use Rattle.mapcheck.proofs.TrackLaws.{track-wrong, track-by-count}
 use Rattle.mapcheck.proofs.entry_correct.Statement.{statement}
 use Rattle.mapcheck.proofs.entry_correct.Tie as tie
 
@@ -26,8 +26,7 @@ survey-requires : tie.Need-survey-requires
 survey-requires c κs =
     let first = c .before .first-on .ensures in
     let count = c .sectors-on .ensures in
-    let track = c .before .before .args .track in
-    (omega (arith, track-end-le track), omega (arith, sixteen-sectors track (omega arith) (omega arith)), omega arith)
+    (omega (arith, track-end-le (c .before .before .args .track)), omega arith)
 
 array-read-bitmap : tie.Need-array-read-bitmap
 array-read-bitmap c = search needs

@@ -1,9 +1,9 @@
 -- `mapcheck::survey`: where nobody owns a sector of the track, its bits are all set; else they are asked one by one. Assumes nothing.
 use mathlib.Core.Path.{sym, _∙_}
+use lib.Pow.{pow-pos}
 use native.Mathlib.Omega.{arith}
 use borrow.Author.Needs.{needs}
-use borrow.Author.Tests.{eqb-true}
-use Rattle.mapcheck.proofs.SurveyLaws.{surveyed-all, shifted, power-pos}
+use Rattle.mapcheck.proofs.SurveyLaws.{surveyed-all, unowned-all, shifted}
 use Rattle.mapcheck.proofs.survey.Statement.{statement}
 use Rattle.mapcheck.proofs.survey.Tie as tie
 
@@ -14,12 +14,12 @@ shl-t9 : tie.Need-shl-t9
 shl-t9 c = search needs
 
 sub-t10 : tie.Need-sub-t10
-sub-t10 c = let n = c .before .before .before .args .sectors in omega (arith, shifted n (omega arith), power-pos n)
+sub-t10 c = let n = c .before .before .before .args .sectors in omega (arith, shifted n (omega arith), pow-pos n)
 
 returns : tie.Need-returns
 returns c =
     let n = c .before .before .before .args .sectors in
-    surveyed-all (eqb-true _ n (sym (c .before .untouched .ensures) ∙ c .if1 .taken)) (omega (arith, shifted n (omega arith))) (omega arith)
+    surveyed-all (unowned-all _ _ n (sym (c .before .untouched .ensures) ∙ c .if1 .taken)) (omega (arith, shifted n (omega arith))) (omega arith)
 
 survey-each-requires : tie.Need-survey-each-requires
 survey-each-requires c κs = search needs

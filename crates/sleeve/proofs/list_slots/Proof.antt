@@ -5,7 +5,8 @@ use mathlib.Core.Path.{_≡_, refl}
 use borrow.Author.Needs.{needs}
 use Rattle.answers.specs.Faults.{whereFine}
 use Rattle.answers.specs.declared.Verdict.the-variants.{Fine}
-use Rattle.sleeve.specs.Texts.{countSlots, occupiedFrom}
+use Rattle.directory.specs.Directories.{occupiedFrom}
+use Rattle.sleeve.specs.Texts.{countSlots}
 use Rattle.sleeve.proofs.OccupiedLaws.{length-lines}
 use Rattle.sleeve.proofs.ReplyLaws.{listed-refused, listed-short, listed-room, listed-done}
 use Rattle.sleeve.proofs.list_slots.Statement.{statement}

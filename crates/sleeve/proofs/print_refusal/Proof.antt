@@ -22,7 +22,7 @@ array-write-text-3 c = search needs
 
 returns : tie.Need-returns
 unfolding refusalLine
-returns c = record { output = simp (c .before .digit .ensures, c .digit2 .ensures); size = refl }
+returns c = record { text = simp (c .before .digit .ensures, c .digit2 .ensures); size = refl }
 
 pub print-refusal-spec : {M : Type 1} → statement M
 print-refusal-spec =
