@@ -18,6 +18,7 @@ use Rattle.d64spec.specs.Listing.{bytesOfTrack18}
 use Rattle.d64spec.specs.Reply.{validNameArgument, filesNamed}
 use Rattle.names.proofs.NameLaws.{equal-nameField-padded}
 use Rattle.directory.specs.Directories.{slotBytes, occupiedFrom, IsSlot}
+use Rattle.directory.proofs.SearchLaws.{sector-lt}
 use Rattle.diskcheck.specs.SlotChecks.{imageSlot, imageOccupied}
 use Rattle.reading.specs.FileSlots.{holdsFile, slotNamed, slotPlaced, SlotsThere}
 
@@ -39,13 +40,8 @@ pub searching-next : {end k found found′ asked : ℕ} → Searching end k foun
 searching-next s h e = record { within = omega arith; same = sym e ∙ s .same }
 
 -- a slot that is read has its bytes, where track 18 is whole
-all-getD : (P : ℕ → Type 0) (l : List ℕ) → All P l → (i : ℕ) → P 0 → P (getD l i 0)
-all-getD P [] a i z = z
-all-getD P (x ∷ l) a zero z = a .0
-all-getD P (x ∷ l) a (suc i) z = all-getD P l (a .1) i z
-
 pub slot-full : {b ss : List ℕ} {end k : ℕ} {p : Bytes} → SlotsThere b ss end → IsSlot b ss k p → length p ≡ 30
-slot-full {b} {ss} {end} {k} there slot = slot .full (there .size) (all-getD (λ s. s < 19) ss (there .inside) (k / 8) (omega arith))
+slot-full {b} {ss} {end} {k} there slot = slot .full (there .size) (sector-lt ss (there .inside) (k / 8))
 
 module _ (b ss : List ℕ) {end k : ℕ} (more : k < end) where
   left-over : end - k ≡ suc (end - (k + 1))
