@@ -131,3 +131,33 @@ pub extern "C" fn d64_listing(track18: &[u8], text: &mut [u8], answer: &mut [u8]
     let report = sleeve::list_track18(track18, text);
     answers::give_answer(report, answer)
 }
+
+#[no_mangle]
+pub extern "C" fn d64_format(image: &mut [u8], name: &[u8], id1: u8, id2: u8, answer: &mut [u8]) -> u32
+{
+    if answer.len() != BLOCK_BYTES {
+        return WRONG_BUFFER;
+    }
+    let report = formatting::format_image(image, name, id1, id2);
+    answers::give_answer(report, answer)
+}
+
+#[no_mangle]
+pub extern "C" fn d64_store(image: &mut [u8], name: &[u8], kind: u32, data: &[u8], answer: &mut [u8]) -> u32
+{
+    if answer.len() != BLOCK_BYTES {
+        return WRONG_BUFFER;
+    }
+    let report = storing::store_file(image, name, kind, data);
+    answers::give_answer(report, answer)
+}
+
+#[no_mangle]
+pub extern "C" fn d64_scratch(image: &mut [u8], name: &[u8], answer: &mut [u8]) -> u32
+{
+    if answer.len() != BLOCK_BYTES {
+        return WRONG_BUFFER;
+    }
+    let report = scratching::scratch_file(image, name);
+    answers::give_answer(report, answer)
+}

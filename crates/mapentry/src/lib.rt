@@ -62,3 +62,17 @@ pub fn count_entry(entry: [u8; 4], sectors: u8) -> [u8; 4]
     counted[0] = count;
     counted
 }
+
+// A count with one sector more, or else one less; it wraps round at 256.
+fn moved_count(count: u8, free: bool) -> u8
+{
+    if free { ((count as u16 + 1) % 256) as u8 } else { ((count as u16 + 255) % 256) as u8 }
+}
+
+// The entry with a sector marked free and counted in, or else marked used and counted out.
+pub fn move_mark(entry: [u8; 4], sector: u8, free: bool) -> [u8; 4]
+{
+    let mut moved = mark_entry(entry, sector, free);
+    moved[0] = moved_count(entry[0], free);
+    moved
+}

@@ -122,3 +122,11 @@ pub fn valid_name_argument(name: &[u8]) -> bool
     }
     name_length(name) == size
 }
+
+// The name filled up to 16 bytes with $A0; of a longer one its first 16 bytes.
+pub fn padded_name(name: &[u8]) -> [u8; 16]
+{
+    let mut field = PADDING;
+    bytes::copy(parts::clipped(name, 0, 16), &mut field);
+    field
+}

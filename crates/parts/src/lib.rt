@@ -57,3 +57,16 @@ pub fn equal_bytes(a: &[u8], b: &[u8]) -> bool
     }
     true
 }
+
+// Writes the content over as many bytes from index `at` on. Where the slice ends before, nothing is written.
+pub fn overwrite(target: &mut [u8], at: usize, content: &[u8])
+{
+    let size = content.len();
+    if target.len() < size {
+        return;
+    }
+    if target.len() - size < at {
+        return;
+    }
+    bytes::copy(content, &mut target[at..at + size]);
+}

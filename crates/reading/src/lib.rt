@@ -1,7 +1,6 @@
 // Read and tell (01, What the calls do): the whole check, then the file's bytes, or what its directory entry says of it.
 // They take any bytes and change none of the image.
 mod copying;
-mod finding;
 
 ghost use mathlib.Core.Path.{_≡_};
 ghost use mathlib.Core.Bool.{true};
