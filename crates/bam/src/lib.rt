@@ -72,18 +72,24 @@ pub fn recount(map: [[u8; 4]; 35], track: u8, sectors: u8) -> [[u8; 4]; 35]
 }
 
 // The map with the sectors at these places marked free and counted in, or else used and counted out.
-pub fn move_marks(map: [[u8; 4]; 35], places: &[u16], free: bool) -> [[u8; 4]; 35]
+pub fn move_marks(map: &[[u8; 4]; 35], places: &[u16], free: bool) -> [[u8; 4]; 35]
     ensures { λ r. ⌜ r ≡ movedMarks free (map unpacked (now (places .entry))) map ⌝ }
 {
-    let mut moved = map;
+    let mut moved = *map;
     let mut k: usize = 0;
     while k < places.len() {
         let place = places[k];
         let track = (place / 256) as u8;
         if has_entry(track) {
             let i = track as usize - 1;
-            let entry = moved[i];
-            moved[i] = mapentry::move_mark(entry, (place % 256) as u8, free);
+            let s = (place % 256) as u8;
+            if s < 24 {
+                let j = 1 + (s / 8) as usize;
+                let b = moved[i][j];
+                let n = moved[i][0];
+                moved[i][j] = mapentry::with_bit(b, s % 8, free);
+                moved[i][0] = mapentry::moved_count(n, free);
+            }
         }
         k += 1;
     }

@@ -31,7 +31,7 @@ pub fn ones(entry: [u8; 4], sectors: u8) -> u8
 }
 
 // A byte with bit k made 1 where the sector is free, else 0.
-fn with_bit(old: u8, k: u8, free: bool) -> u8
+pub fn with_bit(old: u8, k: u8, free: bool) -> u8
     requires { ⌜ k < 8 ⌝ }
     ensures { λ r. ⌜ r ≡ withBit old k (indicator free) ⌝ }
 {
@@ -64,7 +64,7 @@ pub fn count_entry(entry: [u8; 4], sectors: u8) -> [u8; 4]
 }
 
 // A count with one sector more, or else one less; it wraps round at 256.
-fn moved_count(count: u8, free: bool) -> u8
+pub fn moved_count(count: u8, free: bool) -> u8
 {
     if free { ((count as u16 + 1) % 256) as u8 } else { ((count as u16 + 255) % 256) as u8 }
 }

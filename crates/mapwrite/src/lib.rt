@@ -11,7 +11,7 @@ pub fn move_marks(sector: &mut [u8], places: &[u16], more: &[u16], free: bool)
     ensures { λ _. ⌜ now (sector .exit) ≡ storedEntries (movedMarks free (map unpacked (now (places .entry)) ++ map unpacked (now (more .entry))) (mapEntries (now (sector .entry)))) (now (sector .entry)) ⌝ }
 {
     let map = mapsector::load_map(sector);
-    let moved = bam::move_marks(map, places, free);
-    let all = bam::move_marks(moved, more, free);
+    let moved = bam::move_marks(&map, places, free);
+    let all = bam::move_marks(&moved, more, free);
     mapsector::store_map(all, sector);
 }

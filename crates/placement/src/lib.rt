@@ -5,15 +5,6 @@ ghost use Prim.Native.Nat.{_≤_, _<_};
 ghost use lib.ListN.{length};
 ghost use Rattle.placement.specs.Placements.{trackAt, Placed, TrackReady, TrackTaken};
 
-// The places taken, at[0] to at[count - 1], with zeros after them.
-pub struct Placement {
-    pub at: [u16; 664],
-    pub count: usize,
-}
-
-// The sectors of all tracks but 18.
-const MOST: usize = 664;
-
 // The track at an index of the allocation order: 17 down to 1, then 19 up to 35.
 fn track_at(i: u8) -> u8
     requires { ⌜ i < 34 ⌝ }
@@ -22,42 +13,62 @@ fn track_at(i: u8) -> u8
     if i < 17 { 17 - i } else { i + 2 }
 }
 
-// Puts the free sectors of a track, upward, behind the `have` places that there are, up to `want` in all; returns how many there are then.
-fn take_track(own: &[u8; 683], track: u8, at: &mut [u16; 664], have: usize, want: usize) -> usize
-    requires { ⌜ TrackReady track (now at) have want ⌝ }
-    ensures { λ r. ⌜ TrackTaken (now (own .entry)) track (now (at .entry)) have want r (now (at .exit)) ⌝ }
+// Puts the sectors of a track that an entry marks free, upward, behind the `have` places that there are, up to `want` in all; returns how
+// many there are then. The bitmap is one number, halved from sector to sector: where it is 0, no further sector is free.
+fn take_track(entry: [u8; 4], track: u8, at: &mut [u16], have: usize, want: usize) -> usize
 {
-    let first = geometry::first_on(track) as usize;
     let sectors = geometry::sectors_on(track);
+    let mut bits = entry[1] as u32 + 256 * (entry[2] as u32) + 65536 * (entry[3] as u32);
     let mut n = have;
     let mut s: u8 = 0;
     while s < sectors {
-        if n == want {
+        if bits == 0 {
             return n;
         }
-        if own[first + s as usize] == 0 {
+        if bits % 2 == 1 {
+            if n == want {
+                return n;
+            }
             at[n] = 256 * (track as u16) + s as u16;
             n += 1;
         }
+        bits = bits / 2;
         s += 1;
     }
     n
 }
 
-// The first `wanted` sectors in the allocation order that nobody owns, or all of them where there are fewer.
-pub fn place_sectors(own: &[u8; 683], wanted: usize) -> Placement
-    ensures { λ r. ⌜ Placed (now (own .entry)) wanted r ⌝ }
+// Puts the places of the first `wanted` sectors in the allocation order that nobody owns at the start of `at`, or of as many as there are and
+// as have room there; returns how many they are.
+pub fn place_sectors(map: &[[u8; 4]; 35], wanted: usize, at: &mut [u16]) -> usize
 {
-    let want = if wanted < MOST { wanted } else { MOST };
-    let mut at = [0u16; 664];
+    let want = if wanted < at.len() { wanted } else { at.len() };
     let mut have: usize = 0;
     let mut i: u8 = 0;
     while i < 34 {
         if have == want {
-            return Placement { at, count: have };
+            return have;
         }
-        have = take_track(own, track_at(i), &mut at, have, want);
+        let t = track_at(i);
+        let k = t as usize - 1;
+        have = take_track(map[k], t, at, have, want);
         i += 1;
     }
-    Placement { at, count: have }
+    have
+}
+
+// The lowest sector of track 18 that the map marks free, or 19 where none is.
+pub fn lowest_free(map: &[[u8; 4]; 35]) -> u8
+{
+    let entry = map[17];
+    let mut bits = entry[1] as u32 + 256 * (entry[2] as u32) + 65536 * (entry[3] as u32);
+    let mut s: u8 = 0;
+    while s < 19 {
+        if bits % 2 == 1 {
+            return s;
+        }
+        bits = bits / 2;
+        s += 1;
+    }
+    s
 }

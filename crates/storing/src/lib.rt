@@ -77,7 +77,7 @@ fn grow_directory(img: &mut [u8], last: u8, sector: u8)
     img[at + 1] = sector;
 }
 
-fn write_stored(img: &mut [u8], places: &[u16], data: &[u8], place: EntryPlace, last: u8, entry: &[u8; 30])
+fn write_stored(img: &mut [u8], places: &[u16], data: &[u8], place: EntryPlace, last: u8, entry: &[u8; 30], map: &[[u8; 4]; 35])
 {
     write_chain(img, places, data, &geometry::FIRST);
     let sector = place.sector;
@@ -86,56 +86,45 @@ fn write_stored(img: &mut [u8], places: &[u16], data: &[u8], place: EntryPlace, 
     }
     parts::overwrite(img, 91392 + 256 * (sector as usize) + 32 * (place.index as usize) + 2, entry);
     let added = [18 * 256 + sector as u16];
+    let moved = bam::move_marks(map, places, false);
     if place.grown {
-        mapwrite::move_marks(&mut img[91392..91648], places, &added, false);
+        let all = bam::move_marks(&moved, &added, false);
+        mapsector::store_map(all, &mut img[91392..91648]);
     } else {
-        mapwrite::move_marks(&mut img[91392..91648], places, &added[..0], false);
+        mapsector::store_map(moved, &mut img[91392..91648]);
     }
 }
 
-fn lowest_free(own: &[u8; 683]) -> u8
-{
-    let mut s: u8 = 0;
-    while s < 19 {
-        if own[357 + s as usize] == 0 {
-            return s;
-        }
-        s += 1;
-    }
-    s
-}
-
-fn entry_room(track18: &[u8], sectors: &[u8; 18], end: usize, own: &[u8; 683]) -> Room
+fn entry_room(track18: &[u8], sectors: &[u8; 18], end: usize, map: &[[u8; 4]; 35]) -> Room
 {
     let k = finding::find_empty(track18, sectors, end);
     if k < end {
         let i = k / 8;
         return Room::At(EntryPlace { sector: sectors[i], index: (k % 8) as u8, grown: false });
     }
-    let s = lowest_free(own);
+    let s = placement::lowest_free(map);
     if s == 19 {
         return Room::Full;
     }
     Room::At(EntryPlace { sector: s, index: 0, grown: true })
 }
 
-fn store_placed(img: &mut [u8], name: &[u8], kind: u8, data: &[u8], place: EntryPlace, last: u8, own: &[u8; 683]) -> Report
+fn store_placed(img: &mut [u8], name: &[u8], kind: u8, data: &[u8], place: EntryPlace, last: u8, map: &[[u8; 4]; 35]) -> Report
 {
     if 168656 < data.len() {
         return answers::refuse(Fault::DiskFull);
     }
     let needed = sectors_needed(data.len());
-    let taken = placement::place_sectors(own, needed);
-    if taken.count < needed {
+    let mut at = [0u16; 664];
+    if placement::place_sectors(map, needed, &mut at) < needed {
         return answers::refuse(Fault::DiskFull);
     }
-    let at = taken.at;
     let entry = new_entry(name, kind, at[0], needed);
-    write_stored(img, &at[..needed], data, place, last, &entry);
+    write_stored(img, &at[..needed], data, place, last, &entry, map);
     Report { verdict: Verdict::Fine, length: data.len() as u32, sectors: needed as u16 }
 }
 
-fn store_checked(img: &mut [u8], name: &[u8], kind: u8, data: &[u8], sectors: &[u8; 18], count: usize, own: &[u8; 683]) -> Report
+fn store_checked(img: &mut [u8], name: &[u8], kind: u8, data: &[u8], sectors: &[u8; 18], count: usize) -> Report
 {
     let version = img[91394];
     if version != 0x41 {
@@ -147,10 +136,11 @@ fn store_checked(img: &mut [u8], name: &[u8], kind: u8, data: &[u8], sectors: &[
     if finding::find_named(&img[91392..96256], sectors, name, end) != end {
         return answers::refuse(Fault::NameExists);
     }
-    let room = entry_room(&img[91392..96256], sectors, end, own);
+    let map = mapsector::load_map(&img[91392..91648]);
+    let room = entry_room(&img[91392..96256], sectors, end, &map);
     match room {
         Room::Full => answers::refuse(Fault::DirectoryFull),
-        Room::At(place) => store_placed(img, name, kind, data, place, sectors[count - 1], own),
+        Room::At(place) => store_placed(img, name, kind, data, place, sectors[count - 1], &map),
     }
 }
 
@@ -169,6 +159,6 @@ pub fn store_file(img: &mut [u8], name: &[u8], kind: u32, data: &[u8]) -> Report
     let verdict = checked.verdict;
     match verdict {
         Verdict::Refused(fault) => answers::refuse(fault),
-        Verdict::Fine => store_checked(img, name, kind as u8, data, &checked.sectors, checked.count, &checked.owners),
+        Verdict::Fine => store_checked(img, name, kind as u8, data, &checked.sectors, checked.count),
     }
 }
