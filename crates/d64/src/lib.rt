@@ -133,8 +133,13 @@ pub extern "C" fn d64_listing(track18: &[u8], text: &mut [u8], answer: &mut [u8]
 }
 
 #[no_mangle]
-pub extern "C" fn d64_format(image: &mut [u8], name: &[u8], id1: u8, id2: u8, answer: &mut [u8]) -> u32
-{
+pub extern "C" fn d64_format(
+    image: &mut [u8],
+    name: &[u8],
+    id1: u8,
+    id2: u8,
+    answer: &mut [u8],
+) -> u32 {
     if answer.len() != BLOCK_BYTES {
         return WRONG_BUFFER;
     }
@@ -143,8 +148,13 @@ pub extern "C" fn d64_format(image: &mut [u8], name: &[u8], id1: u8, id2: u8, an
 }
 
 #[no_mangle]
-pub extern "C" fn d64_store(image: &mut [u8], name: &[u8], kind: u32, data: &[u8], answer: &mut [u8]) -> u32
-{
+pub extern "C" fn d64_store(
+    image: &mut [u8],
+    name: &[u8],
+    kind: u32,
+    data: &[u8],
+    answer: &mut [u8],
+) -> u32 {
     if answer.len() != BLOCK_BYTES {
         return WRONG_BUFFER;
     }
@@ -153,8 +163,7 @@ pub extern "C" fn d64_store(image: &mut [u8], name: &[u8], kind: u32, data: &[u8
 }
 
 #[no_mangle]
-pub extern "C" fn d64_scratch(image: &mut [u8], name: &[u8], answer: &mut [u8]) -> u32
-{
+pub extern "C" fn d64_scratch(image: &mut [u8], name: &[u8], answer: &mut [u8]) -> u32 {
     if answer.len() != BLOCK_BYTES {
         return WRONG_BUFFER;
     }

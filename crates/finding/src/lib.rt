@@ -2,8 +2,7 @@
 ghost use mathlib.Core.Path.{_≡_};
 
 // The first of the slots 0 to end - 1 that holds the name, or `end` where none does.
-pub fn find_named(track18: &[u8], sectors: &[u8; 18], name: &[u8], end: usize) -> usize
-{
+pub fn find_named(track18: &[u8], sectors: &[u8; 18], name: &[u8], end: usize) -> usize {
     let mut k: usize = 0;
     while k < end {
         let slot = directory::slot_at(track18, sectors, k);
@@ -18,8 +17,7 @@ pub fn find_named(track18: &[u8], sectors: &[u8; 18], name: &[u8], end: usize) -
 }
 
 // The first of the slots 0 to end - 1 that is empty, or `end` where none is.
-pub fn find_empty(track18: &[u8], sectors: &[u8; 18], end: usize) -> usize
-{
+pub fn find_empty(track18: &[u8], sectors: &[u8; 18], end: usize) -> usize {
     let mut k: usize = 0;
     while k < end {
         let slot = directory::slot_at(track18, sectors, k);
@@ -32,8 +30,7 @@ pub fn find_empty(track18: &[u8], sectors: &[u8; 18], end: usize) -> usize
 }
 
 // The slot of the file at a position among the occupied ones, or `end` where there are not so many.
-pub fn find_placed(track18: &[u8], sectors: &[u8; 18], position: usize, end: usize) -> usize
-{
+pub fn find_placed(track18: &[u8], sectors: &[u8; 18], position: usize, end: usize) -> usize {
     let mut left = position;
     let mut k: usize = 0;
     while k < end {

@@ -1,7 +1,7 @@
 -- What the functions over the layout of 35 tracks promise (01, Tracks and sectors).
--- In order: the code's address as an address of the definitions; a track's count; a sector's number; the same by lent tables.
+-- In order: the code's address as an address of the definitions, and an address as a number; a track's count; a sector's number; the same by lent tables.
 -- Laws: proofs/TableLaws, LentTableLaws.
-use Prim.Native.Nat.{ℕ, _+_, _≤_, _<_}
+use Prim.Native.Nat.{ℕ, _+_, _*_, _/_, _%_, _≤_, _<_}
 use mathlib.Core.Path.{_≡_}
 use mathlib.Core.Bool.{Bool, true}
 use mathlib.Core.List.{List, _∷_}
@@ -14,6 +14,14 @@ use Rattle.geometry.specs.declared.Address.{Address}
 -- the address that the code's struct names (01, Tracks and sectors)
 abbrev pub addressOf : Address → DiskAddress
 addressOf at = address (at .track) (at .sector)
+
+-- an address as one number of 16 bits: 256 times the track, and the sector
+abbrev pub packed : DiskAddress → ℕ
+packed r = 256 * r .track + r .sector
+
+-- the address that such a number names
+abbrev pub unpacked : ℕ → DiskAddress
+unpacked n = address (n / 256) (n % 256)
 
 -- n is track t's count of sectors, which three bytes of the map hold (01, Tracks and sectors; The map)
 pub record Counted (t n : ℕ) : Type 0 where

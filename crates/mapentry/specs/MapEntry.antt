@@ -3,8 +3,10 @@
 -- A list has nothing past its end, so there is no bit from sector 24 on: read it is 0, and made it leaves the entry as it is.
 -- Laws: proofs/BitLaws (a byte), OnesLaws (bits and ones), ShapeLaws (four bytes).
 use Prim.Native.Nat.{ℕ, _+_, _-_, _*_, _/_, _%_, _^_}
-use mathlib.Core.List.{List, map}
+use mathlib.Core.Bool.{Bool, cond}
+use mathlib.Core.List.{List, [], _∷_, map}
 use lib.ListN.{set}
+use lib.Dec.{ltb}
 use Rattle.d64spec.specs.Lists.{Bytes, byte, sum, range}
 
 -- bit k of a byte
@@ -30,6 +32,22 @@ markedEntry e s v = set e (1 + s / 8) (withBit (byte e (1 + s / 8)) (s % 8) v)
 -- the entry with its count set to the ones among its first n bits, whatever it was; its bits stay
 unfoldable pub countedEntry : Bytes → ℕ → Bytes
 countedEntry e n = set e 0 (entryOnes e n)
+
+-- the three bitmap bytes of an entry as a number: bit s for sector s (01, The map)
+unfoldable pub bitmapOf : Bytes → ℕ
+bitmapOf e = byte e 1 + 256 * byte e 2 + 65536 * byte e 3
+
+-- the entry with this count and this bitmap: the count's lowest byte, and the bitmap's lowest three
+unfoldable pub entryFrom : ℕ → ℕ → Bytes
+entryFrom n m = n % 256 ∷ m % 256 ∷ m / 256 % 256 ∷ m / 65536 % 256 ∷ []
+
+-- the entry with sector s marked free and counted in, or else marked used and counted out, where it was the other way before
+-- (01, Store and Scratch: the map follows): one bit of the bitmap's number more, or less, and one in the count
+unfoldable pub movedEntry : Bytes → ℕ → Bool → Bytes
+movedEntry e s free =
+    cond (ltb s 24)
+    (cond free (entryFrom (byte e 0 + 1) (bitmapOf e + 2 ^ s)) (entryFrom (byte e 0 + 255) (bitmapOf e + (16777216 - 2 ^ s))))
+    e
 
 -- the map by value: the entries of track 1, of track 2, ..
 abbrev pub Entries : Type 0

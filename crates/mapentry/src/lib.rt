@@ -3,7 +3,7 @@
 ghost use mathlib.Core.Path.{_≡_};
 ghost use Prim.Native.Nat.{_<_};
 ghost use Rattle.d64spec.specs.Lists.{indicator};
-ghost use Rattle.mapentry.specs.MapEntry.{entryBit, entryOnes, withBit, markedEntry, countedEntry};
+ghost use Rattle.mapentry.specs.MapEntry.{entryBit, entryOnes, withBit, markedEntry, countedEntry, entryFrom, movedEntry};
 
 // The bit of an entry for a sector: 1 where the sector is marked free, and 0 from sector 24 on.
 pub fn entry_bit(entry: [u8; 4], sector: u8) -> u8
@@ -31,7 +31,7 @@ pub fn ones(entry: [u8; 4], sectors: u8) -> u8
 }
 
 // A byte with bit k made 1 where the sector is free, else 0.
-pub fn with_bit(old: u8, k: u8, free: bool) -> u8
+fn with_bit(old: u8, k: u8, free: bool) -> u8
     requires { ⌜ k < 8 ⌝ }
     ensures { λ r. ⌜ r ≡ withBit old k (indicator free) ⌝ }
 {
@@ -63,16 +63,30 @@ pub fn count_entry(entry: [u8; 4], sectors: u8) -> [u8; 4]
     counted
 }
 
-// A count with one sector more, or else one less; it wraps round at 256.
-pub fn moved_count(count: u8, free: bool) -> u8
+// The entry with this count and this bitmap: the count's lowest byte, and the bitmap's lowest three.
+fn entry_of(count: u32, bits: u32) -> [u8; 4]
+    ensures { λ r. ⌜ r ≡ entryFrom count bits ⌝ }
 {
-    if free { ((count as u16 + 1) % 256) as u8 } else { ((count as u16 + 255) % 256) as u8 }
+    [
+        (count % 256) as u8,
+        (bits % 256) as u8,
+        (bits / 256 % 256) as u8,
+        (bits / 65536 % 256) as u8,
+    ]
 }
 
-// The entry with a sector marked free and counted in, or else marked used and counted out.
+// The entry with a sector marked free and counted in, or else marked used and counted out, where it was the other way before: the bitmap is one
+// number, of which bit s is sector s. A sector from 24 on has no mark and changes nothing.
 pub fn move_mark(entry: [u8; 4], sector: u8, free: bool) -> [u8; 4]
+    ensures { λ r. ⌜ r ≡ movedEntry entry sector free ⌝ }
 {
-    let mut moved = mark_entry(entry, sector, free);
-    moved[0] = moved_count(entry[0], free);
-    moved
+    if sector >= 24 {
+        return entry;
+    }
+    let bit: u32 = 1 << sector;
+    let bits = entry[1] as u32 + 256 * (entry[2] as u32) + 65536 * (entry[3] as u32);
+    if free {
+        return entry_of(entry[0] as u32 + 1, bits + bit);
+    }
+    entry_of(entry[0] as u32 + 255, bits + (16777216 - bit))
 }

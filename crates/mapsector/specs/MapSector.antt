@@ -1,10 +1,10 @@
 -- The block availability map in its sector (01, The map, 18/0) and by value: an entry of four bytes for each of 35 tracks, entry i for track i + 1.
 -- In order: entries read from a map sector, and written into one. Laws: proofs/LoadLaws, SaveLaws; MapShapeLaws (35 entries of four bytes).
 use Prim.Native.Nat.{ℕ, _+_}
-use mathlib.Core.Bool.{cond}
+use mathlib.Core.Bool.{Bool, cond, _||_}
 use mathlib.Core.List.{[], _∷_, map}
 use lib.ListN.{length}
-use lib.Dec.{leb}
+use lib.Dec.{eqb, leb}
 use Rattle.d64spec.specs.Lists.{Bytes, byte, range, join, splice}
 use Rattle.d64spec.specs.Geometry.{Geometry, layout35, tracks}
 use Rattle.mapentry.specs.MapEntry.{Entries}
@@ -24,3 +24,7 @@ mapEntries m = map (mapEntry layout35 m) (range 1 (tracks layout35))
 -- the map sector with these entries from byte 4 on; one too short to hold the last of them stays as it is
 unfoldable pub storedEntries : Entries → Bytes → Bytes
 storedEntries es m = cond (leb 144 (length m)) (splice m 4 (join es)) m
+
+-- whether the DOS version in the map sector m allows writing: byte 2 is $41 or $00 (01, The map)
+unfoldable pub allowsWriting : Bytes → Bool
+allowsWriting m = eqb (byte m 2) 0x41 || eqb (byte m 2) 0

@@ -5,7 +5,7 @@ ghost use Prim.Native.Nat.{_+_, _≤_, _<_};
 ghost use lib.ListN.{length};
 ghost use Rattle.d64spec.specs.Lists.{splice};
 ghost use Rattle.d64spec.specs.Geometry.{layout35};
-ghost use Rattle.mapsector.specs.MapSector.{fourBytes, mapEntry, mapEntries, storedEntries};
+ghost use Rattle.mapsector.specs.MapSector.{fourBytes, mapEntry, mapEntries, storedEntries, allowsWriting};
 
 // Four bytes from `at` on, with zeros past the end.
 fn short_entry(bytes: &[u8], at: usize) -> [u8; 4]
@@ -71,4 +71,15 @@ pub fn store_map(map: [[u8; 4]; 35], sector: &mut [u8])
         store_entry(map[i], sector, 4 * (i + 1));
         i += 1;
     }
+}
+
+// Whether the DOS version in a map sector, its byte 2, allows writing: $41 or $00. A byte past the end of a slice that is too short reads as 0.
+pub fn may_write(sector: &[u8]) -> bool
+    ensures { λ r. ⌜ r ≡ allowsWriting (now (sector .entry)) ⌝ }
+{
+    let version = parts::byte_at(sector, 2);
+    if version == 0x41 {
+        return true;
+    }
+    version == 0
 }

@@ -3,7 +3,7 @@
 // Every public function takes any slice: what it gives is the definition's value there.
 ghost use mathlib.Core.Path.{_≡_};
 ghost use Prim.Native.Nat.{_-_, _≤_};
-ghost use lib.ListN.{length, drop, replicate};
+ghost use lib.ListN.{length, take, drop, replicate};
 ghost use Rattle.d64spec.specs.Lists.{equal};
 ghost use Rattle.d64spec.specs.Directory.{nameField, padded, validName};
 ghost use Rattle.d64spec.specs.Reply.{validNameArgument};
@@ -125,6 +125,7 @@ pub fn valid_name_argument(name: &[u8]) -> bool
 
 // The name filled up to 16 bytes with $A0; of a longer one its first 16 bytes.
 pub fn padded_name(name: &[u8]) -> [u8; 16]
+    ensures { λ r. ⌜ r ≡ take 16 (padded (now (name .entry))) ⌝ }
 {
     let mut field = PADDING;
     bytes::copy(parts::clipped(name, 0, 16), &mut field);

@@ -1,9 +1,10 @@
-// Bytes of a slice, read and compared for any slice and any numbers: what the crates above share.
+// Bytes of a slice, read, compared and overwritten for any slice and any numbers: what the crates above share.
 // Nothing wraps and nothing is out of range: a byte past the end reads as 0, a part ends where the slice ends.
 ghost use mathlib.Core.Path.{_≡_};
 ghost use lib.ListN.{take, drop};
 ghost use Rattle.d64spec.specs.Lists.{byte, equal};
 ghost use Rattle.parts.specs.Numbers.{IsFour};
+ghost use Rattle.parts.specs.Overwrites.{overwritten};
 
 // Byte `at`, or 0 past the end.
 pub fn byte_at(bytes: &[u8], at: usize) -> u8
@@ -60,6 +61,7 @@ pub fn equal_bytes(a: &[u8], b: &[u8]) -> bool
 
 // Writes the content over as many bytes from index `at` on. Where the slice ends before, nothing is written.
 pub fn overwrite(target: &mut [u8], at: usize, content: &[u8])
+    ensures { λ _. ⌜ now (target .exit) ≡ overwritten (now (target .entry)) at (now (content .entry)) ⌝ }
 {
     let size = content.len();
     if target.len() < size {

@@ -1,22 +1,19 @@
-// Where a store puts a file (01, Store): the first free sectors in the allocation order, document 01's house order.
-// A place is an address as one number of 16 bits: 256 times the track, and the sector.
+// Where a store puts a file, by the map's marks (01, Store): the first free sectors in the allocation order, document 01's house order; and the
+// lowest free sector of track 18, for the directory. A place is an address as one number of 16 bits: 256 times the track, and the sector.
 ghost use mathlib.Core.Path.{_≡_};
-ghost use Prim.Native.Nat.{_≤_, _<_};
-ghost use lib.ListN.{length};
-ghost use Rattle.placement.specs.Placements.{trackAt, Placed, TrackReady, TrackTaken};
+ghost use Prim.Native.Nat.{_<_};
+ghost use Rattle.placement.specs.Placements.{Placed, directoryPlace};
 
 // The track at an index of the allocation order: 17 down to 1, then 19 up to 35.
 fn track_at(i: u8) -> u8
     requires { ⌜ i < 34 ⌝ }
-    ensures { λ r. ⌜ r ≡ trackAt i ⌝ }
 {
     if i < 17 { 17 - i } else { i + 2 }
 }
 
-// Puts the sectors of a track that an entry marks free, upward, behind the `have` places that there are, up to `want` in all; returns how
-// many there are then. The bitmap is one number, halved from sector to sector: where it is 0, no further sector is free.
-fn take_track(entry: [u8; 4], track: u8, at: &mut [u16], have: usize, want: usize) -> usize
-{
+// Puts the sectors of a track that its entry marks free, upward, behind the `have` places that there are, up to `want` in all; returns how many
+// there are then. The bitmap is one number, halved from sector to sector: where it is 0, no further sector is free.
+fn take_track(entry: [u8; 4], track: u8, at: &mut [u16], have: usize, want: usize) -> usize {
     let sectors = geometry::sectors_on(track);
     let mut bits = entry[1] as u32 + 256 * (entry[2] as u32) + 65536 * (entry[3] as u32);
     let mut n = have;
@@ -38,9 +35,10 @@ fn take_track(entry: [u8; 4], track: u8, at: &mut [u16], have: usize, want: usiz
     n
 }
 
-// Puts the places of the first `wanted` sectors in the allocation order that nobody owns at the start of `at`, or of as many as there are and
-// as have room there; returns how many they are.
+// Puts the places of the first `wanted` sectors in the allocation order that the map marks free at the start of `at`, or of as many as there are
+// and as have room there; the rest of `at` stays. Returns how many they are.
 pub fn place_sectors(map: &[[u8; 4]; 35], wanted: usize, at: &mut [u16]) -> usize
+    ensures { λ r. ⌜ Placed (now (map .entry)) wanted (now (at .entry)) r (now (at .exit)) ⌝ }
 {
     let want = if wanted < at.len() { wanted } else { at.len() };
     let mut have: usize = 0;
@@ -49,26 +47,19 @@ pub fn place_sectors(map: &[[u8; 4]; 35], wanted: usize, at: &mut [u16]) -> usiz
         if have == want {
             return have;
         }
-        let t = track_at(i);
-        let k = t as usize - 1;
-        have = take_track(map[k], t, at, have, want);
+        let track = track_at(i);
+        let k = track as usize - 1;
+        have = take_track(map[k], track, at, have, want);
         i += 1;
     }
     have
 }
 
-// The lowest sector of track 18 that the map marks free, or 19 where none is.
-pub fn lowest_free(map: &[[u8; 4]; 35]) -> u8
+// The place of the lowest sector of track 18 that the map marks free, or 0 where none is.
+pub fn place_directory(map: &[[u8; 4]; 35]) -> u16
+    ensures { λ r. ⌜ r ≡ directoryPlace (now (map .entry)) ⌝ }
 {
-    let entry = map[17];
-    let mut bits = entry[1] as u32 + 256 * (entry[2] as u32) + 65536 * (entry[3] as u32);
-    let mut s: u8 = 0;
-    while s < 19 {
-        if bits % 2 == 1 {
-            return s;
-        }
-        bits = bits / 2;
-        s += 1;
-    }
-    s
+    let mut at = [0u16; 1];
+    take_track(map[17], 18, &mut at, 0, 1);
+    at[0]
 }

@@ -1,87 +1,84 @@
-// Scratch (01, What the calls do): the file's sectors and its slot zeroed, and its sectors free in the map.
+// Scratch (01, What the calls do): the file's sectors and its slot zeroed, and its sectors free in the map. Every refusal is decided while the
+// image is only read; what is written then cannot fail.
 ghost use mathlib.Core.Path.{_≡_};
+ghost use mathlib.Core.List.{[]};
+ghost use Rattle.d64spec.specs.Geometry.{layout35};
+ghost use Rattle.d64spec.specs.Call.{scratch, perform};
+ghost use Rattle.answers.specs.Faults.{replyOf};
 use answers::Fault;
 use answers::Report;
 use answers::Verdict;
 use geometry::Address;
 
-// The places of a chain's sectors in order, how many there are, and the second byte of the last.
-struct Gathered {
-    at: [u16; 683],
+// How many sectors were cleared, and the second byte that the last of them had.
+struct Cleared {
     count: usize,
     last: u8,
 }
 
-fn gather_from(img: &[u8], first: Address, firsts: &[u16; 35]) -> Gathered
-{
-    let mut at = [0u16; 683];
-    let mut count: usize = 0;
+// Clears the sectors of the chain that starts at `first`, and marks them free in the map. Each link is read before its sector is cleared.
+fn clear_chain(
+    img: &mut [u8],
+    first: Address,
+    map: &mut [[u8; 4]; 35],
+    firsts: &[u16; 35],
+) -> Cleared {
     let mut track = first.track;
     let mut sector = first.sector;
+    let mut count: usize = 0;
     loop {
-        let start = 256 * geometry::number_by(firsts, Address { track, sector });
-        at[count] = 256 * (track as u16) + sector as u16;
+        let n = geometry::number_by(firsts, Address { track, sector });
+        bam::move_mark(map, 256 * (track as u16) + sector as u16, true);
+        track = img[256 * n];
+        sector = img[256 * n + 1];
+        sectors::clear_sector(img, n);
         count += 1;
-        track = img[start];
-        sector = img[start + 1];
         if track == 0 {
-            return Gathered { at, count, last: sector };
+            return Cleared {
+                count,
+                last: sector,
+            };
         }
     }
 }
 
-fn clear_places(img: &mut [u8], places: &[u16], firsts: &[u16; 35])
-{
-    let mut i = places.len();
-    while 0 < i {
-        i -= 1;
-        let place = places[i];
-        let n = geometry::number_by(firsts, Address { track: (place / 256) as u8, sector: (place % 256) as u8 });
-        sectors::clear_sector(img, n);
-    }
-}
-
-fn write_scratched(img: &mut [u8], places: &[u16], at: usize)
-{
-    clear_places(img, places, &geometry::FIRST);
+// Scratches the file of slot `index` of the directory sector 18/holder of a checked image.
+fn scratch_slot(img: &mut [u8], holder: u8, index: usize) -> Report {
+    let at = 91392 + 256 * (holder as usize) + 32 * index + 2;
+    let first = Address {
+        track: img[at + 1],
+        sector: img[at + 2],
+    };
+    let mut map = mapsector::load_map(&img[91392..91648]);
+    let cleared = clear_chain(img, first, &mut map, &geometry::FIRST);
     let blank = [0u8; 30];
     parts::overwrite(img, at, &blank);
-    let none = [0u16; 0];
-    mapwrite::move_marks(&mut img[91392..91648], places, &none, true);
-}
-
-fn scratch_slot(img: &mut [u8], holder: u8, k: usize) -> Report
-{
-    let at = 91392 + 256 * (holder as usize) + 32 * (k % 8) + 2;
-    let first = Address { track: img[at + 1], sector: img[at + 2] };
-    let chain = gather_from(img, first, &geometry::FIRST);
-    let count = chain.count;
-    let places = chain.at;
-    write_scratched(img, &places[..count], at);
+    mapsector::store_map(map, &mut img[91392..91648]);
     Report {
         verdict: Verdict::Fine,
-        length: 254 * (count as u32 - 1) + chain.last as u32 - 1,
-        sectors: count as u16,
+        length: 254 * (cleared.count as u32 - 1) + cleared.last as u32 - 1,
+        sectors: cleared.count as u16,
     }
 }
 
-fn scratch_checked(img: &mut [u8], name: &[u8], sectors: &[u8; 18], end: usize) -> Report
-{
-    let version = img[91394];
-    if version != 0x41 {
-        if version != 0 {
-            return answers::refuse(Fault::WriteForbidden);
-        }
+// The same for the file of this name on a checked image, looked for among the slots 0 to end - 1; refused with 11 where the DOS version forbids
+// writing, and with 13 where no slot has the name.
+fn scratch_checked(img: &mut [u8], name: &[u8], sectors: &[u8; 18], end: usize) -> Report {
+    if !mapsector::may_write(&img[91392..91648]) {
+        return answers::refuse(Fault::WriteForbidden);
     }
     let k = finding::find_named(&img[91392..96256], sectors, name, end);
     if k == end {
         return answers::refuse(Fault::NotFound);
     }
     let i = k / 8;
-    scratch_slot(img, sectors[i], k)
+    scratch_slot(img, sectors[i], k % 8)
 }
 
+// Scratches the file of this name: zeroes its sectors and bytes 02-1F of its slot, and frees the sectors in the map; reports its length and its
+// number of sectors. Refused with 1, 9, 2 to 8, 11 or 13, in this order; a refusal leaves the image as it was and reports 0 and 0.
 pub fn scratch_file(img: &mut [u8], name: &[u8]) -> Report
+    ensures { λ r. ⌜ replyOf r (now (img .exit)) [] ≡ perform layout35 (now (img .entry)) (scratch (now (name .entry))) ⌝ }
 {
     if img.len() != 174848 {
         return answers::refuse(Fault::WrongSize);

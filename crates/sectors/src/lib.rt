@@ -4,6 +4,7 @@
 ghost use mathlib.Core.Path.{_≡_};
 ghost use Rattle.d64spec.specs.Lists.{byte, zeros};
 ghost use Rattle.d64spec.specs.Image.{disk};
+ghost use Rattle.d64spec.specs.Format.{emptyDirectorySector};
 ghost use Rattle.sectors.specs.Sectors.{IsSector, withSector};
 
 // The bytes of sector n, as a part of the image.
@@ -50,4 +51,13 @@ pub fn clear_sector(img: &mut [u8], n: usize)
 {
     let blank = [0u8; 256];
     write_sector(img, n, &blank);
+}
+
+// An empty directory sector: 00 FF and zeros.
+pub fn empty_directory_sector() -> [u8; 256]
+    ensures { λ r. ⌜ r ≡ emptyDirectorySector ⌝ }
+{
+    let mut empty = [0u8; 256];
+    empty[1] = 0xFF;
+    empty
 }

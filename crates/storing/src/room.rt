@@ -1,0 +1,49 @@
+// Room for a file: the sectors that its data need, and where its entry goes (01, Store).
+
+// Where the entry goes: slot `index` of 18/sector, which is new to the directory where it is `grown`.
+pub(crate) struct EntryPlace {
+    pub sector: u8,
+    pub index: u8,
+    pub grown: bool,
+}
+
+// A place for the entry, or none: the directory is full.
+pub(crate) enum Room {
+    At(EntryPlace),
+    Full,
+}
+
+// The sectors that so many bytes need: 1 for none, else 254 bytes in each.
+pub(crate) fn sectors_needed(length: usize) -> usize {
+    if length == 0 {
+        return 1;
+    }
+    (length + 253) / 254
+}
+
+// The first empty one of the slots 0 to end - 1, or else the first slot of the lowest free sector of track 18.
+pub(crate) fn entry_room(
+    track18: &[u8],
+    sectors: &[u8; 18],
+    end: usize,
+    map: &[[u8; 4]; 35],
+) -> Room {
+    let k = finding::find_empty(track18, sectors, end);
+    if k < end {
+        let i = k / 8;
+        return Room::At(EntryPlace {
+            sector: sectors[i],
+            index: (k % 8) as u8,
+            grown: false,
+        });
+    }
+    let place = placement::place_directory(map);
+    if place == 0 {
+        return Room::Full;
+    }
+    Room::At(EntryPlace {
+        sector: (place % 256) as u8,
+        index: 0,
+        grown: true,
+    })
+}

@@ -1,0 +1,109 @@
+// What a store writes, once everything is decided (01, Store): the data, the entry, the map. Nothing here refuses.
+// Each sector is lent on as a part of the image and written once. The data are laid from the last sector to the first, and each sector is marked
+// in the map right after it is written: the two do not wait for each other.
+ghost use Rattle.storing.specs.Plans.{WriteReady, FileWritten};
+use crate::room::EntryPlace;
+use geometry::Address;
+
+// A sector of a chain: the link to the next one, and 254 bytes.
+fn fill_linked(sector: &mut [u8], next: u16, content: &[u8])
+{
+    sector[0] = (next / 256) as u8;
+    sector[1] = (next % 256) as u8;
+    bytes::copy(content, &mut sector[2..]);
+}
+
+// The last sector of a chain: 00, the number of its last used byte, at most 254 bytes, and zeros.
+fn fill_last(sector: &mut [u8], content: &[u8])
+{
+    let blank = [0u8; 256];
+    bytes::copy(&blank, sector);
+    sector[1] = (content.len() + 1) as u8;
+    bytes::copy(content, &mut sector[2..]);
+}
+
+// Where the sector at a place starts in the image.
+fn start_of(place: u16, firsts: &[u16; 35]) -> usize
+{
+    let at = Address {
+        track: (place / 256) as u8,
+        sector: (place % 256) as u8,
+    };
+    256 * geometry::number_by(firsts, at)
+}
+
+// Lays the data along the sectors at these places, and marks them used in the map.
+fn write_chain(
+    img: &mut [u8],
+    places: &[u16],
+    data: &[u8],
+    map: &mut [[u8; 4]; 35],
+    firsts: &[u16; 35],
+)
+{
+    let mut i = places.len() - 1;
+    let end = start_of(places[i], firsts);
+    fill_last(&mut img[end..end + 256], &data[254 * i..]);
+    bam::move_mark(map, places[i], false);
+    while 0 < i {
+        let next = places[i];
+        i -= 1;
+        let start = start_of(places[i], firsts);
+        fill_linked(&mut img[start..start + 256], next, &data[254 * i..254 * i + 254]);
+        bam::move_mark(map, places[i], false);
+    }
+}
+
+// Bytes 02 to 1F of the new entry: $80 + kind, first sector, name, nine zeros, count.
+fn new_entry(name: &[u8], kind: u8, first: u16, count: usize) -> [u8; 30]
+{
+    let mut entry = [0u8; 30];
+    entry[0] = 0x80 + kind;
+    entry[1] = (first / 256) as u8;
+    entry[2] = (first % 256) as u8;
+    bytes::copy(&names::padded_name(name), &mut entry[3..19]);
+    entry[28] = (count % 256) as u8;
+    entry[29] = (count / 256) as u8;
+    entry
+}
+
+// Adds 18/sector to the directory: it becomes 00 FF and zeros, and the last sector so far, 18/last, links to it.
+fn grow_directory(img: &mut [u8], last: u8, sector: u8)
+{
+    sectors::write_sector(img, 357 + sector as usize, &sectors::empty_directory_sector());
+    parts::overwrite(img, 91392 + 256 * (last as usize), &[18, sector]);
+}
+
+// Writes the entry at its place, after the directory has grown where it must.
+fn write_entry(img: &mut [u8], entry: &[u8; 30], place: EntryPlace, last: u8)
+{
+    if place.grown {
+        grow_directory(img, last, place.sector);
+    }
+    let start = 91392 + 256 * (place.sector as usize) + 32 * (place.index as usize);
+    parts::overwrite(img, start + 2, entry);
+}
+
+// Writes a file: its data in the sectors at these places, its entry, and the map, which was loaded from the image.
+pub(crate) fn write_file(
+    img: &mut [u8],
+    name: &[u8],
+    kind: u8,
+    data: &[u8],
+    places: &[u16],
+    place: EntryPlace,
+    last: u8,
+    map: &[[u8; 4]; 35],
+)
+    requires { ⌜ WriteReady (now img) (now name) kind (now data) (now places) place last (now map) ⌝ }
+    ensures { λ _. ⌜ FileWritten (now (img .entry)) (now (name .entry)) kind (now (data .entry)) (now (img .exit)) ⌝ }
+{
+    let mut marks = *map;
+    write_chain(img, places, data, &mut marks, &geometry::FIRST);
+    let entry = new_entry(name, kind, places[0], places.len());
+    write_entry(img, &entry, place, last);
+    if place.grown {
+        bam::move_mark(&mut marks, 18 * 256 + place.sector as u16, false);
+    }
+    mapsector::store_map(marks, &mut img[91392..91648]);
+}
