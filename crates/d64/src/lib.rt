@@ -158,7 +158,7 @@ pub extern "C" fn d64_store(
     if answer.len() != BLOCK_BYTES {
         return WRONG_BUFFER;
     }
-    let report = storing::store_file(image, name, kind, data);
+    let report = storing::store_file(image, name, kind, content);
     answers::give_answer(report, answer)
 }
 

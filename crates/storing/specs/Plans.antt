@@ -41,12 +41,12 @@ pub record StoreReady (img name : Bytes) (kind last : ℕ) (es : Entries) : Type
   pub entries : es ≡ mapEntries (disk img (sectorNumber layout35 mapAddress))
 
 -- a store whose every refusal is decided: there is room, and these are the sectors that it takes
-pub record WriteReady (img name : Bytes) (kind : ℕ) (data places : List ℕ) (p : EntryPlace) (last : ℕ) (es : Entries) : Type 0 where
+pub record WriteReady (img name : Bytes) (kind : ℕ) (bs places : List ℕ) (p : EntryPlace) (last : ℕ) (es : Entries) : Type 0 where
   pub ready : StoreReady img name kind last es
   pub place : PlaceReady img p
-  pub room : sectorsNeeded (length data) ≤ length (freeForFiles layout35 (disk img))
-  pub taken : map unpacked places ≡ placement layout35 (disk img) (sectorsNeeded (length data))
+  pub room : sectorsNeeded (length bs) ≤ length (freeForFiles layout35 (disk img))
+  pub taken : map unpacked places ≡ placement layout35 (disk img) (sectorsNeeded (length bs))
 
 -- the image after it is the one that document 01 describes
-pub record FileWritten (img name : Bytes) (kind : ℕ) (data img′ : Bytes) : Type 0 where
-  pub written : (place : SlotPlace) → slotPlaceFor layout35 (disk img) ≡ done place → img′ ≡ storeChange layout35 img place name kind data .imageAfter
+pub record FileWritten (img name : Bytes) (kind : ℕ) (bs img′ : Bytes) : Type 0 where
+  pub written : (place : SlotPlace) → slotPlaceFor layout35 (disk img) ≡ done place → img′ ≡ storeChange layout35 img place name kind bs .imageAfter

@@ -18,25 +18,24 @@ fn store_placed(
     img: &mut [u8],
     name: &[u8],
     kind: u8,
-    data: &[u8],
+    content: &[u8],
     place: EntryPlace,
     last: u8,
     map: &[[u8; 4]; 35],
-) -> Report
-{
+) -> Report {
     // no disk has room for more, and the number of sectors is then not asked for
-    if 168656 < data.len() {
+    if 168656 < content.len() {
         return answers::refuse(Fault::DiskFull);
     }
-    let needed = room::sectors_needed(data.len());
+    let needed = room::sectors_needed(content.len());
     let mut at = [0u16; 664];
     if placement::place_sectors(map, needed, &mut at) < needed {
         return answers::refuse(Fault::DiskFull);
     }
-    writing::write_file(img, name, kind, data, &at[..needed], place, last, map);
+    writing::write_file(img, name, kind, content, &at[..needed], place, last, map);
     Report {
         verdict: Verdict::Fine,
-        length: data.len() as u32,
+        length: content.len() as u32,
         sectors: needed as u16,
     }
 }
@@ -46,16 +45,15 @@ fn store_new(
     img: &mut [u8],
     name: &[u8],
     kind: u8,
-    data: &[u8],
+    content: &[u8],
     sectors: &[u8; 18],
     count: usize,
-) -> Report
-{
+) -> Report {
     let map = mapsector::load_map(&img[91392..91648]);
     let room = room::entry_room(&img[91392..96256], sectors, 8 * count, &map);
     match room {
         Room::Full => answers::refuse(Fault::DirectoryFull),
-        Room::At(place) => store_placed(img, name, kind, data, place, sectors[count - 1], &map),
+        Room::At(place) => store_placed(img, name, kind, content, place, sectors[count - 1], &map),
     }
 }
 
@@ -64,11 +62,10 @@ fn store_checked(
     img: &mut [u8],
     name: &[u8],
     kind: u8,
-    data: &[u8],
+    content: &[u8],
     sectors: &[u8; 18],
     count: usize,
-) -> Report
-{
+) -> Report {
     if !mapsector::may_write(&img[91392..91648]) {
         return answers::refuse(Fault::WriteForbidden);
     }
@@ -76,14 +73,14 @@ fn store_checked(
     if finding::find_named(&img[91392..96256], sectors, name, end) != end {
         return answers::refuse(Fault::NameExists);
     }
-    store_new(img, name, kind, data, sectors, count)
+    store_new(img, name, kind, content, sectors, count)
 }
 
 // Stores a new file: its data in the first free sectors in the allocation order, its entry in the first empty slot or in a new directory sector,
 // and the map; reports its length and its number of sectors. Refused with 1, 9, 10, 2 to 8, 11, 12, 14 or 15, in this order; a refusal leaves
 // the image as it was and reports 0 and 0.
-pub fn store_file(img: &mut [u8], name: &[u8], kind: u32, data: &[u8]) -> Report
-    ensures { λ r. ⌜ replyOf r (now (img .exit)) [] ≡ perform layout35 (now (img .entry)) (store (now (name .entry)) kind (now (data .entry))) ⌝ }
+pub fn store_file(img: &mut [u8], name: &[u8], kind: u32, content: &[u8]) -> Report
+    ensures { λ r. ⌜ replyOf r (now (img .exit)) [] ≡ perform layout35 (now (img .entry)) (store (now (name .entry)) kind (now (content .entry))) ⌝ }
 {
     if img.len() != 174848 {
         return answers::refuse(Fault::WrongSize);
@@ -102,7 +99,7 @@ pub fn store_file(img: &mut [u8], name: &[u8], kind: u32, data: &[u8]) -> Report
             img,
             name,
             kind as u8,
-            data,
+            content,
             &checked.sectors,
             checked.count,
         ),

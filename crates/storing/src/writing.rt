@@ -1,4 +1,4 @@
-// What a store writes, once everything is decided (01, Store): the data, the entry, the map. Nothing here refuses.
+// What a store writes, once everything is decided (01, Store): the content, the entry, the map. Nothing here refuses.
 // Each sector is lent on as a part of the image and written once. The data are laid from the last sector to the first, and each sector is marked
 // in the map right after it is written: the two do not wait for each other.
 ghost use Rattle.storing.specs.Plans.{WriteReady, FileWritten};
@@ -6,16 +6,14 @@ use crate::room::EntryPlace;
 use geometry::Address;
 
 // A sector of a chain: the link to the next one, and 254 bytes.
-fn fill_linked(sector: &mut [u8], next: u16, content: &[u8])
-{
+fn fill_linked(sector: &mut [u8], next: u16, content: &[u8]) {
     sector[0] = (next / 256) as u8;
     sector[1] = (next % 256) as u8;
     bytes::copy(content, &mut sector[2..]);
 }
 
 // The last sector of a chain: 00, the number of its last used byte, at most 254 bytes, and zeros.
-fn fill_last(sector: &mut [u8], content: &[u8])
-{
+fn fill_last(sector: &mut [u8], content: &[u8]) {
     let blank = [0u8; 256];
     bytes::copy(&blank, sector);
     sector[1] = (content.len() + 1) as u8;
@@ -23,8 +21,7 @@ fn fill_last(sector: &mut [u8], content: &[u8])
 }
 
 // Where the sector at a place starts in the image.
-fn start_of(place: u16, firsts: &[u16; 35]) -> usize
-{
+fn start_of(place: u16, firsts: &[u16; 35]) -> usize {
     let at = Address {
         track: (place / 256) as u8,
         sector: (place % 256) as u8,
@@ -36,27 +33,29 @@ fn start_of(place: u16, firsts: &[u16; 35]) -> usize
 fn write_chain(
     img: &mut [u8],
     places: &[u16],
-    data: &[u8],
+    content: &[u8],
     map: &mut [[u8; 4]; 35],
     firsts: &[u16; 35],
-)
-{
+) {
     let mut i = places.len() - 1;
     let end = start_of(places[i], firsts);
-    fill_last(&mut img[end..end + 256], &data[254 * i..]);
+    fill_last(&mut img[end..end + 256], &content[254 * i..]);
     bam::move_mark(map, places[i], false);
     while 0 < i {
         let next = places[i];
         i -= 1;
         let start = start_of(places[i], firsts);
-        fill_linked(&mut img[start..start + 256], next, &data[254 * i..254 * i + 254]);
+        fill_linked(
+            &mut img[start..start + 256],
+            next,
+            &content[254 * i..254 * i + 254],
+        );
         bam::move_mark(map, places[i], false);
     }
 }
 
 // Bytes 02 to 1F of the new entry: $80 + kind, first sector, name, nine zeros, count.
-fn new_entry(name: &[u8], kind: u8, first: u16, count: usize) -> [u8; 30]
-{
+fn new_entry(name: &[u8], kind: u8, first: u16, count: usize) -> [u8; 30] {
     let mut entry = [0u8; 30];
     entry[0] = 0x80 + kind;
     entry[1] = (first / 256) as u8;
@@ -68,15 +67,17 @@ fn new_entry(name: &[u8], kind: u8, first: u16, count: usize) -> [u8; 30]
 }
 
 // Adds 18/sector to the directory: it becomes 00 FF and zeros, and the last sector so far, 18/last, links to it.
-fn grow_directory(img: &mut [u8], last: u8, sector: u8)
-{
-    sectors::write_sector(img, 357 + sector as usize, &sectors::empty_directory_sector());
+fn grow_directory(img: &mut [u8], last: u8, sector: u8) {
+    sectors::write_sector(
+        img,
+        357 + sector as usize,
+        &sectors::empty_directory_sector(),
+    );
     parts::overwrite(img, 91392 + 256 * (last as usize), &[18, sector]);
 }
 
 // Writes the entry at its place, after the directory has grown where it must.
-fn write_entry(img: &mut [u8], entry: &[u8; 30], place: EntryPlace, last: u8)
-{
+fn write_entry(img: &mut [u8], entry: &[u8; 30], place: EntryPlace, last: u8) {
     if place.grown {
         grow_directory(img, last, place.sector);
     }
@@ -89,17 +90,17 @@ pub(crate) fn write_file(
     img: &mut [u8],
     name: &[u8],
     kind: u8,
-    data: &[u8],
+    content: &[u8],
     places: &[u16],
     place: EntryPlace,
     last: u8,
     map: &[[u8; 4]; 35],
 )
-    requires { ⌜ WriteReady (now img) (now name) kind (now data) (now places) place last (now map) ⌝ }
-    ensures { λ _. ⌜ FileWritten (now (img .entry)) (now (name .entry)) kind (now (data .entry)) (now (img .exit)) ⌝ }
+    requires { ⌜ WriteReady (now img) (now name) kind (now content) (now places) place last (now map) ⌝ }
+    ensures { λ _. ⌜ FileWritten (now (img .entry)) (now (name .entry)) kind (now (content .entry)) (now (img .exit)) ⌝ }
 {
     let mut marks = *map;
-    write_chain(img, places, data, &mut marks, &geometry::FIRST);
+    write_chain(img, places, content, &mut marks, &geometry::FIRST);
     let entry = new_entry(name, kind, places[0], places.len());
     write_entry(img, &entry, place, last);
     if place.grown {
