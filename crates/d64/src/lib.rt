@@ -152,7 +152,7 @@ pub extern "C" fn d64_store(
     image: &mut [u8],
     name: &[u8],
     kind: u32,
-    data: &[u8],
+    content: &[u8],
     answer: &mut [u8],
 ) -> u32 {
     if answer.len() != BLOCK_BYTES {
