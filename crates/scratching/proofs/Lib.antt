@@ -1,1 +1,4 @@
 pub mod ClearingLaws
+pub mod WrittenLaws
+pub mod ReplyLaws
+pub mod FoundLaws

@@ -1,19 +1,15 @@
+-- `scratching::clear_chain` meets its contract: the layout's table gives each sector its number.
+use Rattle.geometry.proofs.LentTableLaws.{firsts35}
 use borrow.Author.Needs.{needs}
 use Rattle.scratching.proofs.clear_chain.Statement.{statement}
 use Rattle.scratching.proofs.clear_chain.Tie as tie
-use Rattle.scratching.proofs.clear_chain.Reads as reads
-use Rattle.scratching.proofs.clear_chain.Lts as lts
-use Rattle.scratching.proofs.clear_from.Reads as clear-from-reads
 
--- src/lib.rt:63:5
 clear-from-requires : tie.Need-clear-from-requires
-clear-from-requires c κs = ?
+clear-from-requires c κs = record { chain = c .before .before .before .before .pre; numbers = firsts35 }
 
--- src/lib.rt:59:1
 same-length : tie.Need-same-length
 same-length c = search needs
 
--- src/lib.rt:59:1
 returns : tie.Need-returns
 returns c = search needs
 
