@@ -42,11 +42,11 @@ writable-lent img e = sym (e ∙ ap allowsWriting (map-lent img))
 
 module _ {img : Bytes} {ss : List ℕ} {end : ℕ} (there : CheckedSlots img ss end) (name : Bytes) (asked : validNameArgument name ≡ true) where
   pub forbidden : {b : Bool} → b ≡ allowsWriting (take 256 (drop 91392 img)) → b ≡ false → callScratch layout35 img name ≡ refused writeForbidden
-  forbidden e no = scratch-forbidden img name (there .size) asked (there .contents) (writable-lent img e ∙ no)
+  forbidden e denied = scratch-forbidden img name (there .size) asked (there .contents) (writable-lent img e ∙ denied)
 
   module _ {k : ℕ} (is : k ≡ slotNamed (lentTrack18 img) ss name 0 end) where
     pub none-named : {b : Bool} → b ≡ allowsWriting (take 256 (drop 91392 img)) → b ≡ true → k ≡ end → callScratch layout35 img name ≡ refused notFound
-    none-named a yes e = scratch-none img name (there .size) asked (there .contents) (writable-lent img a ∙ yes) (by-name there name asked is ∙ found-none there e)
+    none-named a may e = scratch-none img name (there .size) asked (there .contents) (writable-lent img a ∙ may) (by-name there name asked is ∙ found-none there e)
 
     -- where it ends at a slot
     module _ (some : k ≡ end → ⊥) where
@@ -82,4 +82,4 @@ module _ {img : Bytes} {ss : List ℕ} {end : ℕ} (there : CheckedSlots img ss 
       -- and the one that is scratched
       pub some-named : {b : Bool} → b ≡ allowsWriting (take 256 (drop 91392 img)) → b ≡ true → callScratch layout35 img name ≡ done (scratchChange layout35 img (fileOn img holder 0 (k % 8)))
       unfolding fileOn slotOn slotIn fileOf firstLink scratchedDisk
-      some-named a yes = scratch-some img name (there .size) asked (there .contents) (writable-lent img a ∙ yes) (fileOn img holder (8 * (k / 8)) (k % 8)) found-file
+      some-named a may = scratch-some img name (there .size) asked (there .contents) (writable-lent img a ∙ may) (fileOn img holder (8 * (k / 8)) (k % 8)) found-file

@@ -95,8 +95,8 @@ loop-again c =
     let w = c .before .before .before .before .before .before .before .before .before .before .loop .inv in
     let k = c .before .before .before .before .before .before .before .before .before in
     rw (c .before .before .before .clear-sector .ensures) (
-      clearing-moved o w (at-hand k) (c .before .before .before .before .before .before .before .move-mark .ensures) refl (next-at c)
-      (omega (arith, c .before .before .before .before .before .before .slice-known2 .given (256 * k .number-by .result))) (omega (arith, c .before .before .before .before .before .before .slice-known2 .given (256 * k .number-by .result + 1)))
+    clearing-moved o w (at-hand k) (c .before .before .before .before .before .before .before .move-mark .ensures) refl (next-at c)
+    (omega (arith, c .before .before .before .before .before .before .slice-known2 .given (256 * k .number-by .result))) (omega (arith, c .before .before .before .before .before .before .slice-known2 .given (256 * k .number-by .result + 1)))
     )
 
 pub clear-from-spec : {M : Type 1} → statement M

@@ -1,72 +1,80 @@
+-- `scratching::scratch_file` meets its contract. In order: the size; the name asked for; the check; the scratching on a checked image.
+use native.Mathlib.Omega.{arith}
+use mathlib.Core.Path.{_≡_, sym, _∙_}
+use mathlib.Core.Bool.{true}
+use borrow.Author.Tests.{not-true, not-false}
+use Rattle.d64spec.specs.Reply.{validNameArgument}
+use Rattle.answers.specs.declared.Fault.the-variants.{WrongSize, BadNameArgument}
+use Rattle.answers.specs.Faults.{faultOf}
+use Rattle.diskcheck.proofs.CheckedLaws.{refused-image}
+use Rattle.finding.proofs.CheckedSlotLaws.{checked-slots}
+use Rattle.scratching.proofs.ReplyLaws.{scratch-size, scratch-name, scratch-fault, scratch-refused}
 use borrow.Author.Needs.{needs}
 use Rattle.scratching.proofs.scratch_file.Statement.{statement}
 use Rattle.scratching.proofs.scratch_file.Tie as tie
-use Rattle.scratching.proofs.scratch_file.Reads as reads
-use Rattle.scratching.proofs.scratch_file.Lts as lts
-use Rattle.answers.proofs.refuse.Reads as refuse-reads
-use Rattle.diskcheck.proofs.check_image.Reads as check-image-reads
-use Rattle.names.proofs.valid_name_argument.Reads as valid-name-argument-reads
-use Rattle.scratching.proofs.scratch_checked.Reads as scratch-checked-reads
 
--- src/lib.rt:119:9
 refuse-requires : tie.Need-refuse-requires
 refuse-requires c κs = search needs
 
--- src/lib.rt:119:9
 returns : tie.Need-returns
-returns c = ?
+unfolding faultOf
+returns c =
+    let a = c .before .before .before .before .args in
+    scratch-refused (a .img .now) (a .name .now) WrongSize (c .refuse .ensures) (scratch-size (a .img .now) (a .name .now) (λ size. c .before .if1 .taken (omega arith)))
 
--- src/lib.rt:121:9
 valid-name-argument-requires : tie.Need-valid-name-argument-requires
 valid-name-argument-requires c κs = search needs
 
--- src/lib.rt:122:9
 refuse-requires-2 : tie.Need-refuse-requires-2
 refuse-requires-2 c κs = search needs
 
--- src/lib.rt:122:9
 returns-2 : tie.Need-returns-2
-returns-2 c = ?
+unfolding faultOf
+returns-2 c =
+    let a = c .before .before .before .before .before .before .args in
+    let asked = sym (c .before .before .valid-name-argument .ensures) ∙ not-true _ (c .before .if2 .taken) in
+    scratch-refused (a .img .now) (a .name .now) BadNameArgument (c .refuse2 .ensures) (scratch-name (a .img .now) (a .name .now) (omega arith) asked)
 
--- src/lib.rt:124:19
 check-image-requires : tie.Need-check-image-requires
 check-image-requires c κs = search needs
 
--- src/lib.rt:127:26
 enum-known-verdict : tie.Need-enum-known-verdict
 enum-known-verdict c = search needs
 
--- src/lib.rt:127:36
 refuse-requires-3 : tie.Need-refuse-requires-3
 refuse-requires-3 c κs = search needs
 
--- src/lib.rt:128:42
 enum-told : tie.Need-enum-told
 enum-told c = search needs
 
--- src/lib.rt:128:71
 mul-scratch-checked : tie.Need-mul-scratch-checked
 mul-scratch-checked c = search needs
 
--- src/lib.rt:128:26
-scratch-checked-requires : tie.Need-scratch-checked-requires
-scratch-checked-requires c κs = ?
+-- the name asked for
+asked : (c : tie.Else2) → validNameArgument (c .before .before .before .before .before .args .name .now) ≡ true
+asked c = sym (c .before .valid-name-argument .ensures) ∙ not-false _ (c .if2 .left)
 
--- src/lib.rt:115:1
+scratch-checked-requires : tie.Need-scratch-checked-requires
+scratch-checked-requires c κs =
+    let k = c .before .before .before .before .before in
+    (checked-slots (k .check-image .ensures) (c .before .before .before .enum-told .given .1), asked (k .before .before))
+
 same-length : tie.Need-same-length
 same-length c = search needs
 
--- src/lib.rt:115:1
 returns-3 : tie.Need-returns-3
-returns-3 c = ?
+returns-3 c =
+    let a = c .before .before .before .before .before .before .before .before .before .before .before .args in
+    let v = c .before .before in
+    let k = v .before .before in
+    scratch-refused (a .img .now) (a .name .now) _ (c .refuse3 .ensures)
+    (scratch-fault (a .img .now) (a .name .now) (omega arith) (asked (k .before .before)) (refused-image (k .check-image .ensures) _ (v .verdict .given .1)))
 
--- src/lib.rt:115:1
 same-length-2 : tie.Need-same-length-2
 same-length-2 c = search needs
 
--- src/lib.rt:115:1
 returns-4 : tie.Need-returns-4
-returns-4 c = search needs
+returns-4 c = c .before .before .scratch-checked .ensures
 
 pub scratch-file-spec : {M : Type 1} → statement M
 scratch-file-spec =
