@@ -23,7 +23,7 @@ use Rattle.diskcheck.specs.SlotChecks.{imageSlot}
 use Rattle.diskcheck.proofs.TrackLaws.{map-lent}
 use Rattle.finding.specs.FileSlots.{holdsFile, slotNamed, CheckedSlots}
 use Rattle.finding.proofs.CheckedSlotLaws.{lentTrack18, found-none, found-some, by-name}
-use Rattle.scratching.specs.Scratches.{slotOn, fileOn, FileThere}
+use Rattle.scratching.specs.Scratches.{slotOn, fileOn, FileThere, MayScratch}
 use Rattle.scratching.proofs.ReplyLaws.{scratch-forbidden, scratch-none, scratch-some}
 
 -- a search ends at the latest where the slots end
@@ -36,50 +36,53 @@ named-le b ss name k (suc n) = go (holdsFile b ss name k) (named-le b ss name (s
     go false l = omega arith
 
 -- whether writing is allowed, by the map sector as the code lends it
-pub writable-lent : (img : Bytes) {b : Bool} → b ≡ allowsWriting (take 256 (drop 91392 img)) → writable layout35 (disk img) ≡ b
+pub writable-lent : (img : Bytes) {b c : Bool} → b ≡ allowsWriting (take 256 (drop 91392 img)) → b ≡ c → writable layout35 (disk img) ≡ c
 unfolding writable allowsWriting
-writable-lent img e = sym (e ∙ ap allowsWriting (map-lent img))
+writable-lent img e is = sym (e ∙ ap allowsWriting (map-lent img)) ∙ is
 
-module _ {img : Bytes} {ss : List ℕ} {end : ℕ} (there : CheckedSlots img ss end) (name : Bytes) (asked : validNameArgument name ≡ true) where
-  pub forbidden : {b : Bool} → b ≡ allowsWriting (take 256 (drop 91392 img)) → b ≡ false → callScratch layout35 img name ≡ refused writeForbidden
-  forbidden e denied = scratch-forbidden img name (there .size) asked (there .contents) (writable-lent img e ∙ denied)
+pub forbidden : {img : Bytes} {ss : List ℕ} {end : ℕ} → CheckedSlots img ss end → (name : Bytes) → validNameArgument name ≡ true → writable layout35 (disk img) ≡ false
+    → callScratch layout35 img name ≡ refused writeForbidden
+forbidden {img} there name asked denied = scratch-forbidden img name (there .size) asked (there .contents) denied
 
-  module _ {k : ℕ} (is : k ≡ slotNamed (lentTrack18 img) ss name 0 end) where
-    pub none-named : {b : Bool} → b ≡ allowsWriting (take 256 (drop 91392 img)) → b ≡ true → k ≡ end → callScratch layout35 img name ≡ refused notFound
-    none-named a may e = scratch-none img name (there .size) asked (there .contents) (writable-lent img a ∙ may) (by-name there name asked is ∙ found-none there e)
+module _ {img name ss : List ℕ} {end : ℕ} (may : MayScratch img name ss end) {k : ℕ} (is : k ≡ slotNamed (lentTrack18 img) ss name 0 end) where
+  abbrev there : CheckedSlots img ss end
+  there = may .slots
 
-    -- where it ends at a slot
-    module _ (some : k ≡ end → ⊥) where
-      pub slot-below : k < 144
-      slot-below = omega (arith, is, named-le (lentTrack18 img) ss name 0 end, there .few)
+  pub none-named : k ≡ end → callScratch layout35 img name ≡ refused notFound
+  none-named e = scratch-none img name (there .size) (may .asked) (there .contents) (may .allowed) (by-name there name (may .asked) is ∙ found-none there e)
 
-      -- the directory sector and the place in it
-      abbrev holder : ℕ
-      holder = getD ss (k / 8) 0
+  -- where the search ends at a slot
+  module _ (some : k ≡ end → ⊥) where
+    pub slot-below : k < 144
+    slot-below = omega (arith, is, named-le (lentTrack18 img) ss name 0 end, there .few)
 
-      inside : holder < 19
-      inside = sector-lt ss (there .inside) (k / 8)
+    -- its directory sector
+    abbrev holder : ℕ
+    holder = getD ss (k / 8) 0
 
-      slot-is : imageSlot img ss k ≡ slotOn img holder (8 * (k / 8)) (k % 8)
-      unfolding slotAt slotOn
-      slot-is = ap (λ (s : Bytes). slotIn s (address 18 holder) (8 * (k / 8)) (k % 8)) (track18-sectors img holder inside ∙ ap (disk img) (sym (number-18 holder)))
+    inside : holder < 19
+    inside = sector-lt ss (there .inside) (k / 8)
 
-      found-file : first notFound (filesNamed name (files layout35 (disk img))) ≡ done (fileOn img holder (8 * (k / 8)) (k % 8))
-      unfolding fileOn
-      found-file = by-name there name asked is ∙ found-some there some ∙ ap (λ (s : Slot). done (fileOf layout35 (disk img) s)) slot-is
+    slot-is : imageSlot img ss k ≡ slotOn img holder (8 * (k / 8)) (k % 8)
+    unfolding slotAt slotOn
+    slot-is = ap (λ (s : Bytes). slotIn s (address 18 holder) (8 * (k / 8)) (k % 8)) (track18-sectors img holder inside ∙ ap (disk img) (sym (number-18 holder)))
 
-      -- the file of that slot is one of the image's
-      pub file-there : FileThere img holder (k % 8)
-      unfolding filesNamed
-      file-there = record {
-        accepted = there .accepted;
-        inside = inside;
-        place = omega arith;
-        from = 8 * (k / 8);
-        element = first-kept (λ f. equal name (nameOf (f .slot .bytes))) (ValidEntry layout35 (disk img)) notFound (files layout35 (disk img)) (fileOn img holder (8 * (k / 8)) (k % 8)) (there .accepted .content .entry) found-file .element;
-      }
+    found-file : first notFound (filesNamed name (files layout35 (disk img))) ≡ done (fileOn img holder (8 * (k / 8)) (k % 8))
+    unfolding fileOn
+    found-file = by-name there name (may .asked) is ∙ found-some there some ∙ ap (λ (s : Slot). done (fileOf layout35 (disk img) s)) slot-is
 
-      -- and the one that is scratched
-      pub some-named : {b : Bool} → b ≡ allowsWriting (take 256 (drop 91392 img)) → b ≡ true → callScratch layout35 img name ≡ done (scratchChange layout35 img (fileOn img holder 0 (k % 8)))
-      unfolding fileOn slotOn slotIn fileOf firstLink scratchedDisk
-      some-named a may = scratch-some img name (there .size) asked (there .contents) (writable-lent img a ∙ may) (fileOn img holder (8 * (k / 8)) (k % 8)) found-file
+    -- the file of that slot is one of the image's
+    pub file-there : FileThere img holder (k % 8)
+    unfolding filesNamed
+    file-there = record {
+      accepted = there .accepted;
+      inside = inside;
+      place = omega arith;
+      from = 8 * (k / 8);
+      element = first-kept (λ f. equal name (nameOf (f .slot .bytes))) (ValidEntry layout35 (disk img)) notFound (files layout35 (disk img)) (fileOn img holder (8 * (k / 8)) (k % 8)) (there .accepted .content .entry) found-file .element;
+    }
+
+    -- and the one that is scratched
+    pub some-named : callScratch layout35 img name ≡ done (scratchChange layout35 img (fileOn img holder 0 (k % 8)))
+    unfolding fileOn slotOn slotIn fileOf firstLink scratchedDisk
+    some-named = scratch-some img name (there .size) (may .asked) (there .contents) (may .allowed) (fileOn img holder (8 * (k / 8)) (k % 8)) found-file

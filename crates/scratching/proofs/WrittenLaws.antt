@@ -37,7 +37,7 @@ use Rattle.parts.proofs.OverwriteLaws.{disk-overwritten, length-overwritten, le
 use Rattle.answers.specs.declared.Verdict.the-variants.{Fine}
 use Rattle.answers.specs.Faults.{verdictOf, answerTo, replyOf}
 use Rattle.mapentry.specs.MapEntry.{Entries}
-use Rattle.mapsector.specs.MapSector.{mapEntries, storedEntries}
+use Rattle.mapsector.specs.MapSector.{storedEntries}
 use Rattle.bamlaws.specs.Expected.{Expects, freeAfter}
 use Rattle.bamlaws.proofs.FollowLaws.{expects-loaded, expects-agree, map-follows}
 use Rattle.directory.proofs.Track18Laws.{number-18}
@@ -47,7 +47,7 @@ use Rattle.reading.specs.FileSlots.{firstOf, FileEntry}
 use Rattle.reading.proofs.ChainStepLaws.{sectorsFrom-le}
 use Rattle.reading.proofs.FileLaws.{sectors-of, entry-of}
 use Rattle.scratching.specs.declared.Cleared.{Cleared}
-use Rattle.scratching.specs.Scratches.{ChainOwned, ChainCleared, withMap, slotOn, fileOn, FileThere}
+use Rattle.scratching.specs.Scratches.{ChainCleared, withMap, startAt, EntryOwned, FileCleared, slotOn, fileOn, FileThere}
 
 -- what a scratch counts of a chain cleared: at least one sector, a last byte as a file's has it, and so the file's length (01, Chains)
 pub record LengthTold (c : Cleared) (n : ℕ) : Type 0 where
@@ -89,7 +89,7 @@ module _ (es : Entries) (img : Bytes) (size : length img ≡ 174848) (full : len
 -- ---- the slot's bytes
 
 module _ {img : Bytes} {holder index : ℕ} (t : FileThere img holder index) where
-  pub size-there : length img ≡ 174848
+  size-there : length img ≡ 174848
   size-there = omega (arith, t .accepted .size, sectors35)
 
   -- the slot, and the number of its sector
@@ -120,7 +120,7 @@ module _ {img : Bytes} {holder index : ℕ} (t : FileThere img holder index) whe
 
   -- where the code finds them
   module _ {at : ℕ} (is : at ≡ 91392 + 256 * holder + 32 * index + 2) where
-    pub first-read : address (byte img (at + 1)) (byte img (at + 2)) ≡ firstOf (s .bytes)
+    first-read : startAt img at ≡ firstOf (s .bytes)
     first-read =
         let one : at + 1 ≡ 256 * n + (32 * index + 2 + 1) = omega arith in
         let two : at + 2 ≡ 256 * n + (32 * index + 2 + 2) = omega arith in
@@ -163,18 +163,21 @@ module _ {img : Bytes} {holder index : ℕ} (t : FileThere img holder index) whe
   -- ---- its chain is owned
 
   module _ (small : (i : ℕ) → byte img i < 256) where
-    pub entry : FileEntry img (s .bytes)
+    entry : FileEntry img (s .bytes)
     unfolding fileOn
     entry = entry-of img (t .accepted) s (t .element) small full
 
-    pub chain-owned : {at : ℕ} {es : Entries} → es ≡ mapEntries (take 256 (drop 91392 img)) → at ≡ 91392 + 256 * holder + 32 * index + 2
-        → ChainOwned img es (address (byte img (at + 1)) (byte img (at + 2)))
-    chain-owned {at} {es} loaded is = rw (first-read is) (record {
-      chain = entry .chain;
-      owned = λ k. omega (arith, claims k, ap (λ (l : List Address). count k (map (sectorNumber layout35) l)) sectors-are);
-      once = t .accepted .content .once;
-      marks = rw (loaded, map-lent img) (expects-loaded d (t .accepted .content) (whole .full m (omega (arith, number-18 0, sectors35))) (byte-small img small m));
-    })
+    pub entry-owned : {at : ℕ} → at ≡ 91392 + 256 * holder + 32 * index + 2 → EntryOwned img at
+    entry-owned {at} is = record {
+      size = size-there;
+      inside = omega (arith, size-there, t .inside, t .place);
+      chain = rw (first-read is) (record {
+        chain = entry .chain;
+        owned = λ k. omega (arith, claims k, ap (λ (l : List Address). count k (map (sectorNumber layout35) l)) sectors-are);
+        once = t .accepted .content .once;
+        marks = rw (map-lent img) (expects-loaded d (t .accepted .content) (whole .full m (omega (arith, number-18 0, sectors35))) (byte-small img small m));
+      });
+    }
 
   -- ---- the image after
 
@@ -190,7 +193,16 @@ module _ {img : Bytes} {holder index : ℕ} (t : FileThere img holder index) whe
       go zero e = let same : claimCount layout35 d k ≡ claimCount layout35 d2 k = omega (arith, claims k) in ap (λ (x : ℕ). eqb x 0) same
       go (suc c) e = rw (lt-ltb 0 (suc c) (omega arith)) (sym (eq-eqb (claimCount layout35 d2 k) 0 (omega (arith, claims k, t .accepted .content .once k))))
 
-  module _ {at : ℕ} {c : Cleared} {img′ : Bytes} {es′ : Entries} (cleared : ChainCleared img (address (byte img (at + 1)) (byte img (at + 2))) c img′ es′) (is : at ≡ 91392 + 256 * holder + 32 * index + 2) where
+  module _ {at : ℕ} {c : Cleared} {img″ : Bytes} (scratched : FileCleared img at c img″) (is : at ≡ 91392 + 256 * holder + 32 * index + 2) where
+    abbrev img′ : Bytes
+    img′ = scratched .before
+
+    abbrev es′ : Entries
+    es′ = scratched .marked
+
+    cleared : ChainCleared img (startAt img at) c img′ es′
+    cleared = scratched .chain
+
     first-disk : disk img′ ≡ clearSectors layout35 (f .sectors) d
     first-disk = cleared .sectors ∙ ap (λ (r : Address). clearSectors layout35 (sectorsFrom img r) d) (first-read is) ∙ ap (λ (l : List Address). clearSectors layout35 l d) (sym sectors-are)
 
@@ -216,7 +228,7 @@ module _ {img : Bytes} {holder index : ℕ} (t : FileThere img holder index) whe
         ∙ rewrite-whole layout35 valid35 d2 (prepared .whole) (prepared .sound) .full m (omega (arith, number-18 0, sectors35))
 
     -- THE IMAGE AFTER A SCRATCH is that of document 01's disk
-    pub image-scratched : withMap es′ (overwritten img′ at (zeros 30)) ≡ image layout35 (scratchedDisk layout35 d f)
+    image-scratched : withMap es′ (overwritten img′ at (zeros 30)) ≡ image layout35 (scratchedDisk layout35 d f)
     unfolding scratchedDisk fileOn fileOf slotOn slotIn
     image-scratched =
         let img2 : Bytes = overwritten img′ at (zeros 30) in
@@ -247,7 +259,7 @@ module _ {img : Bytes} {holder index : ℕ} (t : FileThere img holder index) whe
         }
 
     -- THE REPLY OF A SCRATCH that is done
-    pub scratch-replied : {img″ : Bytes} → ((i : ℕ) → byte img i < 256) → img″ ≡ withMap es′ (overwritten img′ at (zeros 30))
+    pub scratch-replied : ((i : ℕ) → byte img i < 256)
         → replyOf (record { verdict = Fine; length = 254 * (c .count - 1) + c .last - 1; sectors = c .count }) img″ [] ≡ reply img [] (done (scratchChange layout35 img (fileOn img holder 0 index)))
     unfolding reply verdictOf answerTo fileOn slotOn slotIn fileOf firstLink scratchedDisk
-    scratch-replied small e = rw (e ∙ image-scratched, told small .bytes, number-is)
+    scratch-replied small = rw (scratched .written ∙ image-scratched, told small .bytes, number-is)

@@ -14,7 +14,7 @@ ghost use Rattle.geometry.specs.Layout.{addressOf};
 ghost use Rattle.parts.specs.Overwrites.{overwritten};
 ghost use Rattle.answers.specs.Faults.{replyOf};
 ghost use Rattle.finding.specs.FileSlots.{CheckedSlots};
-ghost use Rattle.scratching.specs.Scratches.{ChainOwned, ClearReady, ChainCleared, withMap, fileOn, FileThere};
+ghost use Rattle.scratching.specs.Scratches.{ChainOwned, ClearReady, ChainCleared, withMap, EntryOwned, FileCleared, fileOn, FileThere, MayScratch};
 use answers::Fault;
 use answers::Report;
 use answers::Verdict;
@@ -73,12 +73,11 @@ fn clear_slot(img: &mut [u8], at: usize, map: [[u8; 4]; 35])
     mapsector::store_map(map, &mut img[91392..91648]);
 }
 
-// Scratches the file of slot `index` of the directory sector 18/holder of a checked image.
-fn scratch_slot(img: &mut [u8], holder: u8, index: usize) -> Report
-    requires { ⌜ FileThere (now img) holder index ⌝ }
-    ensures { λ r. ⌜ replyOf r (now (img .exit)) [] ≡ reply (now (img .entry)) [] (done (scratchChange layout35 (now (img .entry)) (fileOn (now (img .entry)) holder 0 index))) ⌝ }
+// Clears the chain that the slot from byte `at` on starts, and the slot itself; the map follows.
+fn clear_file(img: &mut [u8], at: usize) -> Cleared
+    requires { ⌜ EntryOwned (now img) at ⌝ }
+    ensures { λ r. ⌜ FileCleared (now (img .entry)) at r (now (img .exit)) ⌝ }
 {
-    let at = 91392 + 256 * (holder as usize) + 32 * index + 2;
     let first = Address {
         track: img[at + 1],
         sector: img[at + 2],
@@ -86,6 +85,16 @@ fn scratch_slot(img: &mut [u8], holder: u8, index: usize) -> Report
     let mut map = mapsector::load_map(&img[91392..91648]);
     let cleared = clear_chain(img, first, &mut map);
     clear_slot(img, at, map);
+    cleared
+}
+
+// Scratches the file of slot `index` of the directory sector 18/holder of a checked image.
+fn scratch_slot(img: &mut [u8], holder: u8, index: usize) -> Report
+    requires { ⌜ FileThere (now img) holder index ⌝ }
+    ensures { λ r. ⌜ replyOf r (now (img .exit)) [] ≡ reply (now (img .entry)) [] (done (scratchChange layout35 (now (img .entry)) (fileOn (now (img .entry)) holder 0 index))) ⌝ }
+{
+    let at = 91392 + 256 * (holder as usize) + 32 * index + 2;
+    let cleared = clear_file(img, at);
     Report {
         verdict: Verdict::Fine,
         length: 254 * (cleared.count as u32 - 1) + cleared.last as u32 - 1,
@@ -93,8 +102,21 @@ fn scratch_slot(img: &mut [u8], holder: u8, index: usize) -> Report
     }
 }
 
-// The same for the file of this name on a checked image, looked for among the slots 0 to end - 1; refused with 11 where the DOS version forbids
-// writing, and with 13 where no slot has the name.
+// The same for the file of this name on a checked image that may be written, looked for among the slots 0 to end - 1; refused with 13 where no
+// slot has the name.
+fn scratch_named(img: &mut [u8], name: &[u8], sectors: &[u8; 18], end: usize) -> Report
+    requires { ⌜ MayScratch (now img) (now name) (now sectors) end ⌝ }
+    ensures { λ r. ⌜ replyOf r (now (img .exit)) [] ≡ perform layout35 (now (img .entry)) (scratch (now (name .entry))) ⌝ }
+{
+    let k = finding::find_named(&img[91392..96256], sectors, name, end);
+    if k == end {
+        return answers::refuse(Fault::NotFound);
+    }
+    let i = k / 8;
+    scratch_slot(img, sectors[i], k % 8)
+}
+
+// The same on any checked image; refused with 11 where the DOS version forbids writing.
 fn scratch_checked(img: &mut [u8], name: &[u8], sectors: &[u8; 18], end: usize) -> Report
     requires { ⌜ CheckedSlots (now img) (now sectors) end × (validNameArgument (now name) ≡ true) ⌝ }
     ensures { λ r. ⌜ replyOf r (now (img .exit)) [] ≡ perform layout35 (now (img .entry)) (scratch (now (name .entry))) ⌝ }
@@ -102,12 +124,7 @@ fn scratch_checked(img: &mut [u8], name: &[u8], sectors: &[u8; 18], end: usize) 
     if !mapsector::may_write(&img[91392..91648]) {
         return answers::refuse(Fault::WriteForbidden);
     }
-    let k = finding::find_named(&img[91392..96256], sectors, name, end);
-    if k == end {
-        return answers::refuse(Fault::NotFound);
-    }
-    let i = k / 8;
-    scratch_slot(img, sectors[i], k % 8)
+    scratch_named(img, name, sectors, end)
 }
 
 // Scratches the file of this name: zeroes its sectors and bytes 02-1F of its slot, and frees the sectors in the map; reports its length and its
