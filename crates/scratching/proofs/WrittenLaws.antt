@@ -175,7 +175,7 @@ module _ {img : Bytes} {holder index : ℕ} (t : FileThere img holder index) whe
         chain = entry .chain;
         owned = λ k. omega (arith, claims k, ap (λ (l : List Address). count k (map (sectorNumber layout35) l)) sectors-are);
         once = t .accepted .content .once;
-        marks = rw (map-lent img) (expects-loaded d (t .accepted .content) (whole .full m (omega (arith, number-18 0, sectors35))) (byte-small img small m));
+        marks = expects-loaded d (t .accepted .content) (whole .full m (omega (arith, number-18 0, sectors35))) (byte-small img small m);
       });
     }
 
