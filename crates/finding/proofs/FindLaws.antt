@@ -1,12 +1,12 @@
--- The slot of a file by its name, or by its position (01, Read; Tell): the loops over the slots, and which file of the definitions the slot is.
--- In order: slots by name; slots by position; the file found. A slot is read from track 18 as it is lent.
-use Prim.Native.Nat.{ℕ, zero, suc, _+_, _-_, _/_, _≤_, _<_}
+-- The slot of a file by its name or by its position, and the first empty slot (01, Read; Tell; Store): the loops over the slots, and which file
+-- of the definitions the slot found is. In order: the loops; the slot at hand, by name, by position, empty; the file found.
+use Prim.Native.Nat.{ℕ, zero, suc, _+_, _-_, _≤_, _<_}
 use native.Mathlib.Omega.{arith}
 use native.Mathlib.Numerals.{add-one}
 use mathlib.Core.Path.{_≡_, refl, sym, ap, _∙_}
 use mathlib.Core.Bool.{Bool, true, false, cond, not, _&&_, and-false}
 use mathlib.Core.List.{List, [], _∷_, map}
-use lib.ListN.{length, drop, getD}
+use lib.ListN.{drop}
 use lib.Dec.{eqb}
 use borrow.Author.Tests.{eq-eqb, ne-eqb}
 use Rattle.d64spec.specs.Lists.{Bytes, All, equal}
@@ -18,9 +18,8 @@ use Rattle.d64spec.specs.Listing.{bytesOfTrack18}
 use Rattle.d64spec.specs.Reply.{validNameArgument, filesNamed}
 use Rattle.names.proofs.NameLaws.{equal-nameField-padded}
 use Rattle.directory.specs.Directories.{slotBytes, occupiedFrom, IsSlot}
-use Rattle.directory.proofs.SearchLaws.{sector-lt}
 use Rattle.diskcheck.specs.SlotChecks.{imageSlot, imageOccupied}
-use Rattle.reading.specs.FileSlots.{holdsFile, slotNamed, slotPlaced, SlotsThere}
+use Rattle.finding.specs.FileSlots.{holdsFile, slotNamed, slotPlaced, slotEmpty}
 
 -- ---- the loops
 
@@ -39,54 +38,72 @@ module _ (f : ℕ → ℕ) {end : ℕ} where
 pub searching-next : {end k found found′ asked : ℕ} → Searching end k found asked → k < end → found ≡ found′ → Searching end (k + 1) found′ asked
 searching-next s h e = record { within = omega arith; same = sym e ∙ s .same }
 
--- a slot that is read has its bytes, where track 18 is whole
-pub slot-full : {b ss : List ℕ} {end k : ℕ} {p : Bytes} → SlotsThere b ss end → IsSlot b ss k p → length p ≡ 30
-slot-full {b} {ss} {end} {k} there slot = slot .full (there .size) (sector-lt ss (there .inside) (k / 8))
-
 module _ (b ss : List ℕ) {end k : ℕ} (more : k < end) where
   left-over : end - k ≡ suc (end - (k + 1))
   left-over = omega arith
 
-  -- the slot at hand is empty, or it is not
-  module _ {p : Bytes} (slot : IsSlot b ss k p) where
-    empty-here : getD p 0 0 ≡ 0 → isEmpty (slotBytes b ss k) ≡ true
-    empty-here e = rw (← (slot .bytes)) (eq-eqb (getD p 0 0) 0 e)
-
-    occupied-here : (getD p 0 0 ≡ 0 → ⊥) → isEmpty (slotBytes b ss k) ≡ false
-    occupied-here e = rw (← (slot .bytes)) (ne-eqb (getD p 0 0) 0 e)
+  -- t is the test whether the slot at hand is empty
+  module _ {p : Bytes} (slot : IsSlot b ss k p) {t : Bool} (asked : t ≡ isEmpty p) where
+    empty-here : {u : Bool} → t ≡ u → isEmpty (slotBytes b ss k) ≡ u
+    empty-here e = sym (rw (slot .bytes) at asked) ∙ e
 
     module _ (name : Bytes) where
       named-next : slotNamed b ss name k (end - k) ≡ cond (holdsFile b ss name k) k (slotNamed b ss name (k + 1) (end - (k + 1)))
       named-next = rw (left-over, add-one k)
 
-      pub named-empty : getD p 0 0 ≡ 0 → slotNamed b ss name k (end - k) ≡ slotNamed b ss name (k + 1) (end - (k + 1))
+      pub named-empty : t ≡ true → slotNamed b ss name k (end - k) ≡ slotNamed b ss name (k + 1) (end - (k + 1))
       unfolding holdsFile
       named-empty e = named-next ∙ rw (empty-here e)
 
-      -- t is the test of the name
-      module _ {t : Bool} (asked : t ≡ equal (nameField p) (padded name)) where
-        name-here : t ≡ equal (nameField (slotBytes b ss k)) (padded name)
-        name-here = rw (slot .bytes) at asked
+      -- u is the test of the name
+      module _ {u : Bool} (compared : u ≡ equal (nameField p) (padded name)) where
+        name-here : u ≡ equal (nameField (slotBytes b ss k)) (padded name)
+        name-here = rw (slot .bytes) at compared
 
-        pub named-other : t ≡ false → slotNamed b ss name k (end - k) ≡ slotNamed b ss name (k + 1) (end - (k + 1))
+        pub named-other : u ≡ false → slotNamed b ss name k (end - k) ≡ slotNamed b ss name (k + 1) (end - (k + 1))
         unfolding holdsFile
         named-other differs = named-next ∙ rw (← name-here, differs) (rw and-false)
 
-        pub named-here : (getD p 0 0 ≡ 0 → ⊥) → t ≡ true → slotNamed b ss name k (end - k) ≡ k
+        pub named-here : t ≡ false → u ≡ true → slotNamed b ss name k (end - k) ≡ k
         unfolding holdsFile
-        named-here occupied is = named-next ∙ rw (← name-here, is) (rw (occupied-here occupied))
+        named-here occupied is = named-next ∙ rw (← name-here, is) (rw (empty-here occupied))
 
-    pub placed-empty : (left : ℕ) → getD p 0 0 ≡ 0 → slotPlaced b ss left k (end - k) ≡ slotPlaced b ss left (k + 1) (end - (k + 1))
+    pub placed-empty : (left : ℕ) → t ≡ true → slotPlaced b ss left k (end - k) ≡ slotPlaced b ss left (k + 1) (end - (k + 1))
     placed-empty zero e = rw (left-over, add-one k) (rw (empty-here e))
     placed-empty (suc left) e = rw (left-over, add-one k) (rw (empty-here e))
 
-    pub placed-next : (left : ℕ) → (getD p 0 0 ≡ 0 → ⊥) → 1 ≤ left → slotPlaced b ss left k (end - k) ≡ slotPlaced b ss (left - 1) (k + 1) (end - (k + 1))
+    pub placed-next : (left : ℕ) → t ≡ false → 1 ≤ left → slotPlaced b ss left k (end - k) ≡ slotPlaced b ss (left - 1) (k + 1) (end - (k + 1))
     placed-next zero occupied h = absurd (omega arith)
-    placed-next (suc left) occupied h = let e : suc left - 1 ≡ left = omega arith in rw (left-over, add-one k, e) (rw (occupied-here occupied))
+    placed-next (suc left) occupied h = let e : suc left - 1 ≡ left = omega arith in rw (left-over, add-one k, e) (rw (empty-here occupied))
 
-    pub placed-here : (left : ℕ) → (getD p 0 0 ≡ 0 → ⊥) → left < 1 → slotPlaced b ss left k (end - k) ≡ k
-    placed-here zero occupied h = rw left-over (rw (occupied-here occupied))
+    pub placed-here : (left : ℕ) → t ≡ false → left < 1 → slotPlaced b ss left k (end - k) ≡ k
+    placed-here zero occupied h = rw left-over (rw (empty-here occupied))
     placed-here (suc left) occupied h = absurd (omega arith)
+
+    pub empty-next : t ≡ false → slotEmpty b ss k (end - k) ≡ slotEmpty b ss (k + 1) (end - (k + 1))
+    empty-next occupied = rw (left-over, add-one k) (rw (empty-here occupied))
+
+    pub empty-first : t ≡ true → slotEmpty b ss k (end - k) ≡ k
+    empty-first e = rw left-over (rw (empty-here e))
+
+-- ---- how far a search goes
+
+module _ (b ss : List ℕ) where
+  pub slotNamed-le : (name : Bytes) (k n : ℕ) → slotNamed b ss name k n ≤ k + n
+  slotNamed-le name k zero = omega arith
+  slotNamed-le name k (suc n) = go (holdsFile b ss name k) (slotNamed-le name (suc k) n)
+    where
+      go : (t : Bool) {r : ℕ} → r ≤ suc k + n → cond t k r ≤ k + suc n
+      go true h = omega arith
+      go false h = omega arith
+
+  pub slotEmpty-le : (k n : ℕ) → slotEmpty b ss k n ≤ k + n
+  slotEmpty-le k zero = omega arith
+  slotEmpty-le k (suc n) = go (isEmpty (slotBytes b ss k)) (slotEmpty-le (suc k) n)
+    where
+      go : (t : Bool) {r : ℕ} → r ≤ suc k + n → cond t k r ≤ k + suc n
+      go true h = omega arith
+      go false h = omega arith
 
 -- ---- the file found
 
@@ -95,6 +112,14 @@ unfoldable pub foundAt : Bytes → List ℕ → ℕ → ℕ → Result File
 foundAt img ss end i = cond (eqb i end) (refused notFound) (done (fileOf layout35 (disk img) (imageSlot img ss i)))
 
 module _ (img : Bytes) (ss : List ℕ) where
+  pub found-none : {end k : ℕ} → k ≡ end → foundAt img ss end k ≡ refused notFound
+  unfolding foundAt
+  found-none {end} {k} e = rw (eq-eqb k end e)
+
+  pub found-some : {end k : ℕ} → (k ≡ end → ⊥) → foundAt img ss end k ≡ done (fileOf layout35 (disk img) (imageSlot img ss k))
+  unfolding foundAt
+  found-some {end} {k} e = rw (ne-eqb k end e)
+
   -- the files of the occupied slots among the n from k on
   abbrev pub filesFrom : ℕ → ℕ → List File
   filesFrom k n = map (fileOf layout35 (disk img)) (imageOccupied img ss k n)
