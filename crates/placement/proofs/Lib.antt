@@ -1,0 +1,3 @@
+pub mod BehindLaws
+pub mod TrackLaws
+pub mod OrderLaws
