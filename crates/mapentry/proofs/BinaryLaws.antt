@@ -1,17 +1,28 @@
 -- Numbers made of bits (`binary`). In order: one bit more; the size; two are equal exactly where all their bits are; zeros at the top;
 -- the three bitmap bytes of an entry are its 24 bits. Assumes nothing.
-use Prim.Native.Nat.{ℕ, zero, suc, _+_, _*_, _^_, _≤_, _<_}
+use Prim.Native.Nat.{ℕ, zero, suc, _+_, _*_, _%_, _^_, _≤_, _<_}
 use native.Mathlib.Omega.{arith}
 use native.Mathlib.Decide.{ℕ-discrete}
+use native.Mathlib.Nat.{pow-le-pow-right}
 use mathlib.Core.Path.{_≡_, refl, sym, ap, _∙_}
 use mathlib.Core.List.{map}
 use Rattle.d64spec.specs.Lists.{Bytes, byte, range, sum}
 use Rattle.d64spec.proofs.MapWriteLaws.{sum-same}
-use Rattle.mapentry.specs.MapEntry.{entryBit}
+use Rattle.mapentry.specs.MapEntry.{entryBit, binary, bitmapOf}
+use Rattle.mapentry.proofs.BitLaws.{byte-together}
+use Rattle.mapentry.proofs.SumLaws.{sum-map-last}
 use Rattle.mapentry.proofs.ShapeLaws.{EntryShape}
-use Rattle.mapentry.proofs.OnesLaws.{sum-map-last}
-use Rattle.bamlaws.proofs.BitChangeLaws.{byte-together}
-use Rattle.mapcheck.specs.MapChecks.{binary, bitmapOf}
+
+-- ---- powers of two up to a bitmap's
+
+pub power-le : (s : ℕ) → s ≤ 24 → 2 ^ s ≤ 16777216
+power-le s h = pow-le-pow-right {n = 2} (omega arith) h
+
+-- a bit up to 24 is not shifted out of 32
+pub shifted : (s : ℕ) → s ≤ 24 → 1 * 2 ^ s % 4294967296 ≡ 2 ^ s
+shifted s h = omega (arith, power-le s h)
+
+-- ---- numbers made of bits
 
 module _ (f : ℕ → ℕ) where
   pub binary-more : (n : ℕ) → binary f (suc n) ≡ binary f n + f n * 2 ^ n
