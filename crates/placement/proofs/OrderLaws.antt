@@ -6,11 +6,11 @@ use native.Mathlib.Numerals.{add-one}
 use mathlib.Core.Path.{_≡_, refl, sym, ap, _∙_}
 use mathlib.Core.Bool.{Bool, cond}
 use mathlib.Core.List.{List, [], _∷_, _++_, map}
-use lib.ListN.{length, take, drop, getD, drop-of-length-le}
+use lib.ListN.{length, drop, getD, drop-of-length-le}
 use lib.Seq.{drop-cons}
 use lib.Dec.{eqb, ltb}
 use borrow.Author.Tests.{eqb-true, lt-ltb, le-ltb}
-use Rattle.d64spec.specs.Lists.{ascending, descending, filter, join, range}
+use Rattle.d64spec.specs.Lists.{Bytes, ascending, descending, filter, join, range}
 use Rattle.d64spec.specs.Answers.{Address, address}
 use Rattle.d64spec.specs.Geometry.{layout35, tracks, sectorsOn, sectorsOfTrack, allocationTracks, allocationOrder}
 use Rattle.d64spec.proofs.SplitLaws.{filter-append}
@@ -101,12 +101,12 @@ placed-at-start {es} {wanted} {want} {at} e p =
 
 module _ {es : Entries} {at₀ : List ℕ} {want : ℕ} {at : List ℕ} {have i : ℕ} (w : Placing es at₀ want at have i) where
   -- the next track's free sectors
-  pub placing-moved : {t have′ : ℕ} {at′ : List ℕ} → i < 34 → OrderTrack i t → PlacedBehind (freeOnTrack (bitmapOf (entryOf es t)) t) at have want have′ at′ → Placing es at₀ want at′ have′ (i + 1)
-  placing-moved {t} h o p = record {
+  pub placing-moved : (e : Bytes) {t have′ : ℕ} {at′ : List ℕ} → i < 34 → OrderTrack i t → PlacedBehind (freeOnTrack (bitmapOf e) t) at have want have′ at′ → e ≡ entryOf es t → Placing es at₀ want at′ have′ (i + 1)
+  placing-moved e {t} h o p own = record {
     passed = omega arith;
     room = room-placed (w .room) p;
     size = length-placed (w .room) p ∙ w .size;
-    whole = λ r out q. w .whole r out (rw (free-from es i t h o) (placed-both (w .room) p q));
+    whole = λ r out q. w .whole r out (rw (free-from es i t h o, ← own) (placed-both (w .room) p q));
   }
 
   -- as many as are wanted are there
@@ -126,6 +126,6 @@ unfolding firstPacked
 first-placed [] p = ap (λ (o : List ℕ). getD o 0 0) (p .places)
 first-placed (x ∷ l) p = ap (λ (o : List ℕ). getD o 0 0) (p .places)
 
-pub directory-placed : (es : Entries) {r : ℕ} {out : List ℕ} → PlacedBehind (freeOnTrack (bitmapOf (entryOf es 18)) 18) (0 ∷ []) 0 1 r out → getD out 0 0 ≡ directoryPlace es
+pub directory-placed : (es : Entries) (e : Bytes) (t : ℕ) {r : ℕ} {out : List ℕ} → PlacedBehind (freeOnTrack (bitmapOf e) t) (0 ∷ []) 0 1 r out → e ≡ entryOf es 18 → t ≡ 18 → getD out 0 0 ≡ directoryPlace es
 unfolding directoryPlace
-directory-placed es p = first-placed _ p ∙ ap firstPacked (sym (free-on-track es 18))
+directory-placed es e t p own track = first-placed _ p ∙ ap firstPacked (rw (own, track) (sym (free-on-track es 18)))

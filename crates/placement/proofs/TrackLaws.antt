@@ -1,9 +1,9 @@
 -- One track's free sectors, taken by its bitmap (01, The map): what the loop over its sectors keeps.
 -- In order: the bitmap halved from sector to sector; the loop. Assumes nothing.
-use Prim.Native.Nat.{ℕ, zero, suc, _+_, _-_, _/_, _%_, _^_, _≤_, _<_}
+use Prim.Native.Nat.{ℕ, zero, suc, _+_, _-_, _*_, _/_, _%_, _^_, _≤_, _<_}
 use native.Mathlib.Omega.{arith}
 use native.Mathlib.Numerals.{add-one}
-use mathlib.Core.Path.{_≡_, refl, sym, ap, _∙_}
+use mathlib.Core.Path.{_≡_, refl, sym, _∙_}
 use mathlib.Core.List.{List, [], _∷_, map}
 use lib.ListN.{length, set}
 use lib.Pow.{shr-shr}
@@ -11,7 +11,6 @@ use borrow.Author.Tests.{ne-eqb}
 use Rattle.d64spec.specs.Lists.{filter, range}
 use Rattle.d64spec.specs.Answers.{Address, address}
 use Rattle.d64spec.specs.Geometry.{layout35, sectorsOn, sectorsOfTrack}
-use Rattle.geometry.specs.Layout.{packed}
 use Rattle.placement.specs.Placements.{PlacedBehind, TrackRoom, markedIn, freeOnTrack}
 use Rattle.placement.proofs.BehindLaws.{placed-none, placed-full, placed-one, placed-both, room-placed, length-placed}
 
@@ -53,14 +52,10 @@ pub record Taking (m t : ℕ) (at₀ : List ℕ) (have want sectors : ℕ) (at :
   pub halved : bits ≡ m / 2 ^ s
   pub whole : (r : ℕ) (out : List ℕ) → PlacedBehind (freeFrom m t s (sectors - s)) at n want r out → PlacedBehind (freeFrom m t 0 sectors) at₀ have want r out
 
-pub taking-start : (m t : ℕ) {at : List ℕ} {have want : ℕ} (sectors : ℕ) → TrackRoom at have want → Taking m t at have want sectors at m have 0
-taking-start m t {at} {have} {want} sectors room = record {
-  passed = omega arith;
-  room = room;
-  size = refl;
-  halved = omega arith;
-  whole = λ r out p. let e : sectors - 0 ≡ sectors = omega arith in rw e at p;
-}
+pub taking-start : (m t : ℕ) {at : List ℕ} {have want : ℕ} (sectors : ℕ) {n s : ℕ} → TrackRoom at have want → n ≡ have → s ≡ 0 → Taking m t at have want sectors at m n s
+taking-start m t {at} {have} {want} sectors room none first =
+    let e : sectors - 0 ≡ sectors = omega arith in
+    rw (none, first) (record { passed = omega arith; room = room; size = refl; halved = omega arith; whole = λ r out p. rw e at p })
 
 module _ {m t : ℕ} {at₀ : List ℕ} {have want sectors : ℕ} {at : List ℕ} {bits n s : ℕ} (w : Taking m t at₀ have want sectors at bits n s) where
   more : s < sectors → sectors - s ≡ suc (sectors - (s + 1))
@@ -68,9 +63,9 @@ module _ {m t : ℕ} {at₀ : List ℕ} {have want sectors : ℕ} {at : List ℕ
 
   module _ {at′ : List ℕ} {bits′ n′ : ℕ} (h : s < sectors) where
     -- the next sector is free: its place is put behind the others
-    pub taking-free : bits % 2 ≡ 1 → n < want → at′ ≡ set at n (packed (address t s)) → n′ ≡ n + 1 → bits′ ≡ bits / 2 → Taking m t at₀ have want sectors at′ bits′ n′ (s + 1)
-    taking-free bit few stored next half =
-        let one : PlacedBehind (address t s ∷ []) at n want n′ at′ = rw (stored, next) (placed-one (w .room) (address t s) few) in
+    pub taking-free : {v : ℕ} → bits % 2 ≡ 1 → n < want → at′ ≡ set at n v → v ≡ 256 * t + s → n′ ≡ n + 1 → bits′ ≡ bits / 2 → Taking m t at₀ have want sectors at′ bits′ n′ (s + 1)
+    taking-free bit few stored place next half =
+        let one : PlacedBehind (address t s ∷ []) at n want n′ at′ = rw (stored, place, next) (placed-one (w .room) (address t s) few) in
         record {
           passed = omega arith;
           room = room-placed (w .room) one;

@@ -20,8 +20,8 @@ pub record OrderTrack (i t : ℕ) : Type 0 where
   pub low : 1 ≤ t
   pub high : t ≤ 35
 
--- of these sectors as many as lack of `want`, and as there are, stand behind the `have` places of the array, the rest of it as it was; r places are
--- there then
+-- the first of these sectors stand in the array behind the `have` places that it has, up to `want` places in all; the rest of it is as it was, and it
+-- has r places then
 pub record PlacedBehind (l : List Address) (at : List ℕ) (have want r : ℕ) (at′ : List ℕ) : Type 0 where
   pub count : r ≡ have + length (take (want - have) l)
   pub places : at′ ≡ splice at have (map packed (take (want - have) l))
@@ -34,7 +34,7 @@ markedIn m r = eqb (m / 2 ^ r .sector % 2) 1
 unfoldable pub freeOnTrack : ℕ → ℕ → List Address
 freeOnTrack m t = filter (markedIn m) (sectorsOfTrack layout35 t)
 
--- the array has room for `want` places, of which there are `have`
+-- the array has room for `want` places, and has `have` of them
 pub record TrackRoom (at : List ℕ) (have want : ℕ) : Type 0 where
   pub few : have ≤ want
   pub room : want ≤ length at

@@ -1,4 +1,6 @@
 -- `placement::place_directory`: the first place of track 18, or the 0 that stood there. Assumes nothing.
+use native.Mathlib.Omega.{arith}
+use mathlib.Core.Path.{refl}
 use borrow.Author.Needs.{needs}
 use Rattle.bam.specs.Bam.{entryOf}
 use Rattle.placement.proofs.OrderLaws.{directory-placed}
@@ -19,7 +21,7 @@ array-read-result c = search needs
 
 returns : tie.Need-returns
 unfolding entryOf
-returns c = directory-placed (c .before .before .before .before .args .map .now) (c .before .take-track .ensures)
+returns c = directory-placed (c .before .before .before .before .args .map .now) _ _ (c .before .take-track .ensures) refl (omega arith)
 
 pub place-directory-spec : {M : Type 1} → statement M
 place-directory-spec =

@@ -2,7 +2,7 @@
 -- Assumes nothing.
 use Prim.Native.Nat.{_-_, min}
 use native.Mathlib.Omega.{arith}
-use mathlib.Core.Path.{_≡_}
+use mathlib.Core.Path.{_≡_, refl}
 use mathlib.Core.Logic.{⊎-elim}
 use lib.ListN.{length}
 use borrow.Author.Needs.{needs}
@@ -56,7 +56,9 @@ loop-less c = search needs
 
 loop-again : tie.Need-loop-again Inv-loop μ-loop
 unfolding entryOf
-loop-again c = let l = c .before .before .before .before .before .before .before .before in placing-moved (l .loop .inv) (omega arith) (c .before .before .before .before .before .track-at .ensures) (c .before .before .take-track .ensures)
+loop-again c =
+    let l = c .before .before .before .before .before .before .before .before in
+    placing-moved (l .loop .inv) _ (omega arith) (c .before .before .before .before .before .track-at .ensures) (c .before .before .take-track .ensures) refl
 
 same-length-2 : tie.Need-same-length-2 Inv-loop μ-loop
 same-length-2 c = search needs

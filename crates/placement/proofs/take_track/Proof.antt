@@ -55,7 +55,7 @@ add-bits-2 : tie.Need-add-bits-2 Inv-loop μ-loop
 add-bits-2 c = let e = shape (c .before .before) in omega (arith, e .small 1, e .small 2, e .small 3)
 
 loop-holds : tie.Need-loop-holds Inv-loop μ-loop
-loop-holds c = taking-start _ _ _ (c .before .before .pre)
+loop-holds c = taking-start _ _ _ (c .before .before .pre) (omega arith) (omega arith)
 
 same-length : tie.Need-same-length Inv-loop μ-loop
 same-length c = search needs
@@ -98,7 +98,7 @@ loop-less c = search needs
 loop-again : tie.Need-loop-again Inv-loop μ-loop
 loop-again c =
     let l = c .before .before .before .loop in
-    ⊎-elim (λ w. taking-free (l .inv) (omega arith) (omega (arith, w .0 .taken)) (let k = l .inv .room in omega (arith, k .few, w .1 .left)) (w .2) (omega (arith, w .3)) (omega arith))
+    ⊎-elim (λ w. taking-free (l .inv) (omega arith) (omega (arith, w .0 .taken)) (let k = l .inv .room in omega (arith, k .few, w .1 .left)) (w .2) (omega arith) (omega (arith, w .3)) (omega arith))
     (λ w. taking-used (l .inv) (omega arith) (w .0 .left) (w .1) (omega (arith, w .2)) (omega arith)) (c .if2 .came)
 
 same-length-3 : tie.Need-same-length-3 Inv-loop μ-loop
