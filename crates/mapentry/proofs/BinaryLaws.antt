@@ -1,16 +1,16 @@
--- Numbers made of bits (`binary`). In order: one bit more; the size; two are equal exactly where all their bits are; zeros at the top;
--- the three bitmap bytes of an entry are its 24 bits. Assumes nothing.
-use Prim.Native.Nat.{ℕ, zero, suc, _+_, _*_, _%_, _^_, _≤_, _<_}
+-- Numbers made of bits (`binary`). In order: powers of two; one bit more; the size; two are equal exactly where all their bits are; zeros at the
+-- top; one bit asked for, and changed; the three bitmap bytes of an entry are its 24 bits. Assumes nothing.
+use Prim.Native.Nat.{ℕ, zero, suc, _+_, _*_, _/_, _%_, _^_, _≤_, _<_}
 use native.Mathlib.Omega.{arith}
 use native.Mathlib.Decide.{ℕ-discrete}
-use native.Mathlib.Nat.{pow-le-pow-right}
+use native.Mathlib.Nat.{pow-le-pow-right, pow-succ', mul-left-comm, div-div-eq-div-mul}
 use mathlib.Core.Path.{_≡_, refl, sym, ap, _∙_}
 use mathlib.Core.List.{map}
 use Rattle.d64spec.specs.Lists.{Bytes, byte, range, sum}
 use Rattle.d64spec.proofs.MapWriteLaws.{sum-same}
 use Rattle.mapentry.specs.MapEntry.{entryBit, binary, bitmapOf}
 use Rattle.mapentry.proofs.BitLaws.{byte-together}
-use Rattle.mapentry.proofs.SumLaws.{sum-map-last}
+use Rattle.mapentry.proofs.SumLaws.{sum-map-last, sum-map-more}
 use Rattle.mapentry.proofs.ShapeLaws.{EntryShape}
 
 -- ---- powers of two up to a bitmap's
@@ -76,6 +76,42 @@ binary-past f n none (suc k) =
     let z : n + suc k ≡ suc (n + k) = omega arith in
     let top : f (n + k) * 2 ^ (n + k) ≡ 0 * 2 ^ (n + k) = ap (λ (x : ℕ). x * 2 ^ (n + k)) (none (n + k) (omega arith)) in
     ap (binary f) z ∙ binary-more f (n + k) ∙ omega (arith, binary-past f n none k)
+
+-- ---- one bit asked for, and changed
+
+doubled : (x n : ℕ) → x * 2 ^ suc n ≡ 2 * (x * 2 ^ n)
+doubled x n = ap (λ (p : ℕ). x * p) (pow-succ' 2 n) ∙ mul-left-comm x 2 (2 ^ n)
+
+-- the lowest bit, and the rest doubled
+binary-first : (f : ℕ → ℕ) (n : ℕ) → binary f (suc n) ≡ f 0 + 2 * binary (λ s. f (suc s)) n
+unfolding binary
+binary-first f n = omega (arith, rest 0 n)
+  where
+    rest : (a n : ℕ) → sum (map (λ s. f s * 2 ^ s) (range (suc a) n)) ≡ 2 * sum (map (λ s. f (suc s) * 2 ^ s) (range a n))
+    rest a zero = refl
+    rest a (suc n) = omega (arith, doubled (f (suc a)) a, rest (suc a) n)
+
+halved : (b n : ℕ) → b ≤ 1 → (x : ℕ) → (b + 2 * x) / 2 ^ suc n ≡ x / 2 ^ n
+halved b n h x =
+    let half : (b + 2 * x) / 2 ≡ x = omega arith in
+    ap (λ (p : ℕ). (b + 2 * x) / p) (pow-succ' 2 n) ∙ sym (div-div-eq-div-mul (b + 2 * x) 2 (2 ^ n)) ∙ ap (λ (y : ℕ). y / 2 ^ n) half
+
+-- THE BITS OF A NUMBER MADE OF BITS are these
+pub binary-bit : (f : ℕ → ℕ) → ((s : ℕ) → f s ≤ 1) → (n s : ℕ) → s < n → binary f n / 2 ^ s % 2 ≡ f s
+binary-bit f bit zero s h = absurd (omega arith)
+binary-bit f bit (suc n) zero h = omega (arith, binary-first f n, bit 0)
+binary-bit f bit (suc n) (suc s) h =
+    ap (λ (x : ℕ). x % 2) (ap (λ (x : ℕ). x / 2 ^ suc s) (binary-first f n) ∙ halved (f 0) s (bit 0) (binary (λ i. f (suc i)) n))
+    ∙ binary-bit (λ i. f (suc i)) (λ i. bit (suc i)) n s (omega arith)
+
+-- one bit made 1: the number is larger by that bit
+pub binary-set : (f h : ℕ → ℕ) (s : ℕ) → f s ≡ 0 → h s ≡ 1 → ((i : ℕ) → (i ≡ s → ⊥) → f i ≡ h i) → (n : ℕ) → s < n → binary h n ≡ binary f n + 2 ^ s
+unfolding binary
+binary-set f h s was is other n below =
+    let more : h s * 2 ^ s ≡ f s * 2 ^ s + 2 ^ s = rw (was, is) (omega arith) in
+    sum-map-more (λ i. f i * 2 ^ i) (λ i. h i * 2 ^ i) s (2 ^ s) more (λ i q. ap (λ (x : ℕ). x * 2 ^ i) (other i q)) 0 n (omega arith) (omega arith)
+
+-- ---- the bitmap of an entry
 
 -- the three bitmap bytes are the 24 bits
 pub bitmap-binary : (e : Bytes) → EntryShape e → bitmapOf e ≡ binary (entryBit e) 24
