@@ -137,7 +137,7 @@ module _ {img : Bytes} {es : Entries} {first at : Address} {img′ : Bytes} {es�
       size″ = ap length (step .zeroed) ∙ length-withSector img′ n (zeros 256) ∙ w .size
 
       marks″ : Expects (freeAfter true (at ∷ w .cleared) (isFree layout35 (disk img))) es″
-      marks″ = rw (step .marked) (expects-moved (isFree layout35 (disk img)) true (w .cleared) (w .marks) at (w .chain .on) used)
+      marks″ = rw (step .marked) (expects-moved true (w .cleared) (isFree layout35 (disk img)) (w .marks) at (w .chain .on) used)
 
       pub clearing-moved : Follows img at (linkAt img′ n) → byte img′ (256 * n) < 256 → byte img′ (256 * n + 1) < 256 → Clearing img first (linkAt img′ n) img″ es″ k′
       clearing-moved f t s = record {

@@ -73,7 +73,7 @@ add-count c =
 -- the sector cleared, and its mark moved
 given-back : (c : tie.After-clear-sector Inv-loop μ-loop)
     → Freed (c .before .before .before .before .before .before .before .loop .img) (c .before .before .before .before .before .before .before .loop .map) (address (c .before .before .before .before .before .before .before .loop .track) (c .before .before .before .before .before .before .before .loop .sector)) (c .before .before .before .before .before .before .number-by .result) (c .clear-sector .last .0) (c .before .before .before .before .move-mark .last .0)
-given-back c = freed (c .before .before .before .before .before .before .before .loop .inv .sector) (c .before .before .before .before .move-mark .ensures) refl refl (c .clear-sector .ensures) refl
+given-back c = freed (c .before .before .before .before .before .before .before .loop .inv .sector) (c .before .before .before .before .move-mark .ensures) refl refl (c .clear-sector .ensures) (omega arith)
 
 returns : tie.Need-returns Inv-loop μ-loop
 returns c =
