@@ -7,6 +7,7 @@ ghost use mathlib.Core.List.{[]};
 ghost use Rattle.d64spec.specs.Geometry.{layout35};
 ghost use Rattle.d64spec.specs.Call.{store, perform};
 ghost use Rattle.answers.specs.Faults.{replyOf};
+ghost use Rattle.storing.specs.Decisions.{StoreChecked, StoreNew, StorePlaced};
 use answers::Fault;
 use answers::Report;
 use answers::Verdict;
@@ -22,7 +23,10 @@ fn store_placed(
     place: EntryPlace,
     last: u8,
     map: &[[u8; 4]; 35],
-) -> Report {
+) -> Report
+    requires { ⌜ StorePlaced (now img) (now name) kind place last (now map) ⌝ }
+    ensures { λ r. ⌜ replyOf r (now (img .exit)) [] ≡ perform layout35 (now (img .entry)) (store (now (name .entry)) kind (now (content .entry))) ⌝ }
+{
     // no disk has room for more, and the number of sectors is then not asked for
     if 168656 < content.len() {
         return answers::refuse(Fault::DiskFull);
@@ -48,7 +52,10 @@ fn store_new(
     content: &[u8],
     sectors: &[u8; 18],
     count: usize,
-) -> Report {
+) -> Report
+    requires { ⌜ StoreNew (now img) (now name) kind (now sectors) count ⌝ }
+    ensures { λ r. ⌜ replyOf r (now (img .exit)) [] ≡ perform layout35 (now (img .entry)) (store (now (name .entry)) kind (now (content .entry))) ⌝ }
+{
     let map = mapsector::load_map(&img[91392..91648]);
     let room = room::entry_room(&img[91392..96256], sectors, 8 * count, &map);
     match room {
@@ -65,7 +72,10 @@ fn store_checked(
     content: &[u8],
     sectors: &[u8; 18],
     count: usize,
-) -> Report {
+) -> Report
+    requires { ⌜ StoreChecked (now img) (now name) kind (now sectors) count ⌝ }
+    ensures { λ r. ⌜ replyOf r (now (img .exit)) [] ≡ perform layout35 (now (img .entry)) (store (now (name .entry)) kind (now (content .entry))) ⌝ }
+{
     if !mapsector::may_write(&img[91392..91648]) {
         return answers::refuse(Fault::WriteForbidden);
     }

@@ -1,4 +1,7 @@
 // Room for a file: the sectors that its data need, and where its entry goes (01, Store).
+ghost use mathlib.Core.Path.{_≡_};
+ghost use Prim.Native.Nat.{_≤_};
+ghost use Rattle.storing.specs.Decisions.{Needed, roomFor};
 
 // Where the entry goes: slot `index` of 18/sector, which is new to the directory where it is `grown`.
 pub(crate) struct EntryPlace {
@@ -14,7 +17,10 @@ pub(crate) enum Room {
 }
 
 // The sectors that so many bytes need: 1 for none, else 254 bytes in each.
-pub(crate) fn sectors_needed(length: usize) -> usize {
+pub(crate) fn sectors_needed(length: usize) -> usize
+    requires { ⌜ length ≤ 168656 ⌝ }
+    ensures { λ r. ⌜ Needed length r ⌝ }
+{
     if length == 0 {
         return 1;
     }
@@ -27,7 +33,10 @@ pub(crate) fn entry_room(
     sectors: &[u8; 18],
     end: usize,
     map: &[[u8; 4]; 35],
-) -> Room {
+) -> Room
+    requires { ⌜ end ≤ 144 ⌝ }
+    ensures { λ r. ⌜ r ≡ roomFor (now (track18 .entry)) (now (sectors .entry)) end (now (map .entry)) ⌝ }
+{
     let k = finding::find_empty(track18, sectors, end);
     if k < end {
         let i = k / 8;

@@ -1,0 +1,210 @@
+-- Room for a file on a checked image (01, Store; Answer numbers: 14, 15): what the code finds is what the definitions find.
+-- In order: the sectors needed; the directory's last sector; the map's marks; a place for the entry; sectors for the content.
+use Prim.Native.Nat.{ℕ, zero, suc, _+_, _*_, _-_, _/_, _%_, _≤_, _<_}
+use native.Mathlib.Omega.{arith}
+use mathlib.Core.Path.{_≡_, refl, sym, ap, _∙_}
+use mathlib.Core.Bool.{Bool, true, false, cond}
+use mathlib.Core.List.{List, [], _∷_, map}
+use lib.ListN.{length, take, drop, getD, length-take, length-drop}
+use lib.Dec.{eqb, ltb}
+use borrow.Author.Tests.{eq-eqb, ne-eqb, eqb-true, eqb-false, lt-ltb, le-ltb, ltb-true, ltb-false}
+use Rattle.d64spec.specs.Lists.{Bytes, byte}
+use Rattle.d64spec.specs.Answers.{Address, address, refused, done, directoryFull, first}
+use Rattle.d64spec.specs.Geometry.{layout35, sectorNumber, mapAddress, directoryStart, onDisk}
+use Rattle.d64spec.specs.Image.{Disk, disk}
+use Rattle.d64spec.specs.Chain.{follow}
+use Rattle.d64spec.specs.Directory.{Slot, isEmpty, slotIn, directorySectors}
+use Rattle.d64spec.specs.Owner.{isFree, freeForFiles, freeForDirectory}
+use Rattle.d64spec.specs.Accepted.{Accepted}
+use Rattle.d64spec.specs.Store.{inEmptySlot, inNewSector, emptySlots, slotPlaceFor, sectorsNeeded, placement, lastOf}
+use Rattle.d64spec.proofs.OtherBytes.{byte-small}
+use Rattle.d64spec.proofs.RunTheorem.{sectors35}
+use Rattle.geometry.specs.Layout.{unpacked}
+use Rattle.directory.specs.Directories.{sectorsOf, slotAt, slotBytes}
+use Rattle.directory.proofs.Track18Laws.{number-18}
+use Rattle.diskcheck.specs.SlotChecks.{imageSlot}
+use Rattle.diskcheck.proofs.TrackLaws.{map-lent}
+use Rattle.finding.specs.FileSlots.{slotEmpty, CheckedSlots}
+use Rattle.finding.proofs.CheckedSlotLaws.{lentTrack18}
+use Rattle.finding.proofs.EmptyLaws.{empty-none, empty-some}
+use Rattle.mapentry.specs.MapEntry.{Entries}
+use Rattle.mapsector.specs.MapSector.{mapEntries}
+use Rattle.bam.specs.Bam.{markedFree}
+use Rattle.bamlaws.proofs.FollowLaws.{expects-loaded, markedFree-expected}
+use Rattle.placement.specs.Placements.{Placed, firstPlaces, directoryPlace}
+use Rattle.placement.proofs.PlaceLaws.{places-first, places-taken, directory-none, directory-some, few-places}
+use Rattle.storing.specs.declared.room.Room.the-variants.{At, Full}
+use Rattle.storing.specs.Plans.{PlaceReady}
+use Rattle.storing.specs.Decisions.{Needed, slotPlace, newPlace, roomAt, roomFor, RoomIs}
+
+-- ---- the sectors needed
+
+pub needed-none : {size : ℕ} → size ≡ 0 → Needed size 1
+unfolding sectorsNeeded
+needed-none {size} e = record { is = rw (eq-eqb size 0 e); some = omega arith; few = omega arith }
+
+pub needed-some : {size : ℕ} → (size ≡ 0 → ⊥) → size ≤ 168656 → Needed size ((size + 253) / 254)
+unfolding sectorsNeeded
+needed-some {size} e h = record { is = rw (ne-eqb size 0 e); some = omega arith; few = omega arith }
+
+-- more bytes than 664 sectors hold
+needed-many : {size : ℕ} → 168656 < size → 664 < sectorsNeeded size
+unfolding sectorsNeeded
+needed-many {size} h = rw (ne-eqb size 0 (λ e. omega arith)) (omega arith)
+
+-- ---- the directory's sectors
+
+lastOf-sectors : (r : Address) (ss : List ℕ) (n : ℕ) → n < length ss → lastOf r (sectorsOf ss (suc n)) ≡ address 18 (getD ss n 0)
+unfolding lastOf
+lastOf-sectors r [] n h = absurd (omega arith)
+lastOf-sectors r (s ∷ ss) zero h = refl
+lastOf-sectors r (s ∷ ss) (suc n) h = lastOf-sectors (address 18 s) ss n (omega arith)
+
+directory-length : (img : Bytes) → 1 ≤ length (directorySectors layout35 (disk img))
+unfolding directorySectors
+directory-length img = omega arith
+
+module _ (img : Bytes) (ss : List ℕ) (count : ℕ) (sectors : sectorsOf ss count ≡ directorySectors layout35 (disk img)) where
+  -- the directory starts at 18/1: there is a sector of it
+  pub count-some : 1 ≤ count
+  count-some = go count sectors
+    where
+      go : (n : ℕ) → sectorsOf ss n ≡ directorySectors layout35 (disk img) → 1 ≤ n
+      go zero e = let z : 0 ≡ length (directorySectors layout35 (disk img)) = ap length e in absurd (omega (arith, directory-length img))
+      go (suc n) e = omega arith
+
+  pub last-sector : count ≤ length ss → address 18 (getD ss (count - 1) 0) ≡ lastOf directoryStart (directorySectors layout35 (disk img))
+  last-sector h =
+      let e : count ≡ suc (count - 1) = omega (arith, count-some) in
+      sym (lastOf-sectors directoryStart ss (count - 1) (omega (arith, count-some)))
+      ∙ ap (λ (n : ℕ). lastOf directoryStart (sectorsOf ss n)) (sym e)
+      ∙ ap (lastOf directoryStart) sectors
+
+-- ---- the map's marks
+
+-- the map by value, as the code loads it
+abbrev pub loadedMap : Bytes → Entries
+loadedMap img = mapEntries (take 256 (drop 91392 img))
+
+map-full : (img : Bytes) → length img ≡ 174848 → length (disk img (sectorNumber layout35 mapAddress)) ≡ 256
+unfolding disk
+map-full img size = rw (number-18 0) (simp (length-take, length-drop) (omega arith))
+
+module _ {img : Bytes} (accepted : Accepted layout35 img) (bytes : (i : ℕ) → byte img i < 256) where
+  image-size : length img ≡ 174848
+  image-size = omega (arith, accepted .size, sectors35)
+
+  -- THE MAP OF AN ACCEPTED IMAGE marks exactly the free sectors
+  marks-free : (r : Address) → onDisk layout35 r ≡ true → markedFree (mapEntries (disk img (sectorNumber layout35 mapAddress))) r ≡ isFree layout35 (disk img) r
+  marks-free = markedFree-expected (expects-loaded (disk img) (accepted .content) (map-full img image-size) (byte-small img bytes (sectorNumber layout35 mapAddress)))
+
+-- ---- a place for the entry
+
+-- where the definitions put the entry, by the empty slots and the free sectors of track 18
+module _ (d : Disk) where
+  place-slot : (s : Slot) (l : List Slot) → emptySlots layout35 d ≡ s ∷ l → slotPlaceFor layout35 d ≡ done (inEmptySlot s)
+  unfolding slotPlaceFor
+  place-slot s l e = rw (e, slotPlaceFor)
+
+  place-none : emptySlots layout35 d ≡ [] → freeForDirectory layout35 d ≡ [] → slotPlaceFor layout35 d ≡ refused directoryFull
+  unfolding slotPlaceFor first
+  place-none e f = rw (e, f, slotPlaceFor)
+
+  place-new : emptySlots layout35 d ≡ [] → (r : Address) (l : List Address) → freeForDirectory layout35 d ≡ r ∷ l → slotPlaceFor layout35 d ≡ done (inNewSector r)
+  unfolding slotPlaceFor first
+  place-new e r l f = rw (e, f, slotPlaceFor)
+
+-- the search for an empty slot ends at the end of the slots
+empty-within : (b : Bytes) (ss : List ℕ) (k n : ℕ) → slotEmpty b ss k n ≤ k + n
+empty-within b ss k zero = omega arith
+empty-within b ss k (suc n) = go (isEmpty (slotBytes b ss k)) (empty-within b ss (suc k) n)
+  where
+    go : (t : Bool) → slotEmpty b ss (suc k) n ≤ suc k + n → cond t k (slotEmpty b ss (suc k) n) ≤ k + suc n
+    go true h = omega arith
+    go false h = omega arith
+
+-- what the code returns, by its tests
+module _ (b : Bytes) (ss : List ℕ) (end : ℕ) (es : Entries) {k : ℕ} (is : k ≡ slotEmpty b ss 0 end) where
+  pub room-slot : k < end → At (slotPlace ss k) ≡ roomFor b ss end es
+  unfolding roomFor roomAt
+  room-slot h = rw (← is) (rw (lt-ltb k end h))
+
+  module _ (full : end ≤ k) {n : ℕ} (place : n ≡ directoryPlace es) where
+    pub room-none : n ≡ 0 → Full ≡ roomFor b ss end es
+    unfolding roomFor roomAt
+    room-none e = rw (← is, ← place) (rw (le-ltb k end full, eq-eqb n 0 e))
+
+    pub room-new : (n ≡ 0 → ⊥) → At (newPlace n) ≡ roomFor b ss end es
+    unfolding roomFor roomAt
+    room-new e = rw (← is, ← place) (rw (le-ltb k end full, ne-eqb n 0 e))
+
+module _ {img : Bytes} {ss : List ℕ} (count : ℕ) (there : CheckedSlots img ss (8 * count)) (sectors : sectorsOf ss count ≡ directorySectors layout35 (disk img))
+    (bytes : (i : ℕ) → byte img i < 256) where
+  -- an empty slot
+  slot-ready : (k : ℕ) → k ≡ slotEmpty (lentTrack18 img) ss 0 (8 * count) → k < 8 * count → PlaceReady img (slotPlace ss k)
+  unfolding slotAt slotIn
+  slot-ready k is h =
+      let e = empty-some count there sectors is h in
+      record { place = inEmptySlot (imageSlot img ss k); found = place-slot (disk img) (imageSlot img ss k) (e .0) (e .1); is = (refl, refl, refl) }
+
+  -- no empty slot: a new sector, or none
+  module _ (none : emptySlots layout35 (disk img) ≡ []) where
+    abbrev es : Entries
+    es = mapEntries (disk img (sectorNumber layout35 mapAddress))
+
+    sector-none : directoryPlace es ≡ 0 → slotPlaceFor layout35 (disk img) ≡ refused directoryFull
+    sector-none e = place-none (disk img) none (directory-none es (disk img) (marks-free (there .accepted) bytes) e)
+
+    sector-ready : (directoryPlace es ≡ 0 → ⊥) → PlaceReady img (newPlace (directoryPlace es))
+    sector-ready e =
+        let f = directory-some es (disk img) (marks-free (there .accepted) bytes) e in
+        let z : f .0 ≡ directoryPlace es % 256 = omega (arith, f .3, f .4) in
+        record { place = inNewSector (address 18 (f .0)); found = place-new (disk img) none (address 18 (f .0)) (f .1) (f .2); is = (refl, ap (address 18) z, refl) }
+
+  room-decided : (k n : ℕ) → k ≡ slotEmpty (lentTrack18 img) ss 0 (8 * count) → n ≡ directoryPlace (mapEntries (disk img (sectorNumber layout35 mapAddress)))
+      → RoomIs img (roomAt ss (8 * count) k n)
+  unfolding roomAt
+  room-decided k n is place = slot (ltb k (8 * count)) refl
+    where
+      sector : (t : Bool) → eqb n 0 ≡ t → emptySlots layout35 (disk img) ≡ [] → RoomIs img (cond t Full (At (newPlace n)))
+      sector true e none = sector-none none (sym place ∙ eqb-true n 0 e)
+      sector false e none = rw place (sector-ready none (λ z. eqb-false n 0 e (place ∙ z)))
+
+      slot : (t : Bool) → ltb k (8 * count) ≡ t → RoomIs img (cond t (At (slotPlace ss k)) (cond (eqb n 0) Full (At (newPlace n))))
+      slot true e = slot-ready k is (ltb-true k (8 * count) e)
+      slot false e = sector (eqb n 0) refl (empty-none count there sectors is (omega (arith, is, empty-within (lentTrack18 img) ss 0 (8 * count), ltb-false k (8 * count) e)))
+
+  -- ROOM FOR THE ENTRY is where the definitions have it
+  pub room-is : RoomIs img (roomFor (lentTrack18 img) ss (8 * count) (loadedMap img))
+  unfolding roomFor
+  room-is = rw (map-lent img) (room-decided (slotEmpty (lentTrack18 img) ss 0 (8 * count)) (directoryPlace (mapEntries (disk img (sectorNumber layout35 mapAddress)))) refl refl)
+
+-- ---- sectors for the content
+
+module _ {img : Bytes} (accepted : Accepted layout35 img) (bytes : (i : ℕ) → byte img i < 256) {es : Entries}
+    (entries : es ≡ mapEntries (disk img (sectorNumber layout35 mapAddress))) where
+  marks-of : (r : Address) → onDisk layout35 r ≡ true → markedFree es r ≡ isFree layout35 (disk img) r
+  marks-of = rw entries (marks-free accepted bytes)
+
+  module _ {size n r : ℕ} {at at′ : List ℕ} (need : Needed size n) (room : n ≤ length at) (placed : Placed es n at r at′) where
+    free-count : r ≡ length (placement layout35 (disk img) n)
+    free-count = placed .count ∙ ap length (places-first es (disk img) marks-of n (length at) room)
+
+    -- fewer sectors than are needed
+    pub sectors-few : r < n → length (freeForFiles layout35 (disk img)) < sectorsNeeded size
+    unfolding placement
+    sectors-few h = omega (arith, free-count, length-take n (freeForFiles layout35 (disk img)), need .is)
+
+    -- as many as are needed
+    pub sectors-enough : n ≤ r → sectorsNeeded size ≤ length (freeForFiles layout35 (disk img))
+    unfolding placement
+    sectors-enough h = omega (arith, free-count, length-take n (freeForFiles layout35 (disk img)), need .is)
+
+    pub sectors-taken : n ≤ r → map unpacked (take n at′) ≡ placement layout35 (disk img) (sectorsNeeded size)
+    sectors-taken h =
+        let e : n ≡ sectorsNeeded size = need .is in
+        places-taken es (disk img) marks-of placed room (omega (arith, e, sectors-enough h)) ∙ ap (placement layout35 (disk img)) e
+
+-- more bytes than any disk has room for
+pub sectors-never : (img : Bytes) {size : ℕ} → 168656 < size → length (freeForFiles layout35 (disk img)) < sectorsNeeded size
+sectors-never img h = omega (arith, few-places (disk img), needed-many h)
