@@ -26,7 +26,7 @@ use Rattle.answers.specs.Faults.{faultOf, verdictOf, answerTo, replyOf}
 
 -- ---- the size and the check
 
-size-true : (img : Bytes) → length img ≡ 174848 → rightSize layout35 img ≡ true
+pub size-true : (img : Bytes) → length img ≡ 174848 → rightSize layout35 img ≡ true
 unfolding rightSize
 size-true img h = eq-eqb (length img) (256 * total layout35) (omega (arith, sectors35))
 

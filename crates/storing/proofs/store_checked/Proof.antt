@@ -1,82 +1,62 @@
+-- `storing::store_checked` meets its contract. In order: the DOS version; the name; the rest.
+use native.Mathlib.Omega.{arith}
+use borrow.Author.Tests.{not-true, not-false}
+use Rattle.storing.proofs.DecisionLaws.{forbidden-reply, exists-reply, new-store}
 use borrow.Author.Needs.{needs}
 use Rattle.storing.proofs.store_checked.Statement.{statement}
 use Rattle.storing.proofs.store_checked.Tie as tie
-use Rattle.storing.proofs.store_checked.Reads as reads
-use Rattle.storing.proofs.store_checked.Lts as lts
-use Rattle.answers.proofs.refuse.Reads as refuse-reads
-use Rattle.finding.proofs.find_named.Reads as find-named-reads
-use Rattle.mapsector.proofs.may_write.Reads as may-write-reads
-use Rattle.storing.proofs.store_new.Reads as store-new-reads
 
--- src/lib.rt:79:30
 sub-may-write : tie.Need-sub-may-write
 sub-may-write c = search needs
 
--- src/lib.rt:79:30
 part-may-write-start : tie.Need-part-may-write-start
 part-may-write-start c = search needs
 
--- src/lib.rt:79:30
 part-may-write-end : tie.Need-part-may-write-end
 part-may-write-end c = search needs
 
--- src/lib.rt:79:9
 may-write-requires : tie.Need-may-write-requires
 may-write-requires c κs = search needs
 
--- src/lib.rt:80:9
 refuse-requires : tie.Need-refuse-requires
 refuse-requires c κs = search needs
 
--- src/lib.rt:80:9
 same-length : tie.Need-same-length
 same-length c = search needs
 
--- src/lib.rt:80:9
 returns : tie.Need-returns
-returns c = ?
+returns c = forbidden-reply (c .before .before .before .before .before .before .before .before .pre) (c .before .before .before .before .before .before .before .before .args .content .now) (c .before .before .may-write .ensures) (not-true _ (c .before .if1 .taken)) (c .refuse .ensures)
 
--- src/lib.rt:82:15
 mul-end : tie.Need-mul-end
 mul-end c = search needs
 
--- src/lib.rt:83:28
 sub-find-named : tie.Need-sub-find-named
 sub-find-named c = search needs
 
--- src/lib.rt:83:28
 part-find-named-start : tie.Need-part-find-named-start
 part-find-named-start c = search needs
 
--- src/lib.rt:83:28
 part-find-named-end : tie.Need-part-find-named-end
 part-find-named-end c = search needs
 
--- src/lib.rt:83:8
 find-named-requires : tie.Need-find-named-requires
 find-named-requires c κs = search needs
 
--- src/lib.rt:84:9
 refuse-requires-2 : tie.Need-refuse-requires-2
 refuse-requires-2 c κs = search needs
 
--- src/lib.rt:84:9
 same-length-2 : tie.Need-same-length-2
 same-length-2 c = search needs
 
--- src/lib.rt:84:9
 returns-2 : tie.Need-returns-2
-returns-2 c = ?
+returns-2 c = exists-reply (c .before .before .before .before .before .before .before .before .before .before .before .before .pre) (c .before .before .before .before .before .before .may-write .ensures) (not-false _ (c .before .before .before .before .before .if1 .left)) (c .before .before .find-named .ensures) (c .before .before .before .before .before .before .before .before .before .before .before .before .args .content .now) (c .before .if2 .taken) (c .refuse2 .ensures)
 
--- src/lib.rt:86:5
 store-new-requires : tie.Need-store-new-requires
-store-new-requires c κs = ?
+store-new-requires c κs = new-store (c .before .before .before .before .before .before .before .before .before .before .before .before .pre) (c .before .before .before .before .before .before .may-write .ensures) (not-false _ (c .before .before .before .before .before .if1 .left)) (c .before .before .find-named .ensures) (c .before .if2 .left)
 
--- src/lib.rt:68:1
 same-length-3 : tie.Need-same-length-3
 same-length-3 c = search needs
 
--- src/lib.rt:68:1
 returns-3 : tie.Need-returns-3
 returns-3 c = search needs
 

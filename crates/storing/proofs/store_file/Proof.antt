@@ -1,83 +1,81 @@
+-- `storing::store_file` meets its contract. In order: the size; the name and the kind asked for; the check; the store on a checked image.
+use native.Mathlib.Omega.{arith}
+use mathlib.Core.Path.{_≡_, sym, _∙_}
+use mathlib.Core.Bool.{true}
+use borrow.Author.Tests.{not-true, not-false}
+use Rattle.d64spec.specs.Reply.{validNameArgument, validKind}
+use Rattle.d64spec.proofs.EntryLaws.{kind-small}
+use Rattle.answers.specs.declared.Fault.the-variants.{WrongSize, BadNameArgument, BadKindArgument}
+use Rattle.answers.specs.Faults.{faultOf}
+use Rattle.diskcheck.proofs.CheckedLaws.{refused-image}
+use Rattle.storing.proofs.ReplyLaws.{store-size, store-name, store-kind, store-fault, store-refused}
+use Rattle.storing.proofs.DecisionLaws.{checked-store}
 use borrow.Author.Needs.{needs}
 use Rattle.storing.proofs.store_file.Statement.{statement}
 use Rattle.storing.proofs.store_file.Tie as tie
-use Rattle.storing.proofs.store_file.Reads as reads
-use Rattle.storing.proofs.store_file.Lts as lts
-use Rattle.answers.proofs.refuse.Reads as refuse-reads
-use Rattle.diskcheck.proofs.check_image.Reads as check-image-reads
-use Rattle.entry.proofs.valid_kind.Reads as valid-kind-reads
-use Rattle.names.proofs.valid_name_argument.Reads as valid-name-argument-reads
-use Rattle.storing.proofs.store_checked.Reads as store-checked-reads
 
--- src/lib.rt:96:9
 refuse-requires : tie.Need-refuse-requires
 refuse-requires c κs = search needs
 
--- src/lib.rt:96:9
 returns : tie.Need-returns
-returns c = ?
+unfolding faultOf
+returns c = store-refused (c .before .before .before .before .before .args .img .now) (c .before .before .before .before .before .args .name .now) (c .before .before .before .before .before .args .kind) (c .before .before .before .before .before .args .content .now) WrongSize (c .refuse .ensures) (store-size (c .before .before .before .before .before .args .img .now) (c .before .before .before .before .before .args .name .now) (c .before .before .before .before .before .args .kind) (c .before .before .before .before .before .args .content .now) (λ size. c .before .if1 .taken (omega arith)))
 
--- src/lib.rt:98:9
 valid-name-argument-requires : tie.Need-valid-name-argument-requires
 valid-name-argument-requires c κs = search needs
 
--- src/lib.rt:99:9
 refuse-requires-2 : tie.Need-refuse-requires-2
 refuse-requires-2 c κs = search needs
 
--- src/lib.rt:99:9
 returns-2 : tie.Need-returns-2
-returns-2 c = ?
+unfolding faultOf
+returns-2 c = store-refused (c .before .before .before .before .before .before .before .args .img .now) (c .before .before .before .before .before .before .before .args .name .now) (c .before .before .before .before .before .before .before .args .kind) (c .before .before .before .before .before .before .before .args .content .now) BadNameArgument (c .refuse2 .ensures) (store-name (c .before .before .before .before .before .before .before .args .img .now) (c .before .before .before .before .before .before .before .args .name .now) (c .before .before .before .before .before .before .before .args .kind) (c .before .before .before .before .before .before .before .args .content .now) (omega arith) (sym (c .before .before .valid-name-argument .ensures) ∙ not-true _ (c .before .if2 .taken)))
 
--- src/lib.rt:101:9
+-- the name asked for
+asked : (c : tie.Else2) → validNameArgument (c .before .before .before .before .before .before .args .name .now) ≡ true
+asked c = sym (c .before .valid-name-argument .ensures) ∙ not-false _ (c .if2 .left)
+
 valid-kind-requires : tie.Need-valid-kind-requires
 valid-kind-requires c κs = search needs
 
--- src/lib.rt:102:9
 refuse-requires-3 : tie.Need-refuse-requires-3
 refuse-requires-3 c κs = search needs
 
--- src/lib.rt:102:9
 returns-3 : tie.Need-returns-3
-returns-3 c = ?
+unfolding faultOf
+returns-3 c = store-refused (c .before .before .before .before .before .before .before .before .before .args .img .now) (c .before .before .before .before .before .before .before .before .before .args .name .now) (c .before .before .before .before .before .before .before .before .before .args .kind) (c .before .before .before .before .before .before .before .before .before .args .content .now) BadKindArgument (c .refuse3 .ensures) (store-kind (c .before .before .before .before .before .before .before .before .before .args .img .now) (c .before .before .before .before .before .before .before .before .before .args .name .now) (c .before .before .before .before .before .before .before .before .before .args .kind) (c .before .before .before .before .before .before .before .before .before .args .content .now) (omega arith) (asked (c .before .before .before)) (sym (c .before .before .valid-kind .ensures) ∙ not-true _ (c .before .if3 .taken)))
 
--- src/lib.rt:104:19
+-- the kind asked for
+kind-asked : (c : tie.Else3) → validKind (c .before .before .before .before .before .before .before .before .args .kind) ≡ true
+kind-asked c = sym (c .before .valid-kind .ensures) ∙ not-false _ (c .if3 .left)
+
 check-image-requires : tie.Need-check-image-requires
 check-image-requires c κs = search needs
 
--- src/lib.rt:107:26
 enum-known-verdict : tie.Need-enum-known-verdict
 enum-known-verdict c = search needs
 
--- src/lib.rt:107:36
 refuse-requires-4 : tie.Need-refuse-requires-4
 refuse-requires-4 c κs = search needs
 
--- src/lib.rt:109:13
 enum-told : tie.Need-enum-told
 enum-told c = search needs
 
--- src/lib.rt:111:13
 cast-store-checked : tie.Need-cast-store-checked
-cast-store-checked c = ?
+cast-store-checked c = omega (arith, kind-small (c .before .before .before .before .before .before .before .before .before .before .before .before .before .args .kind) (kind-asked (c .before .before .before .before .before)) .1)
 
--- src/lib.rt:108:26
 store-checked-requires : tie.Need-store-checked-requires
-store-checked-requires c κs = ?
+store-checked-requires c κs = checked-store (c .before .before .before .before .before .before .before .before .before .before .before .before .before .before .before .args .name .now) (c .before .before .before .before .before .before .before .before .before .before .before .before .before .before .before .args .kind) (c .before .before .before .before .before .check-image .ensures) (c .before .before .before .enum-told .given .1) (λ i. omega (arith, c .before .before .before .before .before .before .before .before .before .before .before .before .before .before .slice-known .given i)) (asked (c .before .before .before .before .before .before .before .before .before)) (kind-asked (c .before .before .before .before .before .before .before))
 
--- src/lib.rt:92:1
 same-length : tie.Need-same-length
 same-length c = search needs
 
--- src/lib.rt:92:1
 returns-4 : tie.Need-returns-4
-returns-4 c = ?
+returns-4 c = store-refused (c .before .before .before .before .before .before .before .before .before .before .before .before .before .before .args .img .now) (c .before .before .before .before .before .before .before .before .before .before .before .before .before .before .args .name .now) (c .before .before .before .before .before .before .before .before .before .before .before .before .before .before .args .kind) (c .before .before .before .before .before .before .before .before .before .before .before .before .before .before .args .content .now) _ (c .refuse4 .ensures) (store-fault (c .before .before .before .before .before .before .before .before .before .before .before .before .before .before .args .img .now) (c .before .before .before .before .before .before .before .before .before .before .before .before .before .before .args .name .now) (c .before .before .before .before .before .before .before .before .before .before .before .before .before .before .args .kind) (c .before .before .before .before .before .before .before .before .before .before .before .before .before .before .args .content .now) (omega arith) (asked (c .before .before .before .before .before .before .before .before)) (kind-asked (c .before .before .before .before .before .before)) (refused-image (c .before .before .before .before .check-image .ensures) _ (c .before .before .verdict .given .1)))
 
--- src/lib.rt:92:1
 same-length-2 : tie.Need-same-length-2
 same-length-2 c = search needs
 
--- src/lib.rt:92:1
 returns-5 : tie.Need-returns-5
 returns-5 c = search needs
 
