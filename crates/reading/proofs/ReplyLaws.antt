@@ -26,7 +26,7 @@ use Rattle.answers.specs.Faults.{faultOf, verdictOf, answerTo, replyOf}
 use Rattle.reading.specs.declared.copying.Copied.{Copied}
 use Rattle.reading.specs.declared.FileInformation.{FileInformation}
 use Rattle.reading.specs.declared.Told.{Told}
-use Rattle.reading.specs.FileSlots.{firstOf}
+use Rattle.reading.specs.FileEntries.{firstOf}
 use Rattle.reading.specs.ChainReads.{sectorsFrom, dataFrom, ChainCopied}
 use Rattle.reading.specs.Replies.{readFrom, toldOf, nothingTold, informationOf, tellReplyOf}
 

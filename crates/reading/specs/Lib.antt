@@ -1,3 +1,3 @@
 pub mod ChainReads
-pub mod FileSlots
+pub mod FileEntries
 pub mod Replies
