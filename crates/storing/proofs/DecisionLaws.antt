@@ -6,8 +6,9 @@ use mathlib.Core.Path.{_≡_, refl, sym, ap, subst, _∙_}
 use mathlib.Core.Bool.{Bool, true, false}
 use mathlib.Core.List.{List, [], _∷_, map}
 use lib.ListN.{length, take, drop, getD}
+use borrow.Author.Tests.{eqb-true}
 use Rattle.d64spec.specs.Lists.{Bytes, byte}
-use Rattle.d64spec.specs.Answers.{Fault, refused, done, notFound, directoryFull, first}
+use Rattle.d64spec.specs.Answers.{refused, done, directoryFull}
 use Rattle.d64spec.specs.Geometry.{layout35}
 use Rattle.d64spec.specs.Image.{disk}
 use Rattle.d64spec.specs.Directory.{File, files}
@@ -17,7 +18,6 @@ use Rattle.d64spec.specs.Check.{checkImage}
 use Rattle.d64spec.specs.Reply.{validNameArgument, validKind, writable, filesNamed}
 use Rattle.d64spec.specs.Store.{sectorsNeeded, slotPlaceFor}
 use Rattle.d64spec.specs.Call.{store, perform}
-use Rattle.d64spec.proofs.ResultLaws.{refused≢done}
 use Rattle.d64spec.proofs.CheckLaws.{contents, disk-complete}
 use Rattle.d64spec.proofs.RunTheorem.{valid35, sectors35}
 use Rattle.answers.specs.declared.Fault.the-variants.{WriteForbidden, NameExists, DirectoryFull, DiskFull}
@@ -32,7 +32,7 @@ use Rattle.diskcheck.specs.ImageChecks.{ImageChecked}
 use Rattle.diskcheck.proofs.TrackLaws.{map-lent}
 use Rattle.diskcheck.proofs.CheckedLaws.{fine-image}
 use Rattle.finding.specs.FileSlots.{slotNamed}
-use Rattle.finding.proofs.CheckedSlotLaws.{lentTrack18, checked-slots, by-name, found-none, found-some}
+use Rattle.finding.proofs.CheckedSlotLaws.{lentTrack18, checked-slots, name-free, name-used}
 use Rattle.placement.specs.Placements.{Placed}
 use Rattle.storing.specs.declared.room.EntryPlace.{EntryPlace}
 use Rattle.storing.specs.declared.room.Room.{Room}
@@ -65,17 +65,6 @@ writable-lent img = rw (map-lent img)
 
 -- ---- the name
 
--- a list that has no first element, and one that has
-first-none : {A : Type 0} (f g : Fault) (l : List A) → first f l ≡ refused g → length l ≡ 0
-unfolding first
-first-none f g [] e = omega arith
-first-none f g (x ∷ l) e = refused≢done g x (sym e)
-
-first-some : {A : Type 0} (f : Fault) (x : A) (l : List A) → first f l ≡ done x → length l ≡ 0 → ⊥
-unfolding first
-first-some f x [] e h = refused≢done f x e
-first-some f x (y ∷ l) e h = omega arith
-
 module _ {img name : Bytes} {kind : ℕ} {ss : List ℕ} {count : ℕ} (c : StoreChecked img name kind ss count) where
   -- A DOS VERSION THAT FORBIDS WRITING
   pub forbidden-reply : (bs : Bytes) {may : Bool} {rep : Report} → may ≡ allowsWriting (take 256 (drop 91392 img)) → may ≡ false
@@ -96,14 +85,14 @@ module _ {img name : Bytes} {kind : ℕ} {ss : List ℕ} {count : ℕ} (c : Stor
     exists-reply bs other e =
         store-refused img name kind bs NameExists e
         (store-exists img name kind bs (c .slots .size) (c .asked) (c .kindAsked) (c .slots .contents) (may-store allowed allows)
-        (first-some notFound _ (filesNamed name (files layout35 (disk img))) (by-name (c .slots) name (c .asked) is ∙ found-some (c .slots) other)))
+        (name-used (c .slots) name (c .asked) is other))
 
     -- A NEW NAME
     pub new-store : k ≡ 8 * count → StoreNew img name kind ss count
     new-store e = record {
       checked = c;
       may = may-store allowed allows;
-      absent = first-none notFound notFound (filesNamed name (files layout35 (disk img))) (by-name (c .slots) name (c .asked) is ∙ found-none (c .slots) e);
+      absent = eqb-true (length (filesNamed name (files layout35 (disk img)))) 0 (name-free (c .slots) name (c .asked) is e);
     }
 
 -- ---- room for the entry
@@ -111,7 +100,7 @@ module _ {img name : Bytes} {kind : ℕ} {ss : List ℕ} {count : ℕ} (c : Stor
 module _ {img name : Bytes} {kind : ℕ} {ss : List ℕ} {count : ℕ} (n : StoreNew img name kind ss count) {es : Entries} (loaded : es ≡ loadedMap img)
     {room : Room} (is : room ≡ roomFor (lentTrack18 img) ss (8 * count) es) where
   decided : RoomIs img room
-  decided = rw (is, loaded) (room-is count (n .checked .slots) (n .checked .sectors) (n .checked .bytes))
+  decided = rw (is, loaded) (room-is count (n .checked .slots) (n .checked .whole) (n .checked .sectors) (n .checked .bytes))
 
   -- NO ROOM FOR THE ENTRY
   pub full-reply : (bs : Bytes) {rep : Report} → room ≡ Full

@@ -67,10 +67,9 @@ module _ (img name : Bytes) (kind : ℕ) (bs : Bytes) where
           store-forbidden may = rw (size-true img size, asked, kindAsked, check-sized img (size-true img size) checked, may)
 
           module _ (may : writable layout35 (disk img) ≡ true) where
-            pub store-exists : (length (filesNamed name (files layout35 (disk img))) ≡ 0 → ⊥) → callStore layout35 img name kind bs ≡ refused nameExists
+            pub store-exists : eqb (length (filesNamed name (files layout35 (disk img)))) 0 ≡ false → callStore layout35 img name kind bs ≡ refused nameExists
             unfolding callStore
-            store-exists h =
-                rw (size-true img size, asked, kindAsked, check-sized img (size-true img size) checked, may, ne-eqb (length (filesNamed name (files layout35 (disk img)))) 0 h)
+            store-exists there = rw (size-true img size, asked, kindAsked, check-sized img (size-true img size) checked, may, there)
 
             module _ (absent : length (filesNamed name (files layout35 (disk img))) ≡ 0) where
               absent-true : eqb (length (filesNamed name (files layout35 (disk img)))) 0 ≡ true

@@ -10,11 +10,11 @@ use lib.Dec.{eqb, ltb}
 use borrow.Author.Tests.{eq-eqb, ne-eqb, eqb-true, eqb-false, lt-ltb, le-ltb, ltb-true, ltb-false}
 use Rattle.d64spec.specs.Lists.{Bytes, byte}
 use Rattle.d64spec.specs.Answers.{Address, address, refused, done, directoryFull, first}
-use Rattle.d64spec.specs.Geometry.{layout35, sectorNumber, mapAddress, directoryStart, onDisk}
+use Rattle.d64spec.specs.Geometry.{layout35, sectorNumber, mapAddress, directoryStart}
 use Rattle.d64spec.specs.Image.{Disk, disk}
 use Rattle.d64spec.specs.Chain.{follow}
 use Rattle.d64spec.specs.Directory.{Slot, isEmpty, slotIn, directorySectors}
-use Rattle.d64spec.specs.Owner.{isFree, freeForFiles, freeForDirectory}
+use Rattle.d64spec.specs.Owner.{freeForFiles, freeForDirectory}
 use Rattle.d64spec.specs.Accepted.{Accepted}
 use Rattle.d64spec.specs.Store.{inEmptySlot, inNewSector, emptySlots, slotPlaceFor, sectorsNeeded, placement, lastOf}
 use Rattle.d64spec.proofs.OtherBytes.{byte-small}
@@ -29,10 +29,9 @@ use Rattle.finding.proofs.CheckedSlotLaws.{lentTrack18}
 use Rattle.finding.proofs.EmptyLaws.{empty-none, empty-some}
 use Rattle.mapentry.specs.MapEntry.{Entries}
 use Rattle.mapsector.specs.MapSector.{mapEntries}
-use Rattle.bam.specs.Bam.{markedFree}
 use Rattle.bamlaws.proofs.FollowLaws.{expects-loaded, markedFree-expected}
-use Rattle.placement.specs.Placements.{Placed, firstPlaces, directoryPlace}
-use Rattle.placement.proofs.PlaceLaws.{places-first, places-taken, directory-none, directory-some, few-places}
+use Rattle.placement.specs.Placements.{Placed, directoryPlace}
+use Rattle.placement.proofs.PlaceLaws.{MarksFree, few-places, places-count, places-few, places-named, directory-none, directory-lowest}
 use Rattle.storing.specs.declared.room.Room.the-variants.{At, Full}
 use Rattle.storing.specs.Plans.{PlaceReady}
 use Rattle.storing.specs.Decisions.{Needed, slotPlace, newPlace, roomAt, roomFor, RoomIs}
@@ -95,8 +94,8 @@ module _ {img : Bytes} (accepted : Accepted layout35 img) (bytes : (i : ℕ) →
   image-size = omega (arith, accepted .size, sectors35)
 
   -- THE MAP OF AN ACCEPTED IMAGE marks exactly the free sectors
-  marks-free : (r : Address) → onDisk layout35 r ≡ true → markedFree (mapEntries (disk img (sectorNumber layout35 mapAddress))) r ≡ isFree layout35 (disk img) r
-  marks-free = markedFree-expected (expects-loaded (disk img) (accepted .content) (map-full img image-size) (byte-small img bytes (sectorNumber layout35 mapAddress)))
+  marks-free : MarksFree (mapEntries (disk img (sectorNumber layout35 mapAddress))) (disk img)
+  marks-free = record { agrees = markedFree-expected (expects-loaded (disk img) (accepted .content) (map-full img image-size) (byte-small img bytes (sectorNumber layout35 mapAddress))) }
 
 -- ---- a place for the entry
 
@@ -114,15 +113,6 @@ module _ (d : Disk) where
   unfolding slotPlaceFor first
   place-new e r l f = rw (e, f, slotPlaceFor)
 
--- the search for an empty slot ends at the end of the slots
-empty-within : (b : Bytes) (ss : List ℕ) (k n : ℕ) → slotEmpty b ss k n ≤ k + n
-empty-within b ss k zero = omega arith
-empty-within b ss k (suc n) = go (isEmpty (slotBytes b ss k)) (empty-within b ss (suc k) n)
-  where
-    go : (t : Bool) → slotEmpty b ss (suc k) n ≤ suc k + n → cond t k (slotEmpty b ss (suc k) n) ≤ k + suc n
-    go true h = omega arith
-    go false h = omega arith
-
 -- what the code returns, by its tests
 module _ (b : Bytes) (ss : List ℕ) (end : ℕ) (es : Entries) {k : ℕ} (is : k ≡ slotEmpty b ss 0 end) where
   pub room-slot : k < end → At (slotPlace ss k) ≡ roomFor b ss end es
@@ -138,13 +128,13 @@ module _ (b : Bytes) (ss : List ℕ) (end : ℕ) (es : Entries) {k : ℕ} (is : 
     unfolding roomFor roomAt
     room-new e = rw (← is, ← place) (rw (le-ltb k end full, ne-eqb n 0 e))
 
-module _ {img : Bytes} {ss : List ℕ} (count : ℕ) (there : CheckedSlots img ss (8 * count)) (sectors : sectorsOf ss count ≡ directorySectors layout35 (disk img))
+module _ {img : Bytes} {ss : List ℕ} (count : ℕ) (there : CheckedSlots img ss (8 * count)) (whole : count ≤ length ss) (sectors : sectorsOf ss count ≡ directorySectors layout35 (disk img))
     (bytes : (i : ℕ) → byte img i < 256) where
   -- an empty slot
   slot-ready : (k : ℕ) → k ≡ slotEmpty (lentTrack18 img) ss 0 (8 * count) → k < 8 * count → PlaceReady img (slotPlace ss k)
   unfolding slotAt slotIn
   slot-ready k is h =
-      let e = empty-some count there sectors is h in
+      let e = empty-some img ss count (there .inside) whole sectors is h in
       record { place = inEmptySlot (imageSlot img ss k); found = place-slot (disk img) (imageSlot img ss k) (e .0) (e .1); is = (refl, refl, refl) }
 
   -- no empty slot: a new sector, or none
@@ -153,13 +143,13 @@ module _ {img : Bytes} {ss : List ℕ} (count : ℕ) (there : CheckedSlots img s
     es = mapEntries (disk img (sectorNumber layout35 mapAddress))
 
     sector-none : directoryPlace es ≡ 0 → slotPlaceFor layout35 (disk img) ≡ refused directoryFull
-    sector-none e = place-none (disk img) none (directory-none es (disk img) (marks-free (there .accepted) bytes) e)
+    sector-none e = place-none (disk img) none (directory-none (marks-free (there .accepted) bytes) .0 e)
 
     sector-ready : (directoryPlace es ≡ 0 → ⊥) → PlaceReady img (newPlace (directoryPlace es))
     sector-ready e =
-        let f = directory-some es (disk img) (marks-free (there .accepted) bytes) e in
-        let z : f .0 ≡ directoryPlace es % 256 = omega (arith, f .3, f .4) in
-        record { place = inNewSector (address 18 (f .0)); found = place-new (disk img) none (address 18 (f .0)) (f .1) (f .2); is = (refl, ap (address 18) z, refl) }
+        let f = directory-lowest (marks-free (there .accepted) bytes) e in
+        let z : f .sector ≡ directoryPlace es % 256 = omega (arith, f .number, f .small) in
+        record { place = inNewSector (address 18 (f .sector)); found = place-new (disk img) none (address 18 (f .sector)) (f .others) (f .free); is = (refl, ap (address 18) z, refl) }
 
   room-decided : (k n : ℕ) → k ≡ slotEmpty (lentTrack18 img) ss 0 (8 * count) → n ≡ directoryPlace (mapEntries (disk img (sectorNumber layout35 mapAddress)))
       → RoomIs img (roomAt ss (8 * count) k n)
@@ -172,7 +162,7 @@ module _ {img : Bytes} {ss : List ℕ} (count : ℕ) (there : CheckedSlots img s
 
       slot : (t : Bool) → ltb k (8 * count) ≡ t → RoomIs img (cond t (At (slotPlace ss k)) (cond (eqb n 0) Full (At (newPlace n))))
       slot true e = slot-ready k is (ltb-true k (8 * count) e)
-      slot false e = sector (eqb n 0) refl (empty-none count there sectors is (omega (arith, is, empty-within (lentTrack18 img) ss 0 (8 * count), ltb-false k (8 * count) e)))
+      slot false e = sector (eqb n 0) refl (empty-none img ss count (there .inside) whole sectors is (ltb-false k (8 * count) e))
 
   -- ROOM FOR THE ENTRY is where the definitions have it
   pub room-is : RoomIs img (roomFor (lentTrack18 img) ss (8 * count) (loadedMap img))
@@ -183,27 +173,20 @@ module _ {img : Bytes} {ss : List ℕ} (count : ℕ) (there : CheckedSlots img s
 
 module _ {img : Bytes} (accepted : Accepted layout35 img) (bytes : (i : ℕ) → byte img i < 256) {es : Entries}
     (entries : es ≡ mapEntries (disk img (sectorNumber layout35 mapAddress))) where
-  marks-of : (r : Address) → onDisk layout35 r ≡ true → markedFree es r ≡ isFree layout35 (disk img) r
+  marks-of : MarksFree es (disk img)
   marks-of = rw entries (marks-free accepted bytes)
 
   module _ {size n r : ℕ} {at at′ : List ℕ} (need : Needed size n) (room : n ≤ length at) (placed : Placed es n at r at′) where
-    free-count : r ≡ length (placement layout35 (disk img) n)
-    free-count = placed .count ∙ ap length (places-first es (disk img) marks-of n (length at) room)
-
     -- fewer sectors than are needed
     pub sectors-few : r < n → length (freeForFiles layout35 (disk img)) < sectorsNeeded size
-    unfolding placement
-    sectors-few h = omega (arith, free-count, length-take n (freeForFiles layout35 (disk img)), need .is)
+    sectors-few h = omega (arith, places-few marks-of room placed .0 h, need .is)
 
     -- as many as are needed
     pub sectors-enough : n ≤ r → sectorsNeeded size ≤ length (freeForFiles layout35 (disk img))
-    unfolding placement
-    sectors-enough h = omega (arith, free-count, length-take n (freeForFiles layout35 (disk img)), need .is)
+    sectors-enough h = omega (arith, places-count marks-of room placed, need .is)
 
     pub sectors-taken : n ≤ r → map unpacked (take n at′) ≡ placement layout35 (disk img) (sectorsNeeded size)
-    sectors-taken h =
-        let e : n ≡ sectorsNeeded size = need .is in
-        places-taken es (disk img) marks-of placed room (omega (arith, e, sectors-enough h)) ∙ ap (placement layout35 (disk img)) e
+    sectors-taken h = places-named marks-of room placed (omega (arith, sectors-enough h, need .is)) ∙ ap (placement layout35 (disk img)) (need .is)
 
 -- more bytes than any disk has room for
 pub sectors-never : (img : Bytes) {size : ℕ} → 168656 < size → length (freeForFiles layout35 (disk img)) < sectorsNeeded size

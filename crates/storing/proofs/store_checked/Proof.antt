@@ -1,5 +1,4 @@
 -- `storing::store_checked` meets its contract. In order: the DOS version; the name; the rest.
-use native.Mathlib.Omega.{arith}
 use borrow.Author.Tests.{not-true, not-false}
 use Rattle.storing.proofs.DecisionLaws.{forbidden-reply, exists-reply, new-store}
 use borrow.Author.Needs.{needs}
@@ -25,7 +24,9 @@ same-length : tie.Need-same-length
 same-length c = search needs
 
 returns : tie.Need-returns
-returns c = forbidden-reply (c .before .before .before .before .before .before .before .before .pre) (c .before .before .before .before .before .before .before .before .args .content .now) (c .before .before .may-write .ensures) (not-true _ (c .before .if1 .taken)) (c .refuse .ensures)
+returns c =
+    let s = c .before .before .before .before .before .before .before .before in
+    forbidden-reply (s .pre) (s .args .content .now) (c .before .before .may-write .ensures) (not-true _ (c .before .if1 .taken)) (c .refuse .ensures)
 
 mul-end : tie.Need-mul-end
 mul-end c = search needs
@@ -49,10 +50,15 @@ same-length-2 : tie.Need-same-length-2
 same-length-2 c = search needs
 
 returns-2 : tie.Need-returns-2
-returns-2 c = exists-reply (c .before .before .before .before .before .before .before .before .before .before .before .before .pre) (c .before .before .before .before .before .before .may-write .ensures) (not-false _ (c .before .before .before .before .before .if1 .left)) (c .before .before .find-named .ensures) (c .before .before .before .before .before .before .before .before .before .before .before .before .args .content .now) (c .before .if2 .taken) (c .refuse2 .ensures)
+returns-2 c =
+    let e = c .before .before .before .before .before in
+    let s = e .before .before .before .before .before .before .before in
+    exists-reply (s .pre) (e .before .may-write .ensures) (not-false _ (e .if1 .left)) (c .before .before .find-named .ensures) (s .args .content .now) (c .before .if2 .taken) (c .refuse2 .ensures)
 
 store-new-requires : tie.Need-store-new-requires
-store-new-requires c κs = new-store (c .before .before .before .before .before .before .before .before .before .before .before .before .pre) (c .before .before .before .before .before .before .may-write .ensures) (not-false _ (c .before .before .before .before .before .if1 .left)) (c .before .before .find-named .ensures) (c .before .if2 .left)
+store-new-requires c κs =
+    let e = c .before .before .before .before .before in
+    new-store (e .before .before .before .before .before .before .before .pre) (e .before .may-write .ensures) (not-false _ (e .if1 .left)) (c .before .before .find-named .ensures) (c .before .if2 .left)
 
 same-length-3 : tie.Need-same-length-3
 same-length-3 c = search needs

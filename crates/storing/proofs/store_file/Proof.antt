@@ -19,7 +19,9 @@ refuse-requires c κs = search needs
 
 returns : tie.Need-returns
 unfolding faultOf
-returns c = store-refused (c .before .before .before .before .before .args .img .now) (c .before .before .before .before .before .args .name .now) (c .before .before .before .before .before .args .kind) (c .before .before .before .before .before .args .content .now) WrongSize (c .refuse .ensures) (store-size (c .before .before .before .before .before .args .img .now) (c .before .before .before .before .before .args .name .now) (c .before .before .before .before .before .args .kind) (c .before .before .before .before .before .args .content .now) (λ size. c .before .if1 .taken (omega arith)))
+returns c =
+    let a = c .before .before .before .before .before .args in
+    store-refused (a .img .now) (a .name .now) (a .kind) (a .content .now) WrongSize (c .refuse .ensures) (store-size (a .img .now) (a .name .now) (a .kind) (a .content .now) (λ size. c .before .if1 .taken (omega arith)))
 
 valid-name-argument-requires : tie.Need-valid-name-argument-requires
 valid-name-argument-requires c κs = search needs
@@ -29,7 +31,10 @@ refuse-requires-2 c κs = search needs
 
 returns-2 : tie.Need-returns-2
 unfolding faultOf
-returns-2 c = store-refused (c .before .before .before .before .before .before .before .args .img .now) (c .before .before .before .before .before .before .before .args .name .now) (c .before .before .before .before .before .before .before .args .kind) (c .before .before .before .before .before .before .before .args .content .now) BadNameArgument (c .refuse2 .ensures) (store-name (c .before .before .before .before .before .before .before .args .img .now) (c .before .before .before .before .before .before .before .args .name .now) (c .before .before .before .before .before .before .before .args .kind) (c .before .before .before .before .before .before .before .args .content .now) (omega arith) (sym (c .before .before .valid-name-argument .ensures) ∙ not-true _ (c .before .if2 .taken)))
+returns-2 c =
+    let a = c .before .before .before .before .before .before .before .args in
+    let bad = sym (c .before .before .valid-name-argument .ensures) ∙ not-true _ (c .before .if2 .taken) in
+    store-refused (a .img .now) (a .name .now) (a .kind) (a .content .now) BadNameArgument (c .refuse2 .ensures) (store-name (a .img .now) (a .name .now) (a .kind) (a .content .now) (omega arith) bad)
 
 -- the name asked for
 asked : (c : tie.Else2) → validNameArgument (c .before .before .before .before .before .before .args .name .now) ≡ true
@@ -43,7 +48,10 @@ refuse-requires-3 c κs = search needs
 
 returns-3 : tie.Need-returns-3
 unfolding faultOf
-returns-3 c = store-refused (c .before .before .before .before .before .before .before .before .before .args .img .now) (c .before .before .before .before .before .before .before .before .before .args .name .now) (c .before .before .before .before .before .before .before .before .before .args .kind) (c .before .before .before .before .before .before .before .before .before .args .content .now) BadKindArgument (c .refuse3 .ensures) (store-kind (c .before .before .before .before .before .before .before .before .before .args .img .now) (c .before .before .before .before .before .before .before .before .before .args .name .now) (c .before .before .before .before .before .before .before .before .before .args .kind) (c .before .before .before .before .before .before .before .before .before .args .content .now) (omega arith) (asked (c .before .before .before)) (sym (c .before .before .valid-kind .ensures) ∙ not-true _ (c .before .if3 .taken)))
+returns-3 c =
+    let a = c .before .before .before .before .before .before .before .before .before .args in
+    let bad = sym (c .before .before .valid-kind .ensures) ∙ not-true _ (c .before .if3 .taken) in
+    store-refused (a .img .now) (a .name .now) (a .kind) (a .content .now) BadKindArgument (c .refuse3 .ensures) (store-kind (a .img .now) (a .name .now) (a .kind) (a .content .now) (omega arith) (asked (c .before .before .before)) bad)
 
 -- the kind asked for
 kind-asked : (c : tie.Else3) → validKind (c .before .before .before .before .before .before .before .before .args .kind) ≡ true
@@ -62,16 +70,29 @@ enum-told : tie.Need-enum-told
 enum-told c = search needs
 
 cast-store-checked : tie.Need-cast-store-checked
-cast-store-checked c = omega (arith, kind-small (c .before .before .before .before .before .before .before .before .before .before .before .before .before .args .kind) (kind-asked (c .before .before .before .before .before)) .1)
+cast-store-checked c =
+    let e = c .before .before .before .before .before in
+    omega (arith, kind-small (e .before .before .before .before .before .before .before .before .args .kind) (kind-asked e) .1)
 
 store-checked-requires : tie.Need-store-checked-requires
-store-checked-requires c κs = checked-store (c .before .before .before .before .before .before .before .before .before .before .before .before .before .before .before .args .name .now) (c .before .before .before .before .before .before .before .before .before .before .before .before .before .before .before .args .kind) (c .before .before .before .before .before .check-image .ensures) (c .before .before .before .enum-told .given .1) (λ i. omega (arith, c .before .before .before .before .before .before .before .before .before .before .before .before .before .before .slice-known .given i)) (asked (c .before .before .before .before .before .before .before .before .before)) (kind-asked (c .before .before .before .before .before .before .before))
+store-checked-requires c κs =
+    let t = c .before .before .before in
+    let k = t .before .before in
+    let e = k .before .before in
+    let a = e .before .before .before .before .before .before .before .before .args in
+    checked-store (a .name .now) (a .kind) (k .check-image .ensures) (t .enum-told .given .1) (λ i. omega (arith, e .before .before .before .before .before .before .before .slice-known .given i)) (asked (e .before .before)) (kind-asked e)
 
 same-length : tie.Need-same-length
 same-length c = search needs
 
 returns-4 : tie.Need-returns-4
-returns-4 c = store-refused (c .before .before .before .before .before .before .before .before .before .before .before .before .before .before .args .img .now) (c .before .before .before .before .before .before .before .before .before .before .before .before .before .before .args .name .now) (c .before .before .before .before .before .before .before .before .before .before .before .before .before .before .args .kind) (c .before .before .before .before .before .before .before .before .before .before .before .before .before .before .args .content .now) _ (c .refuse4 .ensures) (store-fault (c .before .before .before .before .before .before .before .before .before .before .before .before .before .before .args .img .now) (c .before .before .before .before .before .before .before .before .before .before .before .before .before .before .args .name .now) (c .before .before .before .before .before .before .before .before .before .before .before .before .before .before .args .kind) (c .before .before .before .before .before .before .before .before .before .before .before .before .before .before .args .content .now) (omega arith) (asked (c .before .before .before .before .before .before .before .before)) (kind-asked (c .before .before .before .before .before .before)) (refused-image (c .before .before .before .before .check-image .ensures) _ (c .before .before .verdict .given .1)))
+returns-4 c =
+    let v = c .before .before in
+    let k = v .before .before in
+    let e = k .before .before in
+    let a = e .before .before .before .before .before .before .before .before .args in
+    store-refused (a .img .now) (a .name .now) (a .kind) (a .content .now) _ (c .refuse4 .ensures)
+    (store-fault (a .img .now) (a .name .now) (a .kind) (a .content .now) (omega arith) (asked (e .before .before)) (kind-asked e) (refused-image (k .check-image .ensures) _ (v .verdict .given .1)))
 
 same-length-2 : tie.Need-same-length-2
 same-length-2 c = search needs

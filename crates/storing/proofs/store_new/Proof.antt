@@ -43,19 +43,27 @@ enum-known-room : tie.Need-enum-known-room
 enum-known-room c = search needs
 
 sub-store-placed : tie.Need-sub-store-placed
-sub-store-placed c = omega (arith, count-some (c .before .before .before .before .before .before .before .before .before .before .before .before .before .before .args .img .now) (c .before .before .before .before .before .before .before .before .before .before .before .before .before .before .args .sectors .now) (c .before .before .before .before .before .before .before .before .before .before .before .before .before .before .args .count) (c .before .before .before .before .before .before .before .before .before .before .before .before .before .before .pre .checked .sectors))
+sub-store-placed c =
+    let s = c .before .before .before .before .before .before .before .before .before .before .before .before .before .before in
+    omega (arith, count-some (s .args .img .now) (s .args .sectors .now) (s .args .count) (s .pre .checked .sectors))
 
 element-copy-out-store-placed : tie.Need-element-copy-out-store-placed
 element-copy-out-store-placed c = omega (arith, c .before .before .before .before .before .before .before .before .before .before .before .before .before .before .pre .checked .slots .few)
 
 store-placed-requires : tie.Need-store-placed-requires
-store-placed-requires c κs = placed-store (c .before .before .before .before .before .before .before .before .before .before .before .before .before .before .before .before .pre) (c .before .before .before .before .before .before .before .before .before .before .load-map .ensures) (c .before .before .before .before .before .before .entry-room .ensures) (c .before .before .before .before .room .given .1)
+store-placed-requires c κs =
+    let r = c .before .before .before .before in
+    let n = r .before .before .before .before .before .before in
+    placed-store (n .before .before .before .before .before .before .pre) (n .load-map .ensures) (r .before .before .entry-room .ensures) (r .room .given .1)
 
 same-length : tie.Need-same-length
 same-length c = search needs
 
 returns : tie.Need-returns
-returns c = full-reply (c .before .before .before .before .before .before .before .before .before .before .before .before .before .pre) (c .before .before .before .before .before .before .before .load-map .ensures) (c .before .before .before .entry-room .ensures) (c .before .before .before .before .before .before .before .before .before .before .before .before .before .args .content .now) (c .before .enum-told .given .1) (c .refuse .ensures)
+returns c =
+    let r = c .before .before .before in
+    let n = r .before .before .before .before in
+    full-reply (n .before .before .before .before .before .before .pre) (n .load-map .ensures) (r .entry-room .ensures) (n .before .before .before .before .before .before .args .content .now) (c .before .enum-told .given .1) (c .refuse .ensures)
 
 same-length-2 : tie.Need-same-length-2
 same-length-2 c = search needs

@@ -10,7 +10,9 @@ refuse-requires : tie.Need-refuse-requires
 refuse-requires c κs = search needs
 
 returns : tie.Need-returns
-returns c = long-reply (c .before .before .before .before .before .pre) (c .before .before .before .before .before .args .content .now) (omega arith) (c .refuse .ensures)
+returns c =
+    let s = c .before .before .before .before .before in
+    long-reply (s .pre) (s .args .content .now) (omega arith) (c .refuse .ensures)
 
 sectors-needed-requires : tie.Need-sectors-needed-requires
 sectors-needed-requires c κs = search needs
@@ -25,7 +27,10 @@ refuse-requires-2 : tie.Need-refuse-requires-2
 refuse-requires-2 c κs = search needs
 
 returns-2 : tie.Need-returns-2
-returns-2 c = few-reply (c .before .before .before .before .before .before .before .before .before .before .pre) (c .before .before .before .before .before .before .before .before .before .before .args .content .now) (c .before .before .before .before .before .sectors-needed .ensures) (omega (arith, c .before .before .before .before .before .sectors-needed .ensures .few)) (c .before .before .before .place-sectors .ensures) (omega arith) (c .refuse2 .ensures)
+returns-2 c =
+    let s = c .before .before .before .before .before .before .before .before .before .before in
+    let n = c .before .before .before .before .before .sectors-needed .ensures in
+    few-reply (s .pre) (s .args .content .now) n (omega arith) (c .before .before .before .place-sectors .ensures) (omega arith) (c .refuse2 .ensures)
 
 array-share-prefix-at : tie.Need-array-share-prefix-at
 array-share-prefix-at c = search needs
@@ -34,7 +39,10 @@ slice-aggregate-write-file : tie.Need-slice-aggregate-write-file
 slice-aggregate-write-file c = simp length-take (omega (arith, c .before .before .before .before .before .before .sectors-needed .ensures .few))
 
 write-file-requires : tie.Need-write-file-requires
-write-file-requires c κs = write-ready (c .before .before .before .before .before .before .before .before .before .before .before .pre) (c .before .before .before .before .before .before .before .before .before .before .before .args .content .now) (c .before .before .before .before .before .before .sectors-needed .ensures) (omega (arith, c .before .before .before .before .before .before .sectors-needed .ensures .few)) (c .before .before .before .before .place-sectors .ensures) (omega arith)
+write-file-requires c κs =
+    let s = c .before .before .before .before .before .before .before .before .before .before .before in
+    let n = c .before .before .before .before .before .before .sectors-needed .ensures in
+    write-ready (s .pre) (s .args .content .now) n (omega arith) (c .before .before .before .before .place-sectors .ensures) (omega arith)
 
 cast-t22 : tie.Need-cast-t22
 cast-t22 c = search needs
@@ -46,7 +54,10 @@ same-length : tie.Need-same-length
 same-length c = search needs
 
 returns-3 : tie.Need-returns-3
-returns-3 c = done-reply (c .before .before .before .before .before .before .before .before .before .before .before .before .before .before .pre) (c .before .before .before .before .before .before .before .before .before .before .before .before .before .before .args .content .now) (c .before .before .before .before .before .before .before .before .before .sectors-needed .ensures) (omega (arith, c .before .before .before .before .before .before .before .before .before .sectors-needed .ensures .few)) (c .before .before .before .before .before .before .before .place-sectors .ensures) (omega arith) (c .before .before .write-file .ensures)
+returns-3 c =
+    let s = c .before .before .before .before .before .before .before .before .before .before .before .before .before .before in
+    let n = c .before .before .before .before .before .before .before .before .before .sectors-needed .ensures in
+    done-reply (s .pre) (s .args .content .now) n (omega arith) (c .before .before .before .before .before .before .before .place-sectors .ensures) (omega arith) (c .before .before .write-file .ensures)
 
 pub store-placed-spec : {M : Type 1} → statement M
 store-placed-spec =
