@@ -2,14 +2,16 @@
 -- In order: the image checked; the name; room for the entry; room for the content.
 use Prim.Native.Nat.{ℕ, _*_, _-_, _≤_, _<_}
 use native.Mathlib.Omega.{arith}
+use native.Mathlib.Decide.{ℕ-discrete}
 use mathlib.Core.Path.{_≡_, refl, sym, ap, subst, _∙_}
 use mathlib.Core.Bool.{Bool, true, false}
 use mathlib.Core.List.{List, [], _∷_, map}
 use lib.ListN.{length, take, drop, getD}
-use borrow.Author.Tests.{eqb-true}
+use lib.Dec.{eqb}
+use borrow.Author.Tests.{eq-eqb, ne-eqb, eqb-true}
 use Rattle.d64spec.specs.Lists.{Bytes, byte}
 use Rattle.d64spec.specs.Answers.{refused, done, directoryFull}
-use Rattle.d64spec.specs.Geometry.{layout35}
+use Rattle.d64spec.specs.Geometry.{layout35, sectorNumber, mapAddress}
 use Rattle.d64spec.specs.Image.{disk}
 use Rattle.d64spec.specs.Directory.{File, files}
 use Rattle.d64spec.specs.Owner.{freeForFiles}
@@ -31,16 +33,16 @@ use Rattle.diskcheck.specs.declared.Checked.{Checked}
 use Rattle.diskcheck.specs.ImageChecks.{ImageChecked}
 use Rattle.diskcheck.proofs.TrackLaws.{map-lent}
 use Rattle.diskcheck.proofs.CheckedLaws.{fine-image}
-use Rattle.finding.specs.FileSlots.{slotNamed}
+use Rattle.finding.specs.FileSlots.{slotNamed, CheckedSlots}
 use Rattle.finding.proofs.CheckedSlotLaws.{lentTrack18, checked-slots, name-free, name-used}
 use Rattle.placement.specs.Placements.{Placed}
 use Rattle.storing.specs.declared.room.EntryPlace.{EntryPlace}
 use Rattle.storing.specs.declared.room.Room.{Room}
 use Rattle.storing.specs.declared.room.Room.the-variants.{At, Full}
 use Rattle.storing.specs.Plans.{PlaceReady, StoreReady, WriteReady, FileWritten}
-use Rattle.storing.specs.Decisions.{Needed, roomFor, RoomIs, StoreChecked, StoreNew, StorePlaced}
+use Rattle.storing.specs.Decisions.{Needed, RoomIs, StoreChecked, StoreNew, StorePlaced}
 use Rattle.storing.proofs.ReplyLaws.{size-true, store-forbidden, store-exists, store-full, store-no-room, store-done, store-refused, store-replied}
-use Rattle.storing.proofs.RoomLaws.{loadedMap, last-sector, room-is, sectors-few, sectors-enough, sectors-taken, sectors-never}
+use Rattle.storing.proofs.RoomLaws.{last-sector, sectors-few, sectors-enough, sectors-taken, sectors-never}
 
 -- ---- the image checked
 
@@ -50,82 +52,81 @@ pub checked-store : {img : Bytes} {r : Checked} (name : Bytes) (kind : ℕ) → 
 checked-store name kind checked e bytes asked kindAsked =
     let fine = fine-image checked e in
     record {
-      slots = checked-slots checked e;
-      sectors = fine .sectors;
-      whole = fine .whole;
-      bytes = bytes;
+      directory = record { slots = checked-slots checked e; sectors = fine .sectors; whole = fine .whole; bytes = bytes };
       asked = asked;
       kindAsked = kindAsked;
     }
 
 -- the DOS version in the map sector, as the code lends it
-writable-lent : (img : Bytes) → allowsWriting (take 256 (drop 91392 img)) ≡ writable layout35 (disk img)
+pub writable-lent : (img : Bytes) {may : Bool} → may ≡ allowsWriting (take 256 (drop 91392 img)) → may ≡ writable layout35 (disk img)
 unfolding writable allowsWriting
-writable-lent img = rw (map-lent img)
+writable-lent img e = rw (map-lent img) at e
 
 -- ---- the name
 
+-- the search for the name says whether a file has it
+pub new-found : {img ss : List ℕ} (name : Bytes) {end k : ℕ} → CheckedSlots img ss end × (validNameArgument name ≡ true) → k ≡ slotNamed (lentTrack18 img) ss name 0 end
+    → eqb k end ≡ eqb (length (filesNamed name (files layout35 (disk img)))) 0
+new-found {img} {ss} name {end} {k} there is = elim (ℕ-discrete k end) [
+  | yes e ↦ eq-eqb k end e ∙ sym (name-free (there .0) name (there .1) is e)
+  | no e ↦ ne-eqb k end e ∙ sym (name-used (there .0) name (there .1) is e)
+]
+
 module _ {img name : Bytes} {kind : ℕ} {ss : List ℕ} {count : ℕ} (c : StoreChecked img name kind ss count) where
   -- A DOS VERSION THAT FORBIDS WRITING
-  pub forbidden-reply : (bs : Bytes) {may : Bool} {rep : Report} → may ≡ allowsWriting (take 256 (drop 91392 img)) → may ≡ false
+  pub forbidden-reply : (bs : Bytes) {rep : Report} → writable layout35 (disk img) ≡ false
       → rep ≡ record { verdict = Refused WriteForbidden; length = 0; sectors = 0 } → replyOf rep img [] ≡ perform layout35 img (store name kind bs)
   unfolding faultOf
-  forbidden-reply bs asked forbids e =
-      store-refused img name kind bs WriteForbidden e
-      (store-forbidden img name kind bs (c .slots .size) (c .asked) (c .kindAsked) (c .slots .contents) (sym (writable-lent img) ∙ sym asked ∙ forbids))
+  forbidden-reply bs forbids e =
+      let d = c .directory .slots in
+      store-refused img name kind bs WriteForbidden e (store-forbidden img name kind bs (d .size) (c .asked) (c .kindAsked) (d .contents) forbids)
 
-  may-store : {may : Bool} → may ≡ allowsWriting (take 256 (drop 91392 img)) → may ≡ true → writable layout35 (disk img) ≡ true
-  may-store asked allows = sym (writable-lent img) ∙ sym asked ∙ allows
-
-  module _ {may : Bool} (allowed : may ≡ allowsWriting (take 256 (drop 91392 img))) (allows : may ≡ true) {k : ℕ} (is : k ≡ slotNamed (lentTrack18 img) ss name 0 (8 * count)) where
+  module _ (allows : writable layout35 (disk img) ≡ true) where
     -- A NAME THAT IS THERE
-    pub exists-reply : (bs : Bytes) {rep : Report} → (k ≡ 8 * count → ⊥)
+    pub exists-reply : (bs : Bytes) {rep : Report} → eqb (length (filesNamed name (files layout35 (disk img)))) 0 ≡ false
         → rep ≡ record { verdict = Refused NameExists; length = 0; sectors = 0 } → replyOf rep img [] ≡ perform layout35 img (store name kind bs)
     unfolding faultOf
-    exists-reply bs other e =
-        store-refused img name kind bs NameExists e
-        (store-exists img name kind bs (c .slots .size) (c .asked) (c .kindAsked) (c .slots .contents) (may-store allowed allows)
-        (name-used (c .slots) name (c .asked) is other))
+    exists-reply bs there e =
+        let d = c .directory .slots in
+        store-refused img name kind bs NameExists e (store-exists img name kind bs (d .size) (c .asked) (c .kindAsked) (d .contents) allows there)
 
     -- A NEW NAME
-    pub new-store : k ≡ 8 * count → StoreNew img name kind ss count
-    new-store e = record {
-      checked = c;
-      may = may-store allowed allows;
-      absent = eqb-true (length (filesNamed name (files layout35 (disk img)))) 0 (name-free (c .slots) name (c .asked) is e);
-    }
+    pub new-store : eqb (length (filesNamed name (files layout35 (disk img)))) 0 ≡ true → StoreNew img name kind ss count
+    new-store new = record { checked = c; may = allows; absent = eqb-true (length (filesNamed name (files layout35 (disk img)))) 0 new }
 
 -- ---- room for the entry
 
-module _ {img name : Bytes} {kind : ℕ} {ss : List ℕ} {count : ℕ} (n : StoreNew img name kind ss count) {es : Entries} (loaded : es ≡ loadedMap img)
-    {room : Room} (is : room ≡ roomFor (lentTrack18 img) ss (8 * count) es) where
-  decided : RoomIs img room
-  decided = rw (is, loaded) (room-is count (n .checked .slots) (n .checked .whole) (n .checked .sectors) (n .checked .bytes))
+-- the map, as the code lends it
+pub map-loaded : (img : Bytes) {es : Entries} → es ≡ mapEntries (take 256 (drop 91392 img)) → es ≡ mapEntries (disk img (sectorNumber layout35 mapAddress))
+map-loaded img e = e ∙ ap mapEntries (map-lent img)
 
+module _ {img name : Bytes} {kind : ℕ} {ss : List ℕ} {count : ℕ} (n : StoreNew img name kind ss count) where
   -- NO ROOM FOR THE ENTRY
-  pub full-reply : (bs : Bytes) {rep : Report} → room ≡ Full
+  pub full-reply : (bs : Bytes) {room : Room} {rep : Report} → RoomIs img room → room ≡ Full
       → rep ≡ record { verdict = Refused DirectoryFull; length = 0; sectors = 0 } → replyOf rep img [] ≡ perform layout35 img (store name kind bs)
   unfolding faultOf
-  full-reply bs full e =
+  full-reply bs is full e =
       let k = n .checked in
-      let none : slotPlaceFor layout35 (disk img) ≡ refused directoryFull = subst (RoomIs img) full decided in
-      store-refused img name kind bs DirectoryFull e
-      (store-full img name kind bs (k .slots .size) (k .asked) (k .kindAsked) (k .slots .contents) (n .may) (n .absent) none)
+      let d = k .directory .slots in
+      let none : slotPlaceFor layout35 (disk img) ≡ refused directoryFull = subst (RoomIs img) full is in
+      store-refused img name kind bs DirectoryFull e (store-full img name kind bs (d .size) (k .asked) (k .kindAsked) (d .contents) (n .may) (n .absent) none)
 
   -- A PLACE FOR THE ENTRY
-  pub placed-store : {p : EntryPlace} → room ≡ At p → StorePlaced img name kind p (getD ss (count - 1) 0) es
-  placed-store {p} at =
+  pub placed-store : {room : Room} {p : EntryPlace} {es : Entries} → es ≡ mapEntries (disk img (sectorNumber layout35 mapAddress)) → RoomIs img room → room ≡ At p
+      → StorePlaced img name kind p (getD ss (count - 1) 0) es
+  placed-store {p = p} entries is at =
       let k = n .checked in
-      let place : PlaceReady img p = subst (RoomIs img) at decided in
+      let d = k .directory in
+      let place : PlaceReady img p = subst (RoomIs img) at is in
       record {
         ready = record {
-          accepted = k .slots .accepted;
-          bytes = k .bytes;
+          accepted = d .slots .accepted;
+          bytes = d .bytes;
           asked = k .asked;
           kindAsked = k .kindAsked;
           absent = n .absent;
-          lastSector = last-sector img ss count (k .sectors) (k .whole);
-          entries = loaded ∙ ap mapEntries (map-lent img);
+          lastSector = last-sector img ss count (d .sectors) (d .whole);
+          entries = entries;
         };
         may = n .may;
         place = place;

@@ -23,7 +23,6 @@ use Rattle.geometry.specs.Layout.{unpacked}
 use Rattle.directory.specs.Directories.{sectorsOf, slotAt, slotBytes}
 use Rattle.directory.proofs.Track18Laws.{number-18}
 use Rattle.diskcheck.specs.SlotChecks.{imageSlot}
-use Rattle.diskcheck.proofs.TrackLaws.{map-lent}
 use Rattle.finding.specs.FileSlots.{slotEmpty, CheckedSlots}
 use Rattle.finding.proofs.CheckedSlotLaws.{lentTrack18}
 use Rattle.finding.proofs.EmptyLaws.{empty-none, empty-some}
@@ -32,9 +31,10 @@ use Rattle.mapsector.specs.MapSector.{mapEntries}
 use Rattle.bamlaws.proofs.FollowLaws.{expects-loaded, markedFree-expected}
 use Rattle.placement.specs.Placements.{Placed, directoryPlace}
 use Rattle.placement.proofs.PlaceLaws.{MarksFree, few-places, places-count, places-few, places-named, directory-none, directory-lowest}
+use Rattle.storing.specs.declared.room.Room.{Room}
 use Rattle.storing.specs.declared.room.Room.the-variants.{At, Full}
 use Rattle.storing.specs.Plans.{PlaceReady}
-use Rattle.storing.specs.Decisions.{Needed, slotPlace, newPlace, roomAt, roomFor, RoomIs}
+use Rattle.storing.specs.Decisions.{Needed, slotPlace, newPlace, roomAt, roomFor, RoomIs, RoomAsked}
 
 -- ---- the sectors needed
 
@@ -80,10 +80,6 @@ module _ (img : Bytes) (ss : List ℕ) (count : ℕ) (sectors : sectorsOf ss cou
       ∙ ap (lastOf directoryStart) sectors
 
 -- ---- the map's marks
-
--- the map by value, as the code loads it
-abbrev pub loadedMap : Bytes → Entries
-loadedMap img = mapEntries (take 256 (drop 91392 img))
 
 map-full : (img : Bytes) → length img ≡ 174848 → length (disk img (sectorNumber layout35 mapAddress)) ≡ 256
 unfolding disk
@@ -164,10 +160,12 @@ module _ {img : Bytes} {ss : List ℕ} (count : ℕ) (there : CheckedSlots img s
       slot true e = slot-ready k is (ltb-true k (8 * count) e)
       slot false e = sector (eqb n 0) refl (empty-none img ss count (there .inside) whole sectors is (ltb-false k (8 * count) e))
 
-  -- ROOM FOR THE ENTRY is where the definitions have it
-  pub room-is : RoomIs img (roomFor (lentTrack18 img) ss (8 * count) (loadedMap img))
-  unfolding roomFor
-  room-is = rw (map-lent img) (room-decided (slotEmpty (lentTrack18 img) ss 0 (8 * count)) (directoryPlace (mapEntries (disk img (sectorNumber layout35 mapAddress)))) refl refl)
+-- ROOM FOR THE ENTRY is where the definitions have it
+pub room-is : {img ss : List ℕ} {count : ℕ} {es : Entries} {room : Room} → RoomAsked img ss count es → room ≡ roomFor (lentTrack18 img) ss (8 * count) es → RoomIs img room
+unfolding roomFor
+room-is {img} {ss} {count} {es} a is =
+    let d = a .directory in
+    rw is (room-decided count (d .slots) (d .whole) (d .sectors) (d .bytes) (slotEmpty (lentTrack18 img) ss 0 (8 * count)) (directoryPlace es) refl (ap directoryPlace (a .entries)))
 
 -- ---- sectors for the content
 

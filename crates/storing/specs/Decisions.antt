@@ -8,7 +8,7 @@ use lib.ListN.{length, getD}
 use lib.Dec.{eqb, ltb}
 use Rattle.d64spec.specs.Lists.{Bytes, byte}
 use Rattle.d64spec.specs.Answers.{refused, directoryFull}
-use Rattle.d64spec.specs.Geometry.{layout35}
+use Rattle.d64spec.specs.Geometry.{layout35, sectorNumber, mapAddress}
 use Rattle.d64spec.specs.Image.{disk}
 use Rattle.d64spec.specs.Directory.{directorySectors, files}
 use Rattle.d64spec.specs.Reply.{validNameArgument, validKind, writable, filesNamed}
@@ -16,6 +16,7 @@ use Rattle.d64spec.specs.Store.{sectorsNeeded, slotPlaceFor}
 use Rattle.directory.specs.Directories.{sectorsOf}
 use Rattle.finding.specs.FileSlots.{slotEmpty, CheckedSlots}
 use Rattle.mapentry.specs.MapEntry.{Entries}
+use Rattle.mapsector.specs.MapSector.{mapEntries}
 use Rattle.placement.specs.Placements.{directoryPlace}
 use Rattle.storing.specs.declared.room.EntryPlace.{EntryPlace}
 use Rattle.storing.specs.declared.room.Room.{Room}
@@ -49,12 +50,21 @@ abbrev pub RoomIs : Bytes → Room → Type 0
 RoomIs img Full = slotPlaceFor layout35 (disk img) ≡ refused directoryFull
 RoomIs img (At p) = PlaceReady img p
 
--- a store of a name and a kind that a call takes, on an image in which the check finds no fault; its directory has `count` sectors
-pub record StoreChecked (img name : Bytes) (kind : ℕ) (ss : List ℕ) (count : ℕ) : Type 0 where
+-- an image of bytes in which the check finds no fault; its directory's sectors on track 18 are the first `count` of ss (01, Order of the check)
+pub record DirectoryChecked (img ss : List ℕ) (count : ℕ) : Type 0 where
   pub slots : CheckedSlots img ss (8 * count)
   pub sectors : sectorsOf ss count ≡ directorySectors layout35 (disk img)
   pub whole : count ≤ length ss
   pub bytes : (i : ℕ) → byte img i < 256
+
+-- the same, and its map by value
+pub record RoomAsked (img ss : List ℕ) (count : ℕ) (es : Entries) : Type 0 where
+  pub directory : DirectoryChecked img ss count
+  pub entries : es ≡ mapEntries (disk img (sectorNumber layout35 mapAddress))
+
+-- a store of a name and a kind that a call takes on such an image
+pub record StoreChecked (img name : Bytes) (kind : ℕ) (ss : List ℕ) (count : ℕ) : Type 0 where
+  pub directory : DirectoryChecked img ss count
   pub asked : validNameArgument name ≡ true
   pub kindAsked : validKind kind ≡ true
 

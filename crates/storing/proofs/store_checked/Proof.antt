@@ -1,18 +1,14 @@
 -- `storing::store_checked` meets its contract. In order: the DOS version; the name; the rest.
+use mathlib.Core.Path.{_≡_, sym, _∙_}
+use mathlib.Core.Bool.{true}
 use borrow.Author.Tests.{not-true, not-false}
+use Rattle.d64spec.specs.Geometry.{layout35}
+use Rattle.d64spec.specs.Image.{disk}
+use Rattle.d64spec.specs.Reply.{writable}
 use Rattle.storing.proofs.DecisionLaws.{forbidden-reply, exists-reply, new-store}
 use borrow.Author.Needs.{needs}
 use Rattle.storing.proofs.store_checked.Statement.{statement}
 use Rattle.storing.proofs.store_checked.Tie as tie
-
-sub-may-write : tie.Need-sub-may-write
-sub-may-write c = search needs
-
-part-may-write-start : tie.Need-part-may-write-start
-part-may-write-start c = search needs
-
-part-may-write-end : tie.Need-part-may-write-end
-part-may-write-end c = search needs
 
 may-write-requires : tie.Need-may-write-requires
 may-write-requires c κs = search needs
@@ -25,23 +21,18 @@ same-length c = search needs
 
 returns : tie.Need-returns
 returns c =
-    let s = c .before .before .before .before .before .before .before .before in
-    forbidden-reply (s .pre) (s .args .content .now) (c .before .before .may-write .ensures) (not-true _ (c .before .if1 .taken)) (c .refuse .ensures)
+    let s = c .before .before .before .before .before .before .before in
+    forbidden-reply (s .pre) (s .args .content .now) (sym (c .before .before .may-write .ensures) ∙ not-true _ (c .before .if1 .taken)) (c .refuse .ensures)
 
-mul-end : tie.Need-mul-end
-mul-end c = search needs
+-- the DOS version allows writing
+allowed : (c : tie.Else1) → writable layout35 (disk (c .before .before .before .before .before .before .args .img .now)) ≡ true
+allowed c = sym (c .before .may-write .ensures) ∙ not-false _ (c .if1 .left)
 
-sub-find-named : tie.Need-sub-find-named
-sub-find-named c = search needs
+mul-is-new : tie.Need-mul-is-new
+mul-is-new c = search needs
 
-part-find-named-start : tie.Need-part-find-named-start
-part-find-named-start c = search needs
-
-part-find-named-end : tie.Need-part-find-named-end
-part-find-named-end c = search needs
-
-find-named-requires : tie.Need-find-named-requires
-find-named-requires c κs = search needs
+is-new-requires : tie.Need-is-new-requires
+is-new-requires c κs = search needs
 
 refuse-requires-2 : tie.Need-refuse-requires-2
 refuse-requires-2 c κs = search needs
@@ -51,14 +42,11 @@ same-length-2 c = search needs
 
 returns-2 : tie.Need-returns-2
 returns-2 c =
-    let e = c .before .before .before .before .before in
-    let s = e .before .before .before .before .before .before .before in
-    exists-reply (s .pre) (e .before .may-write .ensures) (not-false _ (e .if1 .left)) (c .before .before .find-named .ensures) (s .args .content .now) (c .before .if2 .taken) (c .refuse2 .ensures)
+    let s = c .before .before .before .before .before .before .before .before .before .before in
+    exists-reply (s .pre) (allowed (c .before .before .before .before)) (s .args .content .now) (sym (c .before .before .is-new .ensures) ∙ not-true _ (c .before .if2 .taken)) (c .refuse2 .ensures)
 
 store-new-requires : tie.Need-store-new-requires
-store-new-requires c κs =
-    let e = c .before .before .before .before .before in
-    new-store (e .before .before .before .before .before .before .before .pre) (e .before .may-write .ensures) (not-false _ (e .if1 .left)) (c .before .before .find-named .ensures) (c .before .if2 .left)
+store-new-requires c κs = new-store (c .before .before .before .before .before .before .before .before .before .before .pre) (allowed (c .before .before .before .before)) (sym (c .before .before .is-new .ensures) ∙ not-false _ (c .before .if2 .left))
 
 same-length-3 : tie.Need-same-length-3
 same-length-3 c = search needs
@@ -70,18 +58,12 @@ pub store-checked-spec : {M : Type 1} → statement M
 store-checked-spec =
     tie.close
     (tie.spec
-    sub-may-write
-    part-may-write-start
-    part-may-write-end
     may-write-requires
     refuse-requires
     same-length
     returns
-    mul-end
-    sub-find-named
-    part-find-named-start
-    part-find-named-end
-    find-named-requires
+    mul-is-new
+    is-new-requires
     refuse-requires-2
     same-length-2
     returns-2

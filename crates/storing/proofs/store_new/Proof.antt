@@ -6,32 +6,11 @@ use borrow.Author.Needs.{needs}
 use Rattle.storing.proofs.store_new.Statement.{statement}
 use Rattle.storing.proofs.store_new.Tie as tie
 
-sub-load-map : tie.Need-sub-load-map
-sub-load-map c = search needs
+map-of-requires : tie.Need-map-of-requires
+map-of-requires c κs = search needs
 
-part-load-map-start : tie.Need-part-load-map-start
-part-load-map-start c = search needs
-
-part-load-map-end : tie.Need-part-load-map-end
-part-load-map-end c = search needs
-
-load-map-requires : tie.Need-load-map-requires
-load-map-requires c κs = search needs
-
-sub-entry-room : tie.Need-sub-entry-room
-sub-entry-room c = search needs
-
-part-entry-room-start : tie.Need-part-entry-room-start
-part-entry-room-start c = search needs
-
-part-entry-room-end : tie.Need-part-entry-room-end
-part-entry-room-end c = search needs
-
-mul-entry-room : tie.Need-mul-entry-room
-mul-entry-room c = omega (arith, c .before .before .before .before .before .before .before .before .pre .checked .slots .few)
-
-entry-room-requires : tie.Need-entry-room-requires
-entry-room-requires c κs = search needs
+room-in-requires : tie.Need-room-in-requires
+room-in-requires c κs = search needs
 
 enum-told : tie.Need-enum-told
 enum-told c = search needs
@@ -44,26 +23,25 @@ enum-known-room c = search needs
 
 sub-store-placed : tie.Need-sub-store-placed
 sub-store-placed c =
-    let s = c .before .before .before .before .before .before .before .before .before .before .before .before .before .before in
-    omega (arith, count-some (s .args .img .now) (s .args .sectors .now) (s .args .count) (s .pre .checked .sectors))
+    let s = c .before .before .before .before .before .before .before .before .before .before .before .before in
+    omega (arith, count-some (s .args .img .now) (s .args .sectors .now) (s .args .count) (s .pre .checked .directory .sectors))
 
 element-copy-out-store-placed : tie.Need-element-copy-out-store-placed
-element-copy-out-store-placed c = omega (arith, c .before .before .before .before .before .before .before .before .before .before .before .before .before .before .pre .checked .slots .few)
+element-copy-out-store-placed c = search needs
 
 store-placed-requires : tie.Need-store-placed-requires
 store-placed-requires c κs =
     let r = c .before .before .before .before in
-    let n = r .before .before .before .before .before .before in
-    placed-store (n .before .before .before .before .before .before .pre) (n .load-map .ensures) (r .before .before .entry-room .ensures) (r .room .given .1)
+    let m = r .before .before .before .before .before in
+    placed-store (m .before .before .before .before .before .pre) (m .map-of .ensures) (r .before .before .room-in .ensures) (r .room .given .1)
 
 same-length : tie.Need-same-length
 same-length c = search needs
 
 returns : tie.Need-returns
 returns c =
-    let r = c .before .before .before in
-    let n = r .before .before .before .before in
-    full-reply (n .before .before .before .before .before .before .pre) (n .load-map .ensures) (r .entry-room .ensures) (n .before .before .before .before .before .before .args .content .now) (c .before .enum-told .given .1) (c .refuse .ensures)
+    let s = c .before .before .before .before .before .before .before .before .before .before .before in
+    full-reply (s .pre) (s .args .content .now) (c .before .before .before .room-in .ensures) (c .before .enum-told .given .1) (c .refuse .ensures)
 
 same-length-2 : tie.Need-same-length-2
 same-length-2 c = search needs
@@ -75,15 +53,8 @@ pub store-new-spec : {M : Type 1} → statement M
 store-new-spec =
     tie.close
     (tie.spec
-    sub-load-map
-    part-load-map-start
-    part-load-map-end
-    load-map-requires
-    sub-entry-room
-    part-entry-room-start
-    part-entry-room-end
-    mul-entry-room
-    entry-room-requires
+    map-of-requires
+    room-in-requires
     enum-told
     refuse-requires
     enum-known-room
