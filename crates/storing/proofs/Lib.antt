@@ -1,0 +1,5 @@
+pub mod SectorWriteLaws
+pub mod ChainWriteLaws
+pub mod EntryWriteLaws
+pub mod WriteReadyLaws
+pub mod FileWriteLaws
