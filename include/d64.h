@@ -1,8 +1,9 @@
 /*
- * d64.h - check, read and list D64 disk images of 35 tracks without error bytes.
+ * d64.h - check, format and list D64 disk images of 35 tracks without error bytes, and read, store and scratch the
+ * files on them.
  *
  * The caller lends all memory; the library allocates nothing and keeps nothing between calls. Every call but
- * d64_listing() runs the whole check itself, so d64_check() need not be called first.
+ * d64_format() and d64_listing() runs the whole check itself, so d64_check() need not be called first.
  *
  * Slices. Memory is lent as a pointer and a length in bytes. A null pointer with length 0 is an empty slice; any
  * other pointer is valid for its length. No memory that a call may write shares a byte with any other memory lent
@@ -74,6 +75,19 @@ enum d64_answer {
 uint32_t d64_check(const uint8_t *image, size_t image_len, uint8_t *answer, size_t answer_len);
 
 /*
+ * d64_format() makes the image a disk without files, whatever was on it. The disk's name is given without padding;
+ * its id is two bytes of any value. No check is run.
+ * Reads:   name.  Writes: image, answer.  No written buffer may overlap another buffer.
+ * Returns: D64_DONE, or the first that applies of D64_WRONG_SIZE (1), D64_BAD_NAME (9).
+ * Done:    image is a fresh disk: 18/0 has the map, DOS version $41, name and id, 18/1 is an empty directory, every
+ *          other sector is zero; answer has length 0 and 0 sectors.
+ * Refused: no byte of image changes; answer has the place of the fault, length 0 and 0 sectors.
+ * An answer_len other than 9 returns D64_SHORT before all else and writes nothing.
+ */
+uint32_t d64_format(uint8_t *image, size_t image_len, const uint8_t *name, size_t name_len,
+                    uint8_t id1, uint8_t id2, uint8_t *answer, size_t answer_len);
+
+/*
  * d64_read() copies the file 'name' to the start of 'out'. The name is given without padding; no byte of it stands
  * for another.
  * Reads:   image, name.  Writes: out, answer.  No written buffer may overlap another buffer.
@@ -86,6 +100,37 @@ uint32_t d64_check(const uint8_t *image, size_t image_len, uint8_t *answer, size
  */
 uint32_t d64_read(const uint8_t *image, size_t image_len, const uint8_t *name, size_t name_len,
                   uint8_t *out, size_t out_len, uint8_t *answer, size_t answer_len);
+
+/*
+ * d64_store() stores 'data' as a new file 'name' of kind 1 (SEQ), 2 (PRG) or 3 (USR). The name is given without
+ * padding. The file takes the first free sectors of tracks 17 down to 1, then 19 up to 35; a directory without an
+ * empty slot takes the lowest free sector of track 18.
+ * Reads:   image, name, data.  Writes: image, answer.  No written buffer may overlap another buffer.
+ * Returns: D64_DONE, or the first that applies of D64_WRONG_SIZE (1), D64_BAD_NAME (9), D64_BAD_KIND (10), a fault
+ *          that d64_check() finds (2 to 8), D64_READ_ONLY (11), D64_NAME_TAKEN (12), D64_DIRECTORY_FULL (14),
+ *          D64_DISK_FULL (15).
+ * Done:    the file's sectors, its slot, the map and, where the directory grew, the new directory sector and the
+ *          link to it are written, no other byte of image changes; answer has the file's length and its number of
+ *          sectors.
+ * Refused: no byte of image changes; answer has the place of the fault, length 0 and 0 sectors.
+ * An answer_len other than 9 returns D64_SHORT before all else and writes nothing.
+ */
+uint32_t d64_store(uint8_t *image, size_t image_len, const uint8_t *name, size_t name_len, uint32_t kind,
+                   const uint8_t *data, size_t data_len, uint8_t *answer, size_t answer_len);
+
+/*
+ * d64_scratch() removes the file 'name', locked or not, and leaves zeros where its bytes were. The name is given
+ * without padding; no byte of it stands for another.
+ * Reads:   image, name.  Writes: image, answer.  No written buffer may overlap another buffer.
+ * Returns: D64_DONE, or the first that applies of D64_WRONG_SIZE (1), D64_BAD_NAME (9), a fault that d64_check()
+ *          finds (2 to 8), D64_READ_ONLY (11), D64_NOT_FOUND (13).
+ * Done:    the file's sectors and bytes 2 to 31 of its slot are zero, the map has the sectors as free, no other
+ *          byte of image changes; answer has the length that the file had and its number of sectors.
+ * Refused: no byte of image changes; answer has the place of the fault, length 0 and 0 sectors.
+ * An answer_len other than 9 returns D64_SHORT before all else and writes nothing.
+ */
+uint32_t d64_scratch(uint8_t *image, size_t image_len, const uint8_t *name, size_t name_len,
+                     uint8_t *answer, size_t answer_len);
 
 /*
  * d64_tell() tells about the file at 'position', counted from 0 among the occupied slots, in 25 bytes:

@@ -9,16 +9,21 @@ use independent::sound::fresh_name;
 pub const FULL_BYTES: usize = 168_656;
 
 /// A full directory.
-const FILES: usize = 144;
+pub const FILES: usize = 144;
 
 /// Bytes of each of many files: one sector.
 const SMALL_BYTES: usize = 200;
 
-/// An image, and the name of its last file with its length.
+/// Bytes of a file of 332 sectors: half of those that files may take.
+const HALF_BYTES: usize = 332 * 254;
+
+/// An image, and the file that the call is about: the last one on it, or one
+/// that is to be stored.
+#[derive(Clone)]
 pub struct Disk {
     pub image: Vec<u8>,
     pub name: Vec<u8>,
-    pub length: usize,
+    pub data: Vec<u8>,
     pub files: usize,
 }
 
@@ -27,23 +32,24 @@ pub fn empty() -> Disk {
     assert_eq!(format(&mut image, b"BENCH", 0x30, 0x31).number, 0);
     Disk {
         image,
-        name: Vec::new(),
-        length: 0,
+        name: b"BENCH".to_vec(),
+        data: Vec::new(),
         files: 0,
     }
 }
 
-pub fn one_file(seed: u64, length: usize) -> Disk {
+/// One file that takes half of the disk.
+pub fn half(seed: u64) -> Disk {
     let mut disk = empty();
-    disk.add(&mut Rng::new(seed), b"FILE".to_vec(), length);
+    disk.add(&mut Rng::new(seed), b"HALF".to_vec(), HALF_BYTES);
     disk
 }
 
-/// 144 files with names that differ in their last bytes only.
-pub fn numbered(seed: u64) -> Disk {
+/// Files with names that differ in their last bytes only.
+pub fn numbered(seed: u64, files: usize) -> Disk {
     let rng = &mut Rng::new(seed);
     let mut disk = empty();
-    for file in 1..=FILES {
+    for file in 1..=files {
         disk.add(rng, format!("FILE {file:03}").into_bytes(), SMALL_BYTES);
     }
     disk
@@ -64,10 +70,27 @@ pub fn random_names(seed: u64) -> Disk {
 }
 
 impl Disk {
+    /// With one file more.
+    pub fn with(mut self, seed: u64, length: usize) -> Disk {
+        self.add(&mut Rng::new(seed), b"FILE".to_vec(), length);
+        self
+    }
+
+    /// With room for one file more, which is to be stored.
+    pub fn without(self, seed: u64, length: usize) -> Disk {
+        let Disk { image, files, .. } = self.clone();
+        let full = self.with(seed, length);
+        Disk {
+            image,
+            files,
+            ..full
+        }
+    }
+
     fn add(&mut self, rng: &mut Rng, name: Vec<u8>, length: usize) {
         let data = rng.bytes(length);
         assert_eq!(store(&mut self.image, &name, 2, &data).number, 0);
-        (self.name, self.length) = (name, length);
+        (self.name, self.data) = (name, data);
         self.files += 1;
     }
 }

@@ -3,13 +3,15 @@
 //! refuses nothing; a row over its limit is marked.
 
 mod disks;
+mod lent;
 mod measure;
 
 use boundary::archive::Archive;
 use boundary::calls::{EntryPoints, Faithful};
-use disks::{Disk, FULL_BYTES};
+use disks::{Disk, FILES, FULL_BYTES};
 use independent::geometry::IMAGE_BYTES;
-use measure::{measure, Call, Lent, Samples, Times, BATCHES};
+use lent::{Call, Lent};
+use measure::{measure, timer_cost, Samples, Times, BATCHES, IMAGES};
 
 /// The archive may take so many times what the independent program takes.
 const LIMIT_TO_INDEPENDENT: f64 = 1.1;
@@ -26,17 +28,24 @@ struct Row {
     limit_to_copy: Option<f64>,
 }
 
-fn rows(seed: u64) -> Vec<Row> {
-    let row = |what, disk, call, limit_to_copy| Row {
+fn row(what: &'static str, disk: Disk, call: Call, limit_to_copy: Option<f64>) -> Row {
+    Row {
         what,
         disk,
         call,
         limit_to_copy,
-    };
+    }
+}
+
+/// Calls that leave the image.
+fn reading_rows(seed: u64) -> Vec<Row> {
     let empty = disks::empty;
-    let small = || disks::one_file(seed, 5_000);
-    let full = || disks::one_file(seed, FULL_BYTES);
-    let (many, random) = (|| disks::numbered(seed), || disks::random_names(seed));
+    let small = || empty().with(seed, 5_000);
+    let full = || empty().with(seed, FULL_BYTES);
+    let (many, random) = (
+        || disks::numbered(seed, FILES),
+        || disks::random_names(seed),
+    );
     vec![
         row("check, empty disk", empty(), Call::Check, Some(0.2)),
         row("check, a file of 5,000", small(), Call::Check, Some(0.2)),
@@ -52,17 +61,45 @@ fn rows(seed: u64) -> Vec<Row> {
     ]
 }
 
-/// Both sides do the same thing, or there is nothing to compare.
-fn agree(row: &mut Row) {
+/// Calls that write it. The limits to a copy are one and a half times what
+/// careful C takes.
+fn writing_rows(seed: u64) -> Vec<Row> {
+    let store =
+        |what, disk: Disk, length, limit| row(what, disk.without(seed, length), Call::Store, limit);
+    let scratch =
+        |what, disk: Disk, length, limit| row(what, disk.with(seed, length), Call::Scratch, limit);
+    let (empty, half) = (disks::empty, || disks::half(seed));
+    let many = || disks::numbered(seed, FILES - 1);
+    vec![
+        row("format", empty(), Call::Format, Some(1.2)),
+        store("store 5,000, empty disk", empty(), 5_000, Some(0.135)),
+        store("store 5,000, half-full disk", half(), 5_000, None),
+        store("store 5,000, 143 files", many(), 5_000, None),
+        store("store 168,656", empty(), FULL_BYTES, Some(2.4)),
+        scratch("scratch 5,000, no other file", empty(), 5_000, Some(0.15)),
+        scratch("scratch 5,000, half-full disk", half(), 5_000, None),
+        scratch("scratch 5,000, 143 others", many(), 5_000, None),
+        scratch("scratch 168,656", empty(), FULL_BYTES, Some(3.0)),
+    ]
+}
+
+/// Both sides do the same thing, and what undoes it leaves the image as it
+/// was, or there is nothing to compare.
+fn agree(row: &Row) {
     let what = row.what;
-    let mut outcome = |library: &dyn EntryPoints| {
-        let mut lent = Lent::new(&mut row.disk);
-        let number = lent.run(library, row.call);
-        assert_eq!(number, 0, "{what} is refused");
-        lent.left()
+    let outcome = |library: &dyn EntryPoints| {
+        let mut lent = Lent::new(&row.disk, 1);
+        assert_eq!(lent.run(library, row.call, 0), 0, "{what} is refused");
+        lent
     };
-    let (archive, independent) = (outcome(&Archive), outcome(&Faithful));
+    let mut undone = outcome(&Faithful);
+    let (archive, independent) = (outcome(&Archive).left(), outcome(&Faithful).left());
     assert!(archive == independent, "{what}: the two differ");
+    if let Some(undo) = row.call.undone_by() {
+        assert_eq!(undone.run(&Faithful, undo, 0), 0, "{what} is not undone");
+        let same = undone.images()[0] == row.disk.image;
+        assert!(same, "{what} is undone to another image");
+    }
 }
 
 /// A number for the table, or nothing.
@@ -75,16 +112,17 @@ fn print_row(row: &Row, times: &Times) {
     let to_copy = times.archive / times.copy;
     let over = to_independent > LIMIT_TO_INDEPENDENT
         || row.limit_to_copy.is_some_and(|limit| to_copy > limit);
-    let file_copy = matches!(row.call, Call::Read).then_some(times.file_copy);
+    let copies = matches!(row.call, Call::Read | Call::Store);
+    let file_copy = copies.then_some(times.file_copy);
     println!(
-        "{:26}{:9.0}{:13.0}{:7.0}{:>11} |{to_independent:10.2}{LIMIT_TO_INDEPENDENT:7.2} \
+        "{:30}{:9.0}{:13.0}{:7.0}{:>11} |{to_independent:10.2}{LIMIT_TO_INDEPENDENT:7.2} \
          |{to_copy:11.3}{:>7} |{:10.3}{:>11}{}",
         row.what,
         times.archive,
         times.independent,
         times.copy,
         cell(file_copy, 0),
-        cell(row.limit_to_copy, 2),
+        cell(row.limit_to_copy, 3),
         times.independent / times.copy,
         cell(file_copy.map(|time| times.archive / time), 2),
         if over { "  over" } else { "" },
@@ -92,13 +130,24 @@ fn print_row(row: &Row, times: &Times) {
 }
 
 fn print_head(seed: u64) {
-    let batches = PASSES * BATCHES;
+    let (batches, timer) = (PASSES * BATCHES, timer_cost());
     println!(
         "seed {seed}; an image has {IMAGE_BYTES} bytes; ns per call, medians of {batches} batches"
     );
-    println!("buffers are lent as the call before left them; none is cleared first\n");
+    println!("buffers are lent as the call before left them; none is cleared first");
     println!(
-        "{:26}{:>9}{:>13}{:>7}{:>11} |{:>10}{:>7} |{:>11}{:>7} |{:>10}{:>11}",
+        "store and scratch change the image: each is timed on {IMAGES} equal images in one go, for \
+         168,656 bytes on one;"
+    );
+    println!(
+        "then the independent program undoes it, untimed, so that every call meets the same bytes"
+    );
+    println!(
+        "the timer shows {timer:.0} ns where nothing is timed; nothing is subtracted: 1/{IMAGES} of \
+         that is in these times\n"
+    );
+    println!(
+        "{:30}{:>9}{:>13}{:>7}{:>11} |{:>10}{:>7} |{:>11}{:>7} |{:>10}{:>11}",
         "",
         "archive",
         "independent",
@@ -115,12 +164,15 @@ fn print_head(seed: u64) {
 
 fn main() {
     let seed = std::env::var("SEED").map_or(1, |seed| seed.parse().expect("SEED is a number"));
-    let mut rows = rows(seed);
+    let rows: Vec<Row> = reading_rows(seed)
+        .into_iter()
+        .chain(writing_rows(seed))
+        .collect();
     let mut samples: Vec<Samples> = rows.iter().map(|_| Samples::default()).collect();
-    rows.iter_mut().for_each(agree);
+    rows.iter().for_each(agree);
     for pass in 0..=PASSES {
-        for (row, samples) in rows.iter_mut().zip(&mut samples) {
-            measure(&mut row.disk, row.call, samples);
+        for (row, samples) in rows.iter().zip(&mut samples) {
+            measure(&row.disk, row.call, samples);
             // The first pass only wakes the machine.
             if pass == 0 {
                 *samples = Samples::default();

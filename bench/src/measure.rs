@@ -3,11 +3,10 @@
 //! them; the median of each.
 
 use crate::disks::Disk;
+use crate::lent::{Call, Lent};
 use boundary::archive::Archive;
-use boundary::calls::{EntryPoints, Faithful, Slice};
-use independent::geometry::{IMAGE_BYTES, TRACK_18_BYTES, TRACK_18_OFFSET};
-use independent::host::{BLOCK_BYTES, ENTRY_BYTES};
-use independent::listing::LONGEST;
+use boundary::calls::{EntryPoints, Faithful};
+use independent::geometry::IMAGE_BYTES;
 use std::hint::black_box;
 use std::time::{Duration, Instant};
 
@@ -17,74 +16,11 @@ pub const BATCHES: usize = 101;
 /// A batch is as many calls as take about so long.
 const BATCH: Duration = Duration::from_micros(200);
 
-#[derive(Clone, Copy)]
-pub enum Call {
-    Check,
-    Read,
-    /// The last file of the disk.
-    Tell,
-    Listing,
-}
-
-/// All memory that a call is lent. The same bytes for both sides.
-pub struct Lent<'a> {
-    disk: &'a mut Disk,
-    out: Vec<u8>,
-    answer: [u8; BLOCK_BYTES],
-}
-
-fn slice_of(bytes: &mut [u8]) -> Slice {
-    Slice {
-        start: bytes.as_mut_ptr(),
-        len: bytes.len(),
-    }
-}
-
-impl<'a> Lent<'a> {
-    pub fn new(disk: &'a mut Disk) -> Lent<'a> {
-        let room = disk.length.max(LONGEST);
-        Lent {
-            disk,
-            out: vec![0x55; room],
-            answer: [0; BLOCK_BYTES],
-        }
-    }
-
-    /// Makes the call once and gives its number.
-    #[inline(always)]
-    pub fn run<L: EntryPoints + ?Sized>(&mut self, library: &L, call: Call) -> u32 {
-        let image = slice_of(&mut self.disk.image);
-        let name = slice_of(&mut self.disk.name);
-        let out = slice_of(&mut self.out);
-        let answer = slice_of(&mut self.answer);
-        // Four allocations, and the parts taken of them are inside.
-        unsafe {
-            match call {
-                Call::Check => library.check(image, answer),
-                Call::Read => library.read(image, name, out, answer),
-                Call::Tell => {
-                    let entry = Slice {
-                        len: ENTRY_BYTES,
-                        ..out
-                    };
-                    library.tell(image, self.disk.files - 1, entry, answer)
-                }
-                Call::Listing => {
-                    let track18 = Slice {
-                        start: image.start.add(TRACK_18_OFFSET),
-                        len: TRACK_18_BYTES,
-                    };
-                    library.listing(track18, out, answer)
-                }
-            }
-        }
-    }
-
-    /// What the call left.
-    pub fn left(self) -> (Vec<u8>, [u8; BLOCK_BYTES]) {
-        (self.out, self.answer)
-    }
-}
+/// A call that changes its image is timed on so many images in one go, so
+/// that they share the timer's cost. Where the file is large it is one, since
+/// several would not stay in the cache, and the timer's cost is nothing.
+pub const IMAGES: usize = 4;
+const LARGE: usize = 10_000;
 
 /// ns per call of each batch so far.
 #[derive(Default)]
@@ -101,7 +37,7 @@ pub struct Times {
     pub independent: f64,
     /// A copy of an image.
     pub copy: f64,
-    /// A copy of as many bytes as a read's file has.
+    /// A copy of as many bytes as the file has.
     pub file_copy: f64,
 }
 
@@ -135,52 +71,86 @@ impl Copy {
     }
 }
 
+/// The images that a row's call is lent in turn.
+fn images_for(disk: &Disk, call: Call) -> usize {
+    match call.undone_by() {
+        Some(_) if disk.data.len() < LARGE => IMAGES,
+        _ => 1,
+    }
+}
+
 /// One pass of a row: batches of each side in turn.
-pub fn measure(disk: &mut Disk, call: Call, samples: &mut Samples) {
+pub fn measure(disk: &Disk, call: Call, samples: &mut Samples) {
     let mut copy = Copy::of(IMAGE_BYTES);
-    let mut file = Copy::of(disk.length);
-    let mut lent = Lent::new(disk);
-    let calls = calls_per_batch(|| black_box(&mut lent).run(&Faithful, call));
-    let copies = calls_per_batch(|| copy.run());
-    let file_copies = calls_per_batch(|| file.run());
+    let mut file = Copy::of(disk.data.len());
+    let mut lent = Lent::new(disk, images_for(disk, call));
+    let turns = turns_per_batch(|turns| spent(turns, &mut lent, &Faithful, call));
+    let copies = turns_per_batch(|turns| elapsed(turns, || copy.run()));
+    let file_copies = turns_per_batch(|turns| elapsed(turns, || file.run()));
+    let per_call = |spent: Duration, calls: usize| spent.as_nanos() as f64 / calls as f64;
+    let calls = turns * lent.images().len();
     for batch in 0..BATCHES {
         // Neither side always comes after the copies.
         for archive in [batch % 2 == 0, batch % 2 == 1] {
             if archive {
-                let sample = time(calls, || black_box(&mut lent).run(&Archive, call));
-                samples.archive.push(sample);
+                let spent = spent(turns, &mut lent, &Archive, call);
+                samples.archive.push(per_call(spent, calls));
             } else {
-                let sample = time(calls, || black_box(&mut lent).run(&Faithful, call));
-                samples.independent.push(sample);
+                let spent = spent(turns, &mut lent, &Faithful, call);
+                samples.independent.push(per_call(spent, calls));
             }
         }
-        samples.copy.push(time(copies, || copy.run()));
-        samples.file_copy.push(time(file_copies, || file.run()));
+        let copied = elapsed(copies, || copy.run());
+        samples.copy.push(per_call(copied, copies));
+        let copied = elapsed(file_copies, || file.run());
+        samples.file_copy.push(per_call(copied, file_copies));
     }
 }
 
-/// How many calls take about a batch's time.
-fn calls_per_batch<T>(mut call: impl FnMut() -> T) -> usize {
-    let mut calls = 1;
-    loop {
-        let start = Instant::now();
-        for _ in 0..calls {
-            black_box(call());
-        }
-        if start.elapsed() >= BATCH / 2 {
-            return calls;
-        }
-        calls *= 2;
+/// How many turns take about a batch's time.
+fn turns_per_batch(mut time: impl FnMut(usize) -> Duration) -> usize {
+    let mut turns = 1;
+    while time(turns) < BATCH / 2 {
+        turns *= 2;
     }
+    turns
 }
 
-/// ns per call of one batch.
-fn time<T>(calls: usize, mut call: impl FnMut() -> T) -> f64 {
+/// What so many turns take, one after the other.
+fn elapsed<T>(turns: usize, mut turn: impl FnMut() -> T) -> Duration {
     let start = Instant::now();
-    for _ in 0..calls {
-        black_box(call());
+    for _ in 0..turns {
+        black_box(turn());
     }
-    start.elapsed().as_nanos() as f64 / calls as f64
+    start.elapsed()
+}
+
+/// What the call takes, in so many turns over all images. Where it changes
+/// them, the independent program undoes each turn, and that is not timed.
+#[inline(always)]
+fn spent<L: EntryPoints>(turns: usize, lent: &mut Lent, library: &L, call: Call) -> Duration {
+    let Some(undo) = call.undone_by() else {
+        return elapsed(turns, || black_box(&mut *lent).run(library, call, 0));
+    };
+    let images = lent.images().len();
+    let mut sum = Duration::ZERO;
+    for _ in 0..turns {
+        let start = Instant::now();
+        for image in 0..images {
+            black_box(black_box(&mut *lent).run(library, call, image));
+        }
+        sum += start.elapsed();
+        for image in 0..images {
+            black_box(&mut *lent).run(&Faithful, undo, image);
+        }
+    }
+    sum
+}
+
+/// What the timer shows where nothing is timed, in ns.
+pub fn timer_cost() -> f64 {
+    let empty = |_| Instant::now().elapsed().as_nanos() as f64;
+    median((0..10_001).map(empty).collect())
 }
 
 fn median(mut samples: Vec<f64>) -> f64 {

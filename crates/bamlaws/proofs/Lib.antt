@@ -1,5 +1,4 @@
-pub mod BitChangeLaws
-pub mod EntryChangeLaws
-pub mod MapChangeLaws
 pub mod SectorLaws
+pub mod EntryLaws
+pub mod StoredLaws
 pub mod FollowLaws

@@ -32,10 +32,10 @@ unfolding hostForm
 served-misfit img out block x misfit = record { reply = rw (ne-eqb (length block) 9 misfit) }
 
 -- nine bytes: what the library reported is what the host gets
-pub served-nine : (img out block : Bytes) (x : Result Change) (report : Report) (r : ℕ) (out′ block′ : Bytes) → length block ≡ 9
-    → replyOf report img out′ ≡ reply img out x → Given report block r block′ → HostServed (hostForm img out block x) r img out′ block′
+pub served-nine : (img out block : Bytes) (x : Result Change) (report : Report) (r : ℕ) (img′ out′ block′ : Bytes) → length block ≡ 9
+    → replyOf report img′ out′ ≡ reply img out x → Given report block r block′ → HostServed (hostForm img out block x) r img′ out′ block′
 unfolding hostForm answerBlock
-served-nine img out block x report r out′ block′ nine replied given =
+served-nine img out block x report r img′ out′ block′ nine replied given =
     let same = eq-eqb (length block) 9 nine in
     let number = rw same at (given .number) in
     let filled = rw same at (given .filled) in
@@ -52,11 +52,11 @@ host-call-form g img block c = refl
 pub call-misfit : (g : Geometry) (img block : Bytes) (c : Call) → (length block ≡ 9 → ⊥) → HostServed (hostCall g img block c) 16 img (outputBuffer c) block
 call-misfit g img block c misfit = rw (host-call-form g img block c) (served-misfit img (outputBuffer c) block (attempt g img c) misfit)
 
-pub call-nine : (g : Geometry) (img block : Bytes) (c : Call) (report : Report) (r : ℕ) (out′ block′ : Bytes) → length block ≡ 9
-    → replyOf report img out′ ≡ perform g img c → Given report block r block′ → HostServed (hostCall g img block c) r img out′ block′
+pub call-nine : (g : Geometry) (img block : Bytes) (c : Call) (report : Report) (r : ℕ) (img′ out′ block′ : Bytes) → length block ≡ 9
+    → replyOf report img′ out′ ≡ perform g img c → Given report block r block′ → HostServed (hostCall g img block c) r img′ out′ block′
 unfolding perform
-call-nine g img block c report r out′ block′ nine replied given =
-    rw (host-call-form g img block c) (served-nine img (outputBuffer c) block (attempt g img c) report r out′ block′ nine replied given)
+call-nine g img block c report r img′ out′ block′ nine replied given =
+    rw (host-call-form g img block c) (served-nine img (outputBuffer c) block (attempt g img c) report r img′ out′ block′ nine replied given)
 
 -- ---- check
 

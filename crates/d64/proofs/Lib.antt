@@ -1,2 +1,3 @@
 pub mod HostLaws
 pub mod TellLaws
+pub mod RunServed

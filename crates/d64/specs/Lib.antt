@@ -1,2 +1,3 @@
 pub mod HostForms
 pub mod HostCalls
+pub mod Runs

@@ -3,7 +3,7 @@
 ghost use mathlib.Core.Path.{_≡_};
 ghost use mathlib.Core.List.{[]};
 ghost use Rattle.d64spec.specs.Geometry.{layout35};
-ghost use Rattle.d64spec.specs.Call.{check, read};
+ghost use Rattle.d64spec.specs.Call.{check, format, read, store, scratch};
 ghost use Rattle.d64spec.specs.Host.{hostCall};
 ghost use Rattle.reading.specs.Replies.{informationOf};
 ghost use Rattle.d64.specs.HostForms.{entryBytes, hostTell, hostListing};
@@ -132,6 +132,8 @@ pub extern "C" fn d64_listing(track18: &[u8], text: &mut [u8], answer: &mut [u8]
     answers::give_answer(report, answer)
 }
 
+// Formats the image: an empty disk of this name and these two id bytes, every other byte of it 0. It reports length 0 and 0 sectors.
+// Refused with 1 or 9, in this order; a refusal leaves the image and reports 0 and 0.
 #[no_mangle]
 pub extern "C" fn d64_format(
     image: &mut [u8],
@@ -139,7 +141,9 @@ pub extern "C" fn d64_format(
     id1: u8,
     id2: u8,
     answer: &mut [u8],
-) -> u32 {
+) -> u32
+    ensures { λ r. ⌜ HostServed (hostCall layout35 (now (image .entry)) (now (answer .entry)) (format (now (name .entry)) id1 id2)) r (now (image .exit)) [] (now (answer .exit)) ⌝ }
+{
     if answer.len() != BLOCK_BYTES {
         return WRONG_BUFFER;
     }
@@ -147,6 +151,8 @@ pub extern "C" fn d64_format(
     answers::give_answer(report, answer)
 }
 
+// Stores a new file of this name, this kind and these bytes; reports its length and its number of sectors.
+// Refused with 1, 9, 10, 2 to 8, 11, 12, 14 or 15, in this order; a refusal leaves the image and reports 0 and 0.
 #[no_mangle]
 pub extern "C" fn d64_store(
     image: &mut [u8],
@@ -154,7 +160,9 @@ pub extern "C" fn d64_store(
     kind: u32,
     content: &[u8],
     answer: &mut [u8],
-) -> u32 {
+) -> u32
+    ensures { λ r. ⌜ HostServed (hostCall layout35 (now (image .entry)) (now (answer .entry)) (store (now (name .entry)) kind (now (content .entry)))) r (now (image .exit)) [] (now (answer .exit)) ⌝ }
+{
     if answer.len() != BLOCK_BYTES {
         return WRONG_BUFFER;
     }
@@ -162,8 +170,12 @@ pub extern "C" fn d64_store(
     answers::give_answer(report, answer)
 }
 
+// Scratches the file of this name: its sectors and its slot zeroed, its sectors free; reports its length and its number of sectors.
+// Refused with 1, 9, 2 to 8, 11 or 13, in this order; a refusal leaves the image and reports 0 and 0.
 #[no_mangle]
-pub extern "C" fn d64_scratch(image: &mut [u8], name: &[u8], answer: &mut [u8]) -> u32 {
+pub extern "C" fn d64_scratch(image: &mut [u8], name: &[u8], answer: &mut [u8]) -> u32
+    ensures { λ r. ⌜ HostServed (hostCall layout35 (now (image .entry)) (now (answer .entry)) (scratch (now (name .entry)))) r (now (image .exit)) [] (now (answer .exit)) ⌝ }
+{
     if answer.len() != BLOCK_BYTES {
         return WRONG_BUFFER;
     }

@@ -38,7 +38,7 @@ use Rattle.d64spec.proofs.ScratchLaws.{isOccupied, claimCount-of}
 use Rattle.d64spec.proofs.ScratchStep.{disk-step}
 
 -- a part of zeros
-part-zeros : (m k n : ℕ) → k + n ≤ m → take n (drop k (zeros m)) ≡ zeros n
+pub part-zeros : (m k n : ℕ) → k + n ≤ m → take n (drop k (zeros m)) ≡ zeros n
 part-zeros m k n h =
     let l : length (drop k (zeros m)) ≡ m - k = length-drop k (zeros m) ∙ ap (λ (x : ℕ). x - k) (length-replicate {A = ℕ} m 0) in
     let t : length (take n (drop k (zeros m))) ≡ n = length-take n (drop k (zeros m)) ∙ (omega arith) in

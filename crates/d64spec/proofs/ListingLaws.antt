@@ -125,7 +125,7 @@ text-length g d ss =
       length-take 2 (drop 0xA2 m),
     )
 
-filter-length : {A : Type 0} (p : A → Bool) (l : List A) → length (filter p l) ≤ length l
+pub filter-length : {A : Type 0} (p : A → Bool) (l : List A) → length (filter p l) ≤ length l
 filter-length p [] = omega arith
 filter-length p (x ∷ l) = go (p x) (filter-length p l)
   where

@@ -1,9 +1,10 @@
 -- Laws of `splice`: what stands in a list after some bytes of it are replaced.
 use Prim.Native.Nat.{ℕ, _+_, _-_, _≤_, _<_, min}
 use native.Mathlib.Omega.{arith}
+use native.Mathlib.Decide.{decLe}
 use mathlib.Core.Path.{_≡_, sym, ap, _∙_}
-use mathlib.Core.List.{List, _++_}
-use lib.ListN.{length, take, drop, getD, length-append, length-take, length-drop, List·getD-append}
+use mathlib.Core.List.{List, _++_, append-nil}
+use lib.ListN.{length, take, drop, getD, length-append, length-take, length-drop, drop-of-length-le, List·getD-append}
 use lib.Seq.{length-take-le, getD-take, getD-drop, getD-append-add, ext-getD}
 use Rattle.d64spec.specs.Lists.{splice}
 
@@ -55,3 +56,38 @@ module _ (s : List ℕ) (at : ℕ) (bs : List ℕ) (fits : at + length bs ≤ le
 
   pub part-in : take (length bs) (drop at (splice s at bs)) ≡ bs
   part-in = part-of-bytes (splice s at bs) at bs (omega (arith, length-splice s at bs fits)) (splice-in s at bs fits)
+
+-- all bytes replaced
+pub splice-all : (s bs : List ℕ) → length bs ≡ length s → splice s 0 bs ≡ bs
+splice-all s bs e = ap (λ (l : List ℕ). bs ++ l) (drop-of-length-le s {i = 0 + length bs} (omega arith)) ∙ append-nil bs
+
+-- bytes replaced inside a part
+module _ (s : List ℕ) (k w i : ℕ) (bs : List ℕ) (inside : k + w ≤ length s) (fits : i + length bs ≤ w) where
+  wide : length (take w (drop k s)) ≡ w
+  wide = length-take-le w (drop k s) (omega (arith, length-drop k s))
+
+  within : k + i + length bs ≤ length s
+  within = omega arith
+
+  pub part-splice : take w (drop k (splice s (k + i) bs)) ≡ splice (take w (drop k s)) i bs
+  part-splice =
+      let room : i + length bs ≤ length (take w (drop k s)) = omega (arith, wide) in
+      let same = length-splice s (k + i) bs within in
+      let l : length (take w (drop k (splice s (k + i) bs))) ≡ w = length-take-le w (drop k (splice s (k + i) bs)) (omega (arith, length-drop k (splice s (k + i) bs))) in
+      ext-getD 0 (take w (drop k (splice s (k + i) bs))) (splice (take w (drop k s)) i bs) (l ∙ sym (length-splice (take w (drop k s)) i bs room ∙ wide))
+      (λ j h. getD-take w (drop k (splice s (k + i) bs)) j 0 (omega arith) ∙ getD-drop k (splice s (k + i) bs) j 0 ∙ at j (omega arith) room)
+    where
+      old : (j : ℕ) → j < w → getD s (k + j) 0 ≡ getD (take w (drop k s)) j 0
+      old j h = sym (getD-take w (drop k s) j 0 h ∙ getD-drop k s j 0)
+
+      at : (j : ℕ) → j < w → i + length bs ≤ length (take w (drop k s)) → getD (splice s (k + i) bs) (k + j) 0 ≡ getD (splice (take w (drop k s)) i bs) j 0
+      at j h room = elim (decLe (i + length bs) j) [
+        | yes a ↦ splice-after s (k + i) bs within (k + j) (omega arith) ∙ old j h ∙ sym (splice-after (take w (drop k s)) i bs room j a)
+        | no a ↦ elim (decLe i j) [
+          | yes c ↦ (let e : k + i + (j - i) ≡ k + j = omega arith in
+              let f : i + (j - i) ≡ j = omega arith in
+              ap (λ (n : ℕ). getD (splice s (k + i) bs) n 0) (sym e) ∙ splice-in s (k + i) bs within (j - i) (omega arith)
+              ∙ sym (splice-in (take w (drop k s)) i bs room (j - i) (omega arith)) ∙ ap (λ (n : ℕ). getD (splice (take w (drop k s)) i bs) n 0) f)
+          | no c ↦ splice-before s (k + i) bs within (k + j) (omega arith) ∙ old j h ∙ sym (splice-before (take w (drop k s)) i bs room j (omega arith))
+        ]
+      ]

@@ -1,22 +1,22 @@
 -- Track 18 of an image, as the code lends it: 4,864 bytes from byte 91,392 on (01, Tracks and sectors: 18/0 is 357).
--- In order: the parts that are lent; a slot in them; the occupied slots of the image are those of its track 18.
+-- In order: the parts that are lent; a slot in them; the slots of the image are those of its track 18.
 use Prim.Native.Nat.{ℕ, zero, suc, _*_, _/_, _≤_, _<_}
 use native.Mathlib.Omega.{arith}
 use mathlib.Core.Path.{_≡_, refl, sym, ap, _∙_}
 use mathlib.Core.Bool.{not}
-use mathlib.Core.List.{List, [], _∷_}
+use mathlib.Core.List.{List, [], _∷_, map}
 use lib.ListN.{length, take, drop, length-take, length-map}
-use Rattle.d64spec.specs.Lists.{Bytes, All, filter}
+use Rattle.d64spec.specs.Lists.{Bytes, All, filter, range}
 use Rattle.d64spec.specs.Answers.{address}
 use Rattle.d64spec.specs.Geometry.{layout35, sectorNumber, firstOn, sectorsOn, mapAddress}
 use Rattle.d64spec.specs.Image.{disk}
-use Rattle.d64spec.specs.Directory.{isEmpty, occupiedIn}
+use Rattle.d64spec.specs.Directory.{isEmpty, slotsFrom, occupiedIn}
 use Rattle.d64spec.specs.Listing.{bytesOfTrack18, diskOfTrack18}
 use Rattle.d64spec.proofs.FrameLaws.{same-slots}
 use Rattle.d64spec.proofs.ListingTheorem.{track18-length, track18-sectors}
 use Rattle.directory.specs.Directories.{sectorsOf, slotBytes, occupiedFrom, IsSlot}
 use Rattle.directory.proofs.SearchLaws.{sector-lt}
-use Rattle.directory.proofs.SlotListLaws.{disk-of-track18, occupied-by-number}
+use Rattle.directory.proofs.SlotListLaws.{disk-of-track18, slots-by-number}
 use Rattle.directory.proofs.Track18Laws.{number-18}
 use Rattle.diskcheck.specs.SlotChecks.{imageSlot, imageOccupied, LentSlot}
 
@@ -40,7 +40,7 @@ slot-lent {img} {ss} {k} {b} size inside s =
       full = s .full (ap length (track18-lent img) ∙ track18-length img size) (sector-lt ss inside (k / 8));
     }
 
--- ---- the directory's sectors and the occupied slots
+-- ---- the directory's sectors and its slots
 
 -- as many sectors as are counted
 pub sectorsOf-whole : (ss : List ℕ) (n : ℕ) → n ≡ length (sectorsOf ss n) → n ≤ length ss
@@ -57,9 +57,13 @@ module _ (img : Bytes) where
   sectors-same [] (suc n) a = tt
   sectors-same (s ∷ ss) (suc n) a = (sector-same s (a .0), sectors-same ss n (a .1))
 
-  -- THE OCCUPIED SLOTS of an image, by the numbers of the slots on its track 18
+  -- THE SLOTS of an image, by their numbers on its track 18
+  pub slots-by-track18 : (ss : List ℕ) (n : ℕ) → All (λ s. s < 19) ss → n ≤ length ss → slotsFrom layout35 (disk img) 0 (sectorsOf ss n) ≡ map (imageSlot img ss) (range 0 (8 * n))
+  slots-by-track18 ss n a h =
+      sym (same-slots layout35 (disk img) (diskOfTrack18 layout35 (bytesOfTrack18 layout35 img)) 0 (sectorsOf ss n) (sectors-same ss n a))
+      ∙ slots-by-number (bytesOfTrack18 layout35 img) ss n h
+
+  -- and the occupied ones
   pub occupied-by-track18 : (ss : List ℕ) (n : ℕ) → All (λ s. s < 19) ss → n ≤ length ss → occupiedIn layout35 (disk img) (sectorsOf ss n) ≡ imageOccupied img ss 0 (8 * n)
   unfolding occupiedFrom
-  occupied-by-track18 ss n a h =
-      ap (filter (λ s. not (isEmpty (s .bytes)))) (sym (same-slots layout35 (disk img) (diskOfTrack18 layout35 (bytesOfTrack18 layout35 img)) 0 (sectorsOf ss n) (sectors-same ss n a)))
-      ∙ occupied-by-number (bytesOfTrack18 layout35 img) ss n h
+  occupied-by-track18 ss n a h = ap (filter (λ s. not (isEmpty (s .bytes)))) (slots-by-track18 ss n a h)

@@ -1,15 +1,57 @@
 // Format (01, What the calls do): an image all zero except 18/0 and 18/1. It runs no check; only 1 and 9 refuse it.
 ghost use mathlib.Core.Path.{_≡_};
-ghost use mathlib.Core.List.{[]};
+ghost use mathlib.Core.List.{[], map};
+ghost use Prim.Native.Nat.{_≤_};
 ghost use lib.ListN.{length};
-ghost use Rattle.d64spec.specs.Lists.{zeros};
+ghost use Rattle.d64spec.specs.Lists.{range, zeros};
 ghost use Rattle.d64spec.specs.Geometry.{layout35};
-ghost use Rattle.d64spec.specs.Format.{formattedMap, emptyDirectorySector};
+ghost use Rattle.d64spec.specs.Image.{image};
+ghost use Rattle.d64spec.specs.Map.{expectedEntry};
+ghost use Rattle.d64spec.specs.Format.{formatHeader, formattedDisk, formattedMap, freeAfterFormat};
 ghost use Rattle.d64spec.specs.Call.{format, perform};
 ghost use Rattle.answers.specs.Faults.{replyOf};
 use answers::Fault;
 use answers::Report;
 use answers::Verdict;
+
+// The map of a fresh disk, from track 1 on: each track's count of free sectors and three bitmap bytes, with all free but 18/0 and 18/1.
+const FRESH_MAP: [[u8; 4]; 35] = [
+    [21, 0xFF, 0xFF, 0x1F],
+    [21, 0xFF, 0xFF, 0x1F],
+    [21, 0xFF, 0xFF, 0x1F],
+    [21, 0xFF, 0xFF, 0x1F],
+    [21, 0xFF, 0xFF, 0x1F],
+    [21, 0xFF, 0xFF, 0x1F],
+    [21, 0xFF, 0xFF, 0x1F],
+    [21, 0xFF, 0xFF, 0x1F],
+    [21, 0xFF, 0xFF, 0x1F],
+    [21, 0xFF, 0xFF, 0x1F],
+    [21, 0xFF, 0xFF, 0x1F],
+    [21, 0xFF, 0xFF, 0x1F],
+    [21, 0xFF, 0xFF, 0x1F],
+    [21, 0xFF, 0xFF, 0x1F],
+    [21, 0xFF, 0xFF, 0x1F],
+    [21, 0xFF, 0xFF, 0x1F],
+    [21, 0xFF, 0xFF, 0x1F],
+    [17, 0xFC, 0xFF, 0x07],
+    [19, 0xFF, 0xFF, 0x07],
+    [19, 0xFF, 0xFF, 0x07],
+    [19, 0xFF, 0xFF, 0x07],
+    [19, 0xFF, 0xFF, 0x07],
+    [19, 0xFF, 0xFF, 0x07],
+    [19, 0xFF, 0xFF, 0x07],
+    [18, 0xFF, 0xFF, 0x03],
+    [18, 0xFF, 0xFF, 0x03],
+    [18, 0xFF, 0xFF, 0x03],
+    [18, 0xFF, 0xFF, 0x03],
+    [18, 0xFF, 0xFF, 0x03],
+    [18, 0xFF, 0xFF, 0x03],
+    [17, 0xFF, 0xFF, 0x01],
+    [17, 0xFF, 0xFF, 0x01],
+    [17, 0xFF, 0xFF, 0x01],
+    [17, 0xFF, 0xFF, 0x01],
+    [17, 0xFF, 0xFF, 0x01],
+];
 
 // Sets every byte to 0.
 fn clear_all(img: &mut [u8])
@@ -22,47 +64,64 @@ fn clear_all(img: &mut [u8])
     }
 }
 
-// A full entry's bitmap: as many ones as the track has sectors.
-fn full_bits(sectors: u8) -> u32 {
-    (1 << sectors) - 1
+// The map of a fresh disk.
+fn fresh_map() -> [[u8; 4]; 35]
+    ensures { λ r. ⌜ r ≡ map (expectedEntry layout35 (freeAfterFormat layout35)) (range 1 35) ⌝ }
+{
+    FRESH_MAP
 }
 
-// 18/0 of a fresh disk.
-fn map_sector(name: &[u8], id1: u8, id2: u8) -> [u8; 256] {
+// 18/0 of a fresh disk but for the map: each run of bytes at its offset, zero elsewhere.
+fn fresh_header(name: &[u8], id1: u8, id2: u8) -> [u8; 256]
+    requires { ⌜ length (now name) ≤ 16 ⌝ }
+    ensures { λ r. ⌜ r ≡ formatHeader (now (name .entry)) id1 id2 ⌝ }
+{
     let mut m = [0u8; 256];
-    let mut t: u8 = 1;
-    while t <= 35 {
-        let n = geometry::sectors_on(t);
-        let mut bits = full_bits(n);
-        let mut count = n;
-        if t == 18 {
-            bits -= 3;
-            count -= 2;
-        }
-        let a = 4 * (t as usize);
-        m[a] = count;
-        m[a + 1] = (bits % 256) as u8;
-        m[a + 2] = (bits / 256 % 256) as u8;
-        m[a + 3] = (bits / 65536 % 256) as u8;
-        t += 1;
-    }
-    m[0] = 0x12;
-    m[1] = 1;
-    m[2] = 0x41;
-    let mut i: usize = 0x90;
-    while i < 0xAB {
-        m[i] = 0xA0;
-        i += 1;
-    }
-    bytes::copy(name, &mut m[0x90..0xA0]);
-    m[0xA2] = id1;
-    m[0xA3] = id2;
-    m[0xA5] = 0x32;
-    m[0xA6] = 0x41;
+    parts::overwrite(&mut m, 0x00, &[0x12, 0x01, 0x41, 0x00]);
+    parts::overwrite(&mut m, 0x90, &names::padded_name(name));
+    parts::overwrite(
+        &mut m,
+        0xA0,
+        &[
+            0xA0,
+            0xA0,
+            id1,
+            id2,
+            0xA0,
+            0x32,
+            0x41,
+            0xA0,
+            0xA0,
+            0xA0,
+            0xA0,
+        ],
+    );
     m
 }
 
-// Formats the image.
+// 18/0 of a fresh disk.
+fn fresh_map_sector(name: &[u8], id1: u8, id2: u8) -> [u8; 256]
+    requires { ⌜ length (now name) ≤ 16 ⌝ }
+    ensures { λ r. ⌜ r ≡ formattedMap layout35 (now (name .entry)) id1 id2 ⌝ }
+{
+    let mut m = fresh_header(name, id1, id2);
+    mapsector::store_map(fresh_map(), &mut m);
+    m
+}
+
+// Writes a fresh disk over an image of the right size: zeros, then 18/1, then 18/0.
+fn write_fresh(img: &mut [u8], name: &[u8], id1: u8, id2: u8)
+    requires { ⌜ (length (now img) ≡ 174848) × (length (now name) ≤ 16) ⌝ }
+    ensures { λ _. ⌜ now (img .exit) ≡ image layout35 (formattedDisk layout35 (now (name .entry)) id1 id2) ⌝ }
+{
+    clear_all(img);
+    let first = sectors::empty_directory_sector();
+    sectors::write_sector(img, 358, &first);
+    let m = fresh_map_sector(name, id1, id2);
+    sectors::write_sector(img, 357, &m);
+}
+
+// Formats an image: all zero except 18/0 and 18/1. Refused with 1 or 9, in this order; a refusal leaves the image as it was.
 pub fn format_image(img: &mut [u8], name: &[u8], id1: u8, id2: u8) -> Report
     ensures { λ r. ⌜ replyOf r (now (img .exit)) [] ≡ perform layout35 (now (img .entry)) (format (now (name .entry)) id1 id2) ⌝ }
 {
@@ -72,9 +131,6 @@ pub fn format_image(img: &mut [u8], name: &[u8], id1: u8, id2: u8) -> Report
     if !names::valid_name_argument(name) {
         return answers::refuse(Fault::BadNameArgument);
     }
-    clear_all(img);
-    let m = map_sector(name, id1, id2);
-    sectors::write_sector(img, 357, &m);
-    img[91649] = 0xFF;
+    write_fresh(img, name, id1, id2);
     answers::report_of(Verdict::Fine)
 }

@@ -1,4 +1,3 @@
-pub mod MaskLaws
 pub mod SurveyLaws
 pub mod TrackLaws
 pub mod StepLaws

@@ -6,8 +6,9 @@ use mathlib.Core.Path.{_≡_, refl, sym, ap, _∙_, fun-ext}
 use mathlib.Core.Bool.{Bool, true, false, _&&_, not}
 use mathlib.Core.List.{List, [], _∷_}
 use lib.ListN.{length, getD}
-use lib.Dec.{eqb, ltb}
-use Rattle.d64spec.specs.Lists.{Bytes, byte, indicator, range, filter}
+use lib.Dec.{eqb}
+use borrow.Author.Tests.{lt-ltb}
+use Rattle.d64spec.specs.Lists.{Bytes, byte, range, filter}
 use Rattle.d64spec.specs.Answers.{Address, address, Result, done, refused, need, _>>_, wrongMapEntry}
 use Rattle.d64spec.specs.Geometry.{Geometry, layout35, tracks, sectorsOn, sectorNumber, mapAddress, onDisk}
 use Rattle.d64spec.specs.Image.{Disk}
@@ -19,6 +20,7 @@ use Rattle.mapentry.proofs.ShapeLaws.{EntryShape}
 use Rattle.mapsector.specs.MapSector.{mapEntry, mapEntries}
 use Rattle.mapsector.proofs.MapShapeLaws.{MapShape}
 use Rattle.bamlaws.proofs.SectorLaws.{entry-at-map-entries}
+use Rattle.bamlaws.proofs.EntryLaws.{expected-bit-same}
 use Rattle.mapcheck.specs.MapChecks.{trackCorrect, mapVerdict}
 use Rattle.mapcheck.proofs.TrackLaws.{track-same}
 
@@ -33,12 +35,8 @@ module _ (g : Geometry) where
 
   module _ {f h : Address → Bool} (same : (r : Address) → onDisk g r ≡ true → f r ≡ h r) where
     expected-same : (t s : ℕ) → expectedBit g f t s ≡ expectedBit g h t s
-    unfolding expectedBit onDisk
-    expected-same t s = ap indicator (go (ltb s (sectorsOn g t)) refl)
-      where
-        go : (b : Bool) → ltb s (sectorsOn g t) ≡ b → (b && f (address t s)) ≡ (b && h (address t s))
-        go true on = same (address t s) on
-        go false off = refl
+    unfolding onDisk
+    expected-same t s = expected-bit-same g f h t s (λ on. same (address t s) (lt-ltb s (sectorsOn g t) on))
 
     entry-same : (m : Bytes) (t : ℕ) → entryCorrect g f m t ≡ entryCorrect g h m t
     unfolding entryCorrect wrongBits

@@ -1,9 +1,8 @@
 -- What the survey of a track's sectors keeps: the bits and the count of the sectors passed.
 -- In order: one bit; the sizes; the loop; a track without an owner; four bytes of the table at once. Assumes nothing.
-use Prim.Native.Nat.{ℕ, zero, suc, _+_, _-_, _*_, _%_, _^_, _≤_, _<_}
+use Prim.Native.Nat.{ℕ, zero, suc, _+_, _-_, _*_, _^_, _≤_, _<_}
 use native.Mathlib.Omega.{arith}
 use native.Mathlib.Decide.{ℕ-discrete, decLe}
-use native.Mathlib.Nat.{pow-le-pow-right}
 use native.Mathlib.Numerals.{add-one}
 use mathlib.Core.Path.{_≡_, refl, sym, ap, _∙_}
 use mathlib.Core.Bool.{Bool, true, false, _&&_}
@@ -13,18 +12,12 @@ use lib.Pow.{pow-pos}
 use lib.Dec.{eqb, leb}
 use borrow.Author.Tests.{eq-eqb, ne-eqb, le-leb, lt-leb, eqb-true, eqb-false}
 use Rattle.d64spec.specs.Lists.{indicator, range, sum}
-use Rattle.mapentry.proofs.OnesLaws.{sum-map-last, sum-map-le}
+use Rattle.mapentry.specs.MapEntry.{binary}
+use Rattle.mapentry.proofs.SumLaws.{sum-map-last, sum-map-le}
+use Rattle.mapentry.proofs.BinaryLaws.{power-le, binary-more, binary-lt}
 use Rattle.parts.specs.Numbers.{fourOf, IsFour}
 use Rattle.parts.proofs.NumberLaws.{each-four}
-use Rattle.mapcheck.specs.MapChecks.{binary, freeBit, freeMask, freeCount, Surveyed, unownedTrack}
-use Rattle.mapcheck.proofs.MaskLaws.{binary-more, binary-lt}
-
-power-le : (s : ℕ) → s ≤ 24 → 2 ^ s ≤ 16777216
-power-le s h = pow-le-pow-right {n = 2} (omega arith) h
-
--- a bit up to 24 is not shifted out of 32
-pub shifted : (s : ℕ) → s ≤ 24 → 1 * 2 ^ s % 4294967296 ≡ 2 ^ s
-shifted s h = omega (arith, power-le s h)
+use Rattle.mapcheck.specs.MapChecks.{freeBit, freeMask, freeCount, Surveyed, unownedTrack}
 
 module _ (own : List ℕ) (first : ℕ) where
   indicator-le : (b : Bool) → indicator b ≤ 1

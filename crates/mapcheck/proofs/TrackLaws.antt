@@ -16,14 +16,14 @@ use Rattle.d64spec.proofs.MapLaws.{filter-none, none-filter, range-at, range-al
 use Rattle.d64spec.proofs.MapWriteLaws.{sum-same, bit-le}
 use Rattle.d64spec.proofs.RunTheorem.{valid35}
 use Rattle.owners.specs.OwnerTable.{freeBy}
-use Rattle.mapentry.specs.MapEntry.{entryBit}
+use Rattle.mapentry.specs.MapEntry.{entryBit, binary, bitmapOf}
 use Rattle.mapentry.proofs.ShapeLaws.{EntryShape}
-use Rattle.mapentry.proofs.OnesLaws.{entry-bit-le}
+use Rattle.mapentry.proofs.BitLaws.{entry-bit-le}
+use Rattle.mapentry.proofs.BinaryLaws.{binary-same, bits-same, binary-past, bitmap-binary}
 use Rattle.mapsector.specs.MapSector.{mapEntry, fourBytes}
-use Rattle.bamlaws.proofs.EntryChangeLaws.{bit-map-entry}
-use Rattle.mapcheck.specs.MapChecks.{binary, freeBit, freeMask, freeCount, Surveyed, bitmapOf, trackCorrect}
+use Rattle.bamlaws.proofs.SectorLaws.{bit-map-entry}
+use Rattle.mapcheck.specs.MapChecks.{freeBit, freeMask, freeCount, Surveyed, trackCorrect}
 use Rattle.mapcheck.specs.declared.FreeSectors.{FreeSectors}
-use Rattle.mapcheck.proofs.MaskLaws.{binary-same, bits-same, binary-past, bitmap-binary}
 
 -- ---- tests
 

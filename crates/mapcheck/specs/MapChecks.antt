@@ -1,7 +1,7 @@
 -- Step 4 of the check on the map sector alone, against the owner table (01, Order of the check, 4; The map).
--- In order: a track's free sectors as a number and how many they are; an entry's bitmap as a number; the step.
--- Laws: proofs/MaskLaws (numbers are equal exactly where all their bits are), TrackLaws (a track's test is d64spec's), StepLaws (so is the step).
-use Prim.Native.Nat.{ℕ, _+_, _*_, _^_}
+-- In order: a track's free sectors as a number and how many they are; an entry's test; the step. Numbers made of bits: mapentry's `binary`.
+-- Laws: proofs/SurveyLaws (the free sectors), TrackLaws (a track's test is d64spec's), StepLaws (so is the step).
+use Prim.Native.Nat.{ℕ, _+_}
 use mathlib.Core.Path.{_≡_}
 use mathlib.Core.Bool.{Bool, _&&_}
 use mathlib.Core.List.{List, map}
@@ -12,11 +12,8 @@ use Rattle.d64spec.specs.Answers.{Result}
 use Rattle.d64spec.specs.Geometry.{layout35, tracks, firstOn, sectorsOn}
 use Rattle.d64spec.specs.Check.{checkMap}
 use Rattle.owners.specs.OwnerTable.{freeBy}
+use Rattle.mapentry.specs.MapEntry.{binary, bitmapOf}
 use Rattle.mapcheck.specs.declared.FreeSectors.{FreeSectors}
-
--- the number whose bit s is f s, for each s below n
-unfoldable pub binary : (ℕ → ℕ) → ℕ → ℕ
-binary f n = sum (map (λ s. f s * 2 ^ s) (range 0 n))
 
 -- 1 where nobody owns the sector s past number `first`, else 0
 unfoldable pub freeBit : List ℕ → ℕ → ℕ → ℕ
@@ -38,10 +35,6 @@ pub record Surveyed (own : List ℕ) (first n : ℕ) (r : FreeSectors) : Type 0 
 -- whether nobody owns any of the n sectors from number `first` on, where these are 16 to 24 and lie in the table
 unfoldable pub unownedTrack : List ℕ → ℕ → ℕ → Bool
 unownedTrack own first n = leb 16 n && leb n 24 && leb (first + n) (length own) && eqb (freeCount own first n) n
-
--- the three bitmap bytes of an entry as a number: bit s for sector s (01, The map)
-unfoldable pub bitmapOf : Bytes → ℕ
-bitmapOf e = byte e 1 + 256 * byte e 2 + 65536 * byte e 3
 
 -- whether an entry marks exactly the sectors of its track that nobody owns, and counts them
 unfoldable pub trackCorrect : Bytes → List ℕ → ℕ → Bool

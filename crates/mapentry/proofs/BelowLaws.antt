@@ -12,11 +12,11 @@ abbrev pub below : ℕ → (ℕ → Bool) → Bool
 below zero f = true
 below (suc n) f = below n f && f n
 
-pub and-left : (a b : Bool) → T (a && b) → T a
+and-left : (a b : Bool) → T (a && b) → T a
 and-left true b t = tt
 and-left false b t = t
 
-pub and-right : (a b : Bool) → T (a && b) → T b
+and-right : (a b : Bool) → T (a && b) → T b
 and-right true b t = t
 and-right false b t = absurd t
 

@@ -1,4 +1,6 @@
 pub mod BelowLaws
 pub mod BitLaws
+pub mod SumLaws
+pub mod BinaryLaws
 pub mod ShapeLaws
-pub mod OnesLaws
+pub mod MoveLaws

@@ -1,11 +1,9 @@
 -- One entry of the block availability map (01, The map, 18/0): four bytes, a count of free sectors and three bytes of bitmap.
--- In order: a bit of a byte, read and made; an entry's bits and ones; an entry changed; the entries of all tracks.
--- A list has nothing past its end, so there is no bit from sector 24 on: read it is 0, and made it leaves the entry as it is.
--- Laws: proofs/BitLaws (a byte), OnesLaws (bits and ones), ShapeLaws (four bytes).
+-- In order: a bit of a byte, and of an entry; numbers made of bits; the bitmap as a number; a mark moved; the entries of all tracks.
+-- Laws: proofs/BitLaws (a byte), BinaryLaws (numbers made of bits, the bitmap), ShapeLaws (four bytes).
 use Prim.Native.Nat.{ℕ, _+_, _-_, _*_, _/_, _%_, _^_}
 use mathlib.Core.Bool.{Bool, cond}
 use mathlib.Core.List.{List, [], _∷_, map}
-use lib.ListN.{set}
 use lib.Dec.{ltb}
 use Rattle.d64spec.specs.Lists.{Bytes, byte, sum, range}
 
@@ -13,25 +11,13 @@ use Rattle.d64spec.specs.Lists.{Bytes, byte, sum, range}
 unfoldable pub bitOf : ℕ → ℕ → ℕ
 bitOf b k = b / 2 ^ k % 2
 
--- the byte with bit k made v, which is 0 or 1
-unfoldable pub withBit : ℕ → ℕ → ℕ → ℕ
-withBit b k v = b - bitOf b k * 2 ^ k + v * 2 ^ k
-
 -- the bit for sector s (01, The map): bit (s mod 8) of byte 1 + (s div 8) of the entry
 unfoldable pub entryBit : Bytes → ℕ → ℕ
 entryBit e s = bitOf (byte e (1 + s / 8)) (s % 8)
 
--- the number of ones among the first n bits (01, The map: the count)
-unfoldable pub entryOnes : Bytes → ℕ → ℕ
-entryOnes e n = sum (map (entryBit e) (range 0 n))
-
--- the entry with the bit for sector s made v (01, Store and Scratch: the map follows); its count byte stays
-unfoldable pub markedEntry : Bytes → ℕ → ℕ → Bytes
-markedEntry e s v = set e (1 + s / 8) (withBit (byte e (1 + s / 8)) (s % 8) v)
-
--- the entry with its count set to the ones among its first n bits, whatever it was; its bits stay
-unfoldable pub countedEntry : Bytes → ℕ → Bytes
-countedEntry e n = set e 0 (entryOnes e n)
+-- the number whose bit s is f s, for each s below n
+unfoldable pub binary : (ℕ → ℕ) → ℕ → ℕ
+binary f n = sum (map (λ s. f s * 2 ^ s) (range 0 n))
 
 -- the three bitmap bytes of an entry as a number: bit s for sector s (01, The map)
 unfoldable pub bitmapOf : Bytes → ℕ

@@ -15,7 +15,7 @@ use Rattle.d64spec.specs.Lists.{Bytes, byte, join, splice}
 abbrev pub Fours : List Bytes → Type 0
 Fours es = (i : ℕ) → i < length es → length (getD es i []) ≡ 4
 
-pub fours-tail : (e : Bytes) (es : List Bytes) → Fours (e ∷ es) → Fours es
+fours-tail : (e : Bytes) (es : List Bytes) → Fours (e ∷ es) → Fours es
 fours-tail e es fours i h = fours (suc i) (omega arith)
 
 pub join-take-more : (es : List Bytes) (i : ℕ) → i < length es → join (take (suc i) es) ≡ join (take i es) ++ getD es i []

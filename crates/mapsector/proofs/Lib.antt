@@ -3,3 +3,4 @@ pub mod JoinLaws
 pub mod MapShapeLaws
 pub mod LoadLaws
 pub mod SaveLaws
+pub mod VersionLaws

@@ -1,5 +1,5 @@
 -- The shape of a map by value: 35 entries, each of four bytes. A contract has it from the array's type, `map-shaped`; so a caller of
--- load_map has it of the result, and what changes a map keeps it (bamlaws). Assumes nothing.
+-- load_map has it of the result. Assumes nothing.
 use Prim.Native.Nat.{ℕ, zero, suc, _<_}
 use native.Mathlib.Omega.{arith}
 use mathlib.Core.Path.{_≡_}

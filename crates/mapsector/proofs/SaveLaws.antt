@@ -1,4 +1,4 @@
--- A map written into its sector entry by entry. What is read back, and which bytes stay: bamlaws' SectorLaws. Assumes nothing.
+-- A map written into its sector entry by entry. What the sector then is to document 01's definitions: bamlaws' StoredLaws. Assumes nothing.
 use Prim.Native.Nat.{ℕ, _+_, _*_, _≤_, _<_}
 use native.Mathlib.Omega.{arith}
 use mathlib.Core.Path.{_≡_, refl, sym, ap, _∙_}

@@ -1,5 +1,6 @@
 -- The block availability map in its sector (01, The map, 18/0) and by value: an entry of four bytes for each of 35 tracks, entry i for track i + 1.
--- In order: entries read from a map sector, and written into one. Laws: proofs/LoadLaws, SaveLaws; MapShapeLaws (35 entries of four bytes).
+-- In order: entries read from a map sector, and written into one; its DOS version.
+-- Laws: proofs/LoadLaws, SaveLaws, VersionLaws; MapShapeLaws (35 entries of four bytes).
 use Prim.Native.Nat.{ℕ, _+_}
 use mathlib.Core.Bool.{Bool, cond, _||_}
 use mathlib.Core.List.{[], _∷_, map}

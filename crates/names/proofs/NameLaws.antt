@@ -1,14 +1,14 @@
 -- Names and the field that holds one: the name rule by the first $A0, and when two names are equal (01, The directory).
--- In order: the field of a slot; neighbours that need not be asked; a field against a name filled up; the name rule, case by case; the two comparisons where names keep the rule.
+-- In order: the field of a slot; neighbours that need not be asked; a field against a name filled up; a name filled up; the name rule, case by case; the two comparisons where names keep the rule.
 -- A field is given as any list f that is a slot's bytes 05 to 14. Laws of the bytes alone: PaddingLaws. Assumes nothing.
 use mathlib.Core.Path.{_≡_, refl, sym, ap, ap₂, _∙_}
 use mathlib.Core.Bool.{Bool, true, false, _&&_, not, and-false}
-use mathlib.Core.List.{_++_}
+use mathlib.Core.List.{_++_, append-nil}
 use Prim.Native.Nat.{ℕ, _+_, _-_, _≤_, _<_}
 use native.Mathlib.Omega.{arith}
 use native.Mathlib.Decide.{decLe}
 use lib.ListN.{length, getD, take, drop, replicate, length-append, length-take, length-drop, length-replicate, take-append-drop}
-use lib.Seq.{drop-append-seam, getD-take, getD-drop}
+use lib.Seq.{take-all, take-length, take-append-le, drop-append-seam, getD-take, getD-drop}
 use lib.Dec.{eqb}
 use borrow.Author.Tests.{ne-eqb}
 use Rattle.d64spec.specs.Lists.{Bytes, byte, equal}
@@ -18,6 +18,7 @@ use Rattle.names.specs.Names.{nameLength, paddedOnce, RestFits}
 use Rattle.d64spec.proofs.ListLaws.{eq-of-equal}
 use Rattle.d64spec.proofs.RuleLaws.{name-exact, name-argument-exact}
 use Rattle.parts.specs.Numbers.{fourOf}
+use Rattle.parts.proofs.PartLaws.{drop-replicate}
 use Rattle.parts.proofs.EqualLaws.{equal-iff, equal-lengths-differ, equal-append}
 use Rattle.names.proofs.PaddingLaws.{letters, count-letters, nameLength-append-padding, letters-append-padding, letters-of-padding, length-take-nameLength, nameLength-drop-padding, nameLength-drop-letter, paddedOnce-nameLength, paddedOnce-last, paddedOnce-rest, four-padding}
 
@@ -91,6 +92,34 @@ module _ (b f : Bytes) (field : f ≡ nameField b) where
       let short : length (nameField b) ≤ 16 = simp length-take (omega arith) in
       equal-lengths-differ (nameField b) (padded m)
       (λ e. let long = length-padded m in let same = ap length field in misfit (omega arith) (omega arith))
+
+-- ---- a name filled up
+
+-- its 16 bytes, of a name that fits
+pub padded-whole : (m : Bytes) → length m ≤ 16 → take 16 (padded m) ≡ padded m
+padded-whole m short = take-all 16 (padded m) (omega (arith, length-padded m))
+
+-- the first 16 bytes are the name's, and then padding
+padded-front : (m : Bytes) → take 16 (padded m) ≡ take 16 m ++ replicate (16 - length m) 0xA0
+unfolding padded
+padded-front m = elim (decLe (length m) 16) [
+  | yes short ↦ padded-whole m short ∙ ap (λ (x : Bytes). x ++ replicate (16 - length m) 0xA0) (sym (take-all 16 m short))
+  | no long ↦ (let none : 16 - length m ≡ 0 = omega arith in
+      take-append-le 16 m (replicate (16 - length m) 0xA0) (omega arith) ∙ sym (ap (λ (n : ℕ). take 16 m ++ replicate n 0xA0) none ∙ append-nil (take 16 m)))
+]
+
+-- A NAME FILLED UP by copying its first 16 bytes m over sixteen $A0
+module _ (name : Bytes) {m : Bytes} (front : m ≡ take 16 name) where
+  pub length-front : length m ≤ 16
+  length-front = omega (arith, ap length front, length-take 16 name)
+
+  copied-over : (w : ℕ) → length m ≤ w → take (length m) m ++ drop (length m) (replicate w 0xA0) ≡ take 16 name ++ replicate (w - length m) 0xA0
+  copied-over w h = ap₂ (λ (x y : Bytes). x ++ y) (take-length m ∙ front) (drop-replicate (length m) w 0xA0 h)
+
+  pub padded-copied : {p : Bytes} → p ≡ take (length m) m ++ drop (length m) (replicate 16 0xA0) → p ≡ take 16 (padded name)
+  padded-copied e =
+      let left : 16 - length m ≡ 16 - length name = omega (arith, ap length front, length-take 16 name) in
+      e ∙ copied-over 16 length-front ∙ ap (λ (n : ℕ). take 16 name ++ replicate n 0xA0) left ∙ sym (padded-front name)
 
 -- ---- the name rule
 

@@ -1,3 +1,4 @@
 pub mod PartLaws
 pub mod EqualLaws
 pub mod NumberLaws
+pub mod OverwriteLaws

@@ -1,15 +1,47 @@
 -- Where a store puts a file, by the map's marks (01, Store: the first k free ones in house order; the lowest free sector of track 18).
--- In order: the free sectors; the first of them, as places in an array; a sector for the directory.
-use Prim.Native.Nat.{ℕ, min}
+-- In order: the allocation order by index; places put behind others in an array; those of one track; the free sectors; the first of them; a
+-- sector for the directory. Laws: proofs/BehindLaws, TrackLaws, OrderLaws, PlaceLaws.
+use Prim.Native.Nat.{ℕ, _+_, _-_, _/_, _%_, _^_, _≤_, min}
 use mathlib.Core.Path.{_≡_}
+use mathlib.Core.Bool.{Bool}
 use mathlib.Core.List.{List, [], _∷_, map}
-use lib.ListN.{length, take}
-use Rattle.d64spec.specs.Lists.{filter, splice}
+use lib.ListN.{length, take, getD}
+use lib.Dec.{eqb}
+use Rattle.d64spec.specs.Lists.{Bytes, filter, splice}
 use Rattle.d64spec.specs.Answers.{Address}
-use Rattle.d64spec.specs.Geometry.{layout35, sectorsOfTrack, allocationOrder}
+use Rattle.d64spec.specs.Geometry.{layout35, sectorsOfTrack, allocationTracks, allocationOrder}
 use Rattle.geometry.specs.Layout.{packed}
-use Rattle.mapentry.specs.MapEntry.{Entries}
+use Rattle.mapentry.specs.MapEntry.{Entries, bitmapOf}
 use Rattle.bam.specs.Bam.{markedFree}
+
+-- t is the track at index i of the allocation order, one of the 35 (01, Store: house order)
+pub record OrderTrack (i t : ℕ) : Type 0 where
+  pub track : t ≡ getD (allocationTracks layout35) i 0
+  pub low : 1 ≤ t
+  pub high : t ≤ 35
+
+-- the first of these sectors stand in the array behind the `have` places that it has, up to `want` places in all; the rest of it is as it was, and it
+-- has r places then
+pub record PlacedBehind (l : List Address) (at : List ℕ) (have want r : ℕ) (at′ : List ℕ) : Type 0 where
+  pub count : r ≡ have + length (take (want - have) l)
+  pub places : at′ ≡ splice at have (map packed (take (want - have) l))
+
+-- whether a track's bitmap, as a number, marks a sector of it free: its bit is 1 (01, The map)
+unfoldable pub markedIn : ℕ → Address → Bool
+markedIn m r = eqb (m / 2 ^ r .sector % 2) 1
+
+-- the sectors of track t that its bitmap marks free, upward
+unfoldable pub freeOnTrack : ℕ → ℕ → List Address
+freeOnTrack m t = filter (markedIn m) (sectorsOfTrack layout35 t)
+
+-- the array has room for `want` places, and has `have` of them
+pub record TrackRoom (at : List ℕ) (have want : ℕ) : Type 0 where
+  pub few : have ≤ want
+  pub room : want ≤ length at
+
+-- a track's free sectors stand behind the places that there are
+abbrev pub TrackPlaced : Bytes → ℕ → List ℕ → ℕ → ℕ → ℕ → List ℕ → Type 0
+TrackPlaced e t at have want r at′ = PlacedBehind (freeOnTrack (bitmapOf e) t) at have want r at′
 
 -- the sectors off track 18 that the map marks free, in the order in which a store takes them
 unfoldable pub freePlaces : Entries → List Address

@@ -2,18 +2,22 @@
 // lowest free sector of track 18, for the directory. A place is an address as one number of 16 bits: 256 times the track, and the sector.
 ghost use mathlib.Core.Path.{_≡_};
 ghost use Prim.Native.Nat.{_<_};
-ghost use Rattle.placement.specs.Placements.{Placed, directoryPlace};
+ghost use Rattle.placement.specs.Placements.{OrderTrack, TrackRoom, TrackPlaced, Placed, directoryPlace};
 
 // The track at an index of the allocation order: 17 down to 1, then 19 up to 35.
 fn track_at(i: u8) -> u8
     requires { ⌜ i < 34 ⌝ }
+    ensures { λ r. ⌜ OrderTrack i r ⌝ }
 {
     if i < 17 { 17 - i } else { i + 2 }
 }
 
 // Puts the sectors of a track that its entry marks free, upward, behind the `have` places that there are, up to `want` in all; returns how many
 // there are then. The bitmap is one number, halved from sector to sector: where it is 0, no further sector is free.
-fn take_track(entry: [u8; 4], track: u8, at: &mut [u16], have: usize, want: usize) -> usize {
+fn take_track(entry: [u8; 4], track: u8, at: &mut [u16], have: usize, want: usize) -> usize
+    requires { ⌜ TrackRoom (now at) have want ⌝ }
+    ensures { λ r. ⌜ TrackPlaced entry track (now (at .entry)) have want r (now (at .exit)) ⌝ }
+{
     let sectors = geometry::sectors_on(track);
     let mut bits = entry[1] as u32 + 256 * (entry[2] as u32) + 65536 * (entry[3] as u32);
     let mut n = have;

@@ -5,7 +5,7 @@ use Prim.Native.Nat.{ℕ, _+_, _-_, _*_, _≤_}
 use native.Mathlib.Omega.{arith}
 use mathlib.Core.Path.{_≡_, refl, sym, ap, ap₂, _∙_}
 use mathlib.Core.List.{[], _∷_, _++_, append-assoc, append-nil}
-use lib.ListN.{length, take, drop, length-append, length-take, length-drop, drop-of-length-le}
+use lib.ListN.{length, take, drop, length-append, length-take, length-drop}
 use lib.Seq.{take-take, length-take-le, drop-at, take-add, drop-append-add, take-append-seam, drop-drop, take-length}
 use Rattle.d64spec.specs.Lists.{Bytes, byte, splice}
 use Rattle.d64spec.specs.Answers.{Address}
@@ -14,6 +14,7 @@ use Rattle.d64spec.specs.Image.{disk}
 use Rattle.d64spec.specs.Chain.{chainData}
 use Rattle.d64spec.specs.Store.{lastOf}
 use Rattle.d64spec.proofs.SpliceLaws.{length-splice}
+use Rattle.parts.proofs.OverwriteLaws.{copied-back}
 use Rattle.reading.specs.declared.copying.Copied.{Copied}
 use Rattle.reading.specs.ChainReads.{sectorsFrom, dataFrom, lastByteFrom, ChainFrom, CopyFits, DataFits, ChainCopied}
 use Rattle.reading.proofs.ChainStepLaws.{Visited, Follows, sectors-first}
@@ -76,25 +77,17 @@ module _ {img : Bytes} {r : Address} {n : ℕ} (v : Visited img r n) where
 
 -- what comes back of a loan of `size` bytes of the output when the data of a sector are copied over them
 module _ (img out : Bytes) (start size at : ℕ) (fits : DataFits img out start size at) where
-  -- the data as the code lends them, and how wide it lends the output
+  -- the data as the code lends them
   abbrev lent : Bytes
   lent = take (start + 2 + size - (start + 2)) (drop (start + 2) img)
 
-  abbrev width : ℕ
-  width = at + size - at
-
-  pub data-copied : {p : Bytes} → p ≡ take (length lent) lent ++ drop (length lent) (take width (drop at out))
-      → take at out ++ (p ++ drop width (drop at out)) ≡ splice out at (take size (drop (start + 2) img))
-  data-copied {p} e =
+  pub data-copied : {p : Bytes} → p ≡ take (length lent) lent ++ drop (length lent) (take (at + size - at) (drop at out))
+      → take at out ++ (p ++ drop (at + size - at) (drop at out)) ≡ splice out at (take size (drop (start + 2) img))
+  data-copied e =
       let inside = fits .inside in
-      let room = fits .room in
       let all : start + 2 + size - (start + 2) ≡ size = omega arith in
-      let same : lent ≡ take size (drop (start + 2) img) = ap (λ (n : ℕ). take n (drop (start + 2) img)) all in
       let long : length lent ≡ size = simp (length-take, length-drop) (omega arith) in
-      let none : drop (length lent) (take width (drop at out)) ≡ [] = drop-of-length-le (take width (drop at out)) {i = length lent} (omega (arith, length-take width (drop at out))) in
-      let is : p ≡ take size (drop (start + 2) img) = e ∙ ap₂ (λ (x y : Bytes). x ++ y) (take-length lent) none ∙ append-nil lent ∙ same in
-      let end : at + width ≡ at + length (take size (drop (start + 2) img)) = omega (arith, ap length same) in
-      rw is (ap (λ (x : Bytes). take at out ++ (take size (drop (start + 2) img) ++ x)) (drop-drop width at out ∙ ap (λ (n : ℕ). drop n out) end))
+      copied-back out at size lent long e ∙ ap (λ (n : ℕ). splice out at (take n (drop (start + 2) img))) all
 
 -- ---- the copy
 

@@ -4,9 +4,9 @@ use Prim.Native.Nat.{ℕ, _+_, _-_, _*_, _≤_, _<_}
 use native.Mathlib.Omega.{arith}
 use mathlib.Core.Path.{_≡_, refl, sym, ap, _∙_}
 use mathlib.Core.Bool.{Bool, true, false, cond, _&&_}
-use mathlib.Core.List.{[], _++_, append-nil}
+use mathlib.Core.List.{[]}
 use lib.ListN.{length, take, drop, length-take, length-drop, drop-of-length-le}
-use lib.Seq.{take-all, take-length, drop-drop, getD-take, getD-drop}
+use lib.Seq.{take-all, getD-take, getD-drop}
 use lib.Dec.{eqb, leb}
 use borrow.Author.Tests.{eqb-true, leb-true, le-leb, lt-leb, eq-eqb, ne-eqb}
 use Rattle.d64spec.specs.Lists.{Bytes, byte, splice}
@@ -45,10 +45,6 @@ module _ (img : Bytes) (n : ℕ) where
       take-all (length img - 256 * n) (drop (256 * n) img) (omega arith) ∙ sym (take-all 256 (drop (256 * n) img) (omega arith))
 
 module _ (img : Bytes) (n : ℕ) (s : Bytes) where
-  -- how wide the code lends the sector
-  abbrev width : ℕ
-  width = 256 * n + 256 - 256 * n
-
   pub withSector-whole : Inside img n → length s ≡ 256 → withSector img n s ≡ splice img (256 * n) s
   unfolding withSector
   withSector-whole inside size = simp (le-leb (256 * n + 256) (length img) inside, eq-eqb (length s) 256 size)
@@ -78,11 +74,3 @@ module _ (img : Bytes) (n : ℕ) (s : Bytes) where
   -- A SECTOR WRITTEN IN THE IMAGE IS A SECTOR PUT ON THE DISK
   pub disk-withSector : Inside img n → length s ≡ 256 → disk (withSector img n s) ≡ put (disk img) n s
   disk-withSector inside size = ap disk (withSector-whole inside size) ∙ splice-disk img n s inside size
-
-  -- what comes back of a loan of the sector's 256 bytes when s is copied over them
-  pub copied : {p : Bytes} → Inside img n → length s ≡ 256 → p ≡ take (length s) s ++ drop (length s) (take width (drop (256 * n) img)) → take (256 * n) img ++ (p ++ drop width (drop (256 * n) img)) ≡ withSector img n s
-  copied {p} inside size e =
-      let long : length (take width (drop (256 * n) img)) ≡ length s = simp (length-take, length-drop) (omega arith) in
-      let same : p ≡ s = e ∙ simp (take-length, drop-of-length-le (take width (drop (256 * n) img)) {i = length s} (omega arith), append-nil) in
-      let end : 256 * n + width ≡ 256 * n + length s = omega arith in
-      rw (same, drop-drop width (256 * n) img, end) (sym (withSector-whole inside size))

@@ -148,14 +148,21 @@ static void add_file(uint8_t *image, struct hand *hand, int type, const char *na
     slot[31] = (uint8_t)(count >> 8);
 }
 
-/* Adds files of 'length' bytes, named F000, F001 and so on, until so many slots are taken. */
+/* F000, F001 and so on: the name of the file in a slot. */
+static void name_file(char name[5], int slot)
+{
+    memcpy(name, "F000", 5);
+    name[1] = (char)('0' + slot / 100);
+    name[2] = (char)('0' + slot / 10 % 10);
+    name[3] = (char)('0' + slot % 10);
+}
+
+/* Adds files of 'length' bytes, named by their slots, until so many slots are taken. */
 static void add_files(uint8_t *image, struct hand *hand, int slots, size_t length)
 {
     while (hand->slot < slots) {
-        char name[5] = "F000";
-        name[1] = (char)('0' + hand->slot / 100);
-        name[2] = (char)('0' + hand->slot / 10 % 10);
-        name[3] = (char)('0' + hand->slot % 10);
+        char name[5];
+        name_file(name, hand->slot);
         add_file(image, hand, 0x82, name, length);
     }
 }

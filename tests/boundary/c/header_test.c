@@ -1,56 +1,8 @@
 /*
- * d64.h as its user meets it: each call on disks written by hand, document 01's examples that concern reading, and
+ * d64.h as its user meets it: each call that only reads on disks written by hand, document 01's examples for them, and
  * null pointers with length 0. Ends with status 1 at the first difference. Compiled as C11 and as C++.
  */
-#include "by_hand.h"
-
-#include <stdio.h>
-#include <stdlib.h>
-
-static uint8_t image[D64_IMAGE_BYTES];
-static uint8_t before[D64_IMAGE_BYTES];
-static uint8_t out[D64_IMAGE_BYTES];
-static uint8_t block[D64_BLOCK_BYTES];
-static int tests;
-
-static void expect(long actual, long wanted, const char *what, int line)
-{
-    tests++;
-    if (actual == wanted)
-        return;
-    printf("header_test.c:%d: %s is %ld, not %ld\n", line, what, actual, wanted);
-    exit(1);
-}
-
-#define EXPECT(actual, wanted) expect((long)(actual), (long)(wanted), #actual, __LINE__)
-
-static void expect_block(int track, int sector, int slot, long length, int sectors, int line)
-{
-    expect(block[0], track, "the track", line);
-    expect(block[1], sector, "the sector", line);
-    expect(block[2], slot, "the slot", line);
-    expect(block[3] + 256L * block[4] + 65536L * block[5] + 16777216L * block[6], length, "the length", line);
-    expect(block[7] + 256 * block[8], sectors, "the number of sectors", line);
-    memset(block, 0x55, sizeof block);
-}
-
-#define EXPECT_BLOCK(track, sector, slot, length, sectors) expect_block(track, sector, slot, length, sectors, __LINE__)
-#define EXPECT_NOWHERE() EXPECT_BLOCK(0, 0, 255, 0, 0)
-
-static uint32_t check(void)
-{
-    return d64_check(image, sizeof image, block, sizeof block);
-}
-
-static uint32_t read_file(const char *name, size_t out_len)
-{
-    return d64_read(image, sizeof image, (const uint8_t *)name, strlen(name), out, out_len, block, sizeof block);
-}
-
-static uint32_t list(size_t text_len)
-{
-    return d64_listing(image + D64_TRACK18_OFFSET, D64_TRACK18_BYTES, out, text_len, block, sizeof block);
-}
+#include "expect.h"
 
 /* Whether out is 'fill' from 'from' to its end. */
 static int is_filled(size_t from, int fill)
@@ -250,14 +202,14 @@ static void all_refuse(uint32_t number, int track, int sector, int slot, int lin
 {
     memcpy(before, image, sizeof image);
     fill_out(0xEE);
-    expect(check(), number, "check", line);
-    expect_block(track, sector, slot, 0, 0, line);
-    expect(read_file("ONE", sizeof out), number, "read", line);
-    expect_block(track, sector, slot, 0, 0, line);
-    expect(d64_tell(image, sizeof image, 0, out, sizeof out, block, sizeof block), number, "tell", line);
-    expect_block(track, sector, slot, 0, 0, line);
-    expect(is_filled(0, 0xEE), 1, "out as it was", line);
-    expect(memcmp(before, image, sizeof image), 0, "the image's change", line);
+    expect(check(), number, "check", __FILE__, line);
+    expect_block(track, sector, slot, 0, 0, __FILE__, line);
+    expect(read_file("ONE", sizeof out), number, "read", __FILE__, line);
+    expect_block(track, sector, slot, 0, 0, __FILE__, line);
+    expect(d64_tell(image, sizeof image, 0, out, sizeof out, block, sizeof block), number, "tell", __FILE__, line);
+    expect_block(track, sector, slot, 0, 0, __FILE__, line);
+    expect(is_filled(0, 0xEE), 1, "out as it was", __FILE__, line);
+    expect(memcmp(before, image, sizeof image), 0, "the image's change", __FILE__, line);
 }
 
 #define ALL_REFUSE(number, track, sector, slot) all_refuse(number, track, sector, slot, __LINE__)

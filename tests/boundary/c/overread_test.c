@@ -1,7 +1,7 @@
 /*
  * No call touches a byte that it was not lent, or writes one that it may only read. Each buffer lies against a page
  * that nobody may touch, once with its end and once with its start; what is only read lies in read-only pages, and
- * so does an answer block of the wrong size. A call that goes astray ends the program.
+ * so does an answer block of the wrong size, with the image then. A call that goes astray ends the program.
  */
 #define _DEFAULT_SOURCE
 #include "by_hand.h"
@@ -25,7 +25,8 @@ struct lent {
 };
 
 static uint8_t disk[D64_IMAGE_BYTES];
-static struct lent image, track18, name, out, block;
+static struct lent image, track18, name, data, out, block;
+static struct lent written; /* the image, for a call that may write it */
 static enum side side;
 static int calls;
 static const char *now = "";
@@ -109,6 +110,59 @@ static void list(size_t text_len)
     calls++;
 }
 
+/* The image as it is, each time anew. With an answer block of the wrong size nothing may be written. */
+static void lend_written(void)
+{
+    if (block.len == D64_BLOCK_BYTES)
+        lend(&written, image.bytes, image.len);
+    else
+        lend_read_only(&written, image.bytes, image.len);
+}
+
+static void format(const char *disk_name, size_t name_len)
+{
+    now = "d64_format()";
+    lend_read_only(&name, (const uint8_t *)disk_name, name_len);
+    lend_written();
+    d64_format(written.bytes, written.len, name.bytes, name.len, 0x30, 0x31, block.bytes, block.len);
+    calls++;
+}
+
+static void store(const char *file, size_t name_len, uint32_t kind, size_t length)
+{
+    now = "d64_store()";
+    lend_read_only(&name, (const uint8_t *)file, name_len);
+    lend_read_only(&data, NULL, length);
+    lend_written();
+    d64_store(written.bytes, written.len, name.bytes, name.len, kind, data.bytes, data.len, block.bytes, block.len);
+    calls++;
+}
+
+static void scratch(const char *file, size_t name_len)
+{
+    now = "d64_scratch()";
+    lend_read_only(&name, (const uint8_t *)file, name_len);
+    lend_written();
+    d64_scratch(written.bytes, written.len, name.bytes, name.len, block.bytes, block.len);
+    calls++;
+}
+
+/* Names of every sort of length, data at the edges of a sector and of a disk. */
+static void call_writing(void)
+{
+    static const char file[] = "F000 AND MORE THAN THAT";
+    static const size_t names[] = {0, 1, 4, 15, 16, 17};
+    static const size_t lengths[] = {0, 1, 253, 254, 255, 508, 509, 5000, 168656, 168657};
+    for (size_t i = 0; i < sizeof names / sizeof names[0]; i++) {
+        format(file, names[i]);
+        store(file, names[i], 2, 300);
+        scratch(file, names[i]);
+    }
+    for (size_t i = 0; i < sizeof lengths / sizeof lengths[0]; i++)
+        store("NEW", 3, 1, lengths[i]);
+    store("NEW", 3, 4, 300);
+}
+
 /* Names of every length, outputs of every size that matters to a file of 'length' bytes. */
 static void call_all(size_t length)
 {
@@ -125,6 +179,7 @@ static void call_all(size_t length)
     list(0);
     list(D64_LISTING_BYTES - 1);
     list(D64_LISTING_BYTES);
+    call_writing();
 }
 
 static void call_on_disk(size_t length)
@@ -166,6 +221,8 @@ static void call_on_many_disks(void)
     struct hand hand = {17, 0, 0};
     format_by_hand(disk, "MANY", 0x30, 0x31);
     call_on_disk(0);
+    add_files(disk, &hand, 8, 600); /* the directory grows */
+    call_on_disk(600);
     add_files(disk, &hand, 144, 600);
     call_on_disk(600);
     call_on_sizes();
@@ -182,7 +239,7 @@ static void call_on_many_disks(void)
 int main(void)
 {
     static const size_t blocks[] = {D64_BLOCK_BYTES, 0, 8, 10};
-    struct lent *all[] = {&image, &track18, &name, &out, &block};
+    struct lent *all[] = {&image, &track18, &name, &data, &out, &block, &written};
     signal(SIGSEGV, astray);
     signal(SIGBUS, astray);
     for (size_t i = 0; i < sizeof all / sizeof all[0]; i++)

@@ -11,11 +11,14 @@
 #define PAINT 0xA5
 
 static uint8_t image[D64_IMAGE_BYTES];
+static uint8_t before[D64_IMAGE_BYTES];
 static uint8_t out[D64_IMAGE_BYTES];
+static uint8_t data[168657];
 static uint8_t block[D64_BLOCK_BYTES];
 static uint8_t stack[512 * 1024];
 static const char *name;
 static size_t position;
+static size_t length; /* of the data to store */
 
 static void nothing(void)
 {
@@ -26,9 +29,24 @@ static void check(void)
     d64_check(image, sizeof image, block, sizeof block);
 }
 
+static void format(void)
+{
+    d64_format(image, sizeof image, (const uint8_t *)name, strlen(name), 0x30, 0x31, block, sizeof block);
+}
+
 static void read_file(void)
 {
     d64_read(image, sizeof image, (const uint8_t *)name, strlen(name), out, sizeof out, block, sizeof block);
+}
+
+static void store(void)
+{
+    d64_store(image, sizeof image, (const uint8_t *)"NEW", 3, 2, data, length, block, sizeof block);
+}
+
+static void scratch(void)
+{
+    d64_scratch(image, sizeof image, (const uint8_t *)name, strlen(name), block, sizeof block);
 }
 
 static void tell(void)
@@ -45,7 +63,8 @@ static struct {
     const char *name;
     void (*run)(void);
     size_t most;
-} calls[] = {{"check", check, 0}, {"read", read_file, 0}, {"tell", tell, 0}, {"listing", list, 0}};
+} calls[] = {{"check", check, 0},     {"format", format, 0}, {"read", read_file, 0}, {"store", store, 0},
+             {"scratch", scratch, 0}, {"tell", tell, 0},     {"listing", list, 0}};
 
 enum { CALLS = sizeof calls / sizeof calls[0] };
 
@@ -67,14 +86,17 @@ static size_t depth_of(void (*call)(void))
 }
 
 /* Measures every call on the image as it is. */
-static void measure(const char *file, size_t at)
+static void measure(const char *file, size_t at, size_t data_len)
 {
     name = file;
     position = at;
+    length = data_len;
+    memcpy(before, image, sizeof image);
     for (int i = 0; i < CALLS; i++) {
         size_t depth = depth_of(calls[i].run);
         if (depth > calls[i].most)
             calls[i].most = depth;
+        memcpy(image, before, sizeof image);
     }
 }
 
@@ -82,21 +104,27 @@ static void measure_on_many_disks(void)
 {
     struct hand hand = {17, 0, 0};
     format_by_hand(image, "EMPTY", 0x30, 0x31);
-    measure("NONE", 0);
+    measure("NONE", 0, 0);
+    measure("NONE", 0, 168656);
+    measure("NONE", 0, 168657);
+    add_files(image, &hand, 8, 600); /* the directory grows */
+    measure("F000", 0, 5000);
+    add_files(image, &hand, 143, 600);
+    measure("F142", 142, 5000);
     add_files(image, &hand, 144, 600);
-    measure("F143", 143);
-    measure("THIS NAME IS TOO LONG", 144);
+    measure("F143", 143, 5000);
+    measure("THIS NAME IS TOO LONG", 144, 0);
     set_link(image, 1, 0, 17, 0);
-    measure("F000", 0);
+    measure("F000", 0, 0);
     set_link(image, 18, 18, 18, 1);
-    measure("F000", 0);
+    measure("F000", 0, 0);
     hand.track = 17;
     hand.sector = hand.slot = 0;
     format_by_hand(image, "FULL", 0x30, 0x31);
     add_file(image, &hand, 0x82, "ALL", 168656);
-    measure("ALL", 0);
+    measure("ALL", 0, 0);
     memset(image, 0xFF, sizeof image);
-    measure("ALL", 0);
+    measure("ALL", 0, 0);
 }
 
 int main(void)

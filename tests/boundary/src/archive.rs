@@ -5,6 +5,16 @@ use crate::calls::{EntryPoints, Slice};
 #[link(name = "d64", kind = "static")]
 unsafe extern "C" {
     fn d64_check(image: *const u8, image_len: usize, answer: *mut u8, answer_len: usize) -> u32;
+    fn d64_format(
+        image: *mut u8,
+        image_len: usize,
+        name: *const u8,
+        name_len: usize,
+        id1: u8,
+        id2: u8,
+        answer: *mut u8,
+        answer_len: usize,
+    ) -> u32;
     fn d64_read(
         image: *const u8,
         image_len: usize,
@@ -12,6 +22,25 @@ unsafe extern "C" {
         name_len: usize,
         out: *mut u8,
         out_len: usize,
+        answer: *mut u8,
+        answer_len: usize,
+    ) -> u32;
+    fn d64_store(
+        image: *mut u8,
+        image_len: usize,
+        name: *const u8,
+        name_len: usize,
+        kind: u32,
+        data: *const u8,
+        data_len: usize,
+        answer: *mut u8,
+        answer_len: usize,
+    ) -> u32;
+    fn d64_scratch(
+        image: *mut u8,
+        image_len: usize,
+        name: *const u8,
+        name_len: usize,
         answer: *mut u8,
         answer_len: usize,
     ) -> u32;
@@ -42,6 +71,21 @@ impl EntryPoints for Archive {
         unsafe { d64_check(image.start, image.len, answer.start, answer.len) }
     }
 
+    unsafe fn format(&self, image: Slice, name: Slice, id1: u8, id2: u8, answer: Slice) -> u32 {
+        unsafe {
+            d64_format(
+                image.start,
+                image.len,
+                name.start,
+                name.len,
+                id1,
+                id2,
+                answer.start,
+                answer.len,
+            )
+        }
+    }
+
     unsafe fn read(&self, image: Slice, name: Slice, out: Slice, answer: Slice) -> u32 {
         unsafe {
             d64_read(
@@ -51,6 +95,42 @@ impl EntryPoints for Archive {
                 name.len,
                 out.start,
                 out.len,
+                answer.start,
+                answer.len,
+            )
+        }
+    }
+
+    unsafe fn store(
+        &self,
+        image: Slice,
+        name: Slice,
+        kind: u32,
+        data: Slice,
+        answer: Slice,
+    ) -> u32 {
+        unsafe {
+            d64_store(
+                image.start,
+                image.len,
+                name.start,
+                name.len,
+                kind,
+                data.start,
+                data.len,
+                answer.start,
+                answer.len,
+            )
+        }
+    }
+
+    unsafe fn scratch(&self, image: Slice, name: Slice, answer: Slice) -> u32 {
+        unsafe {
+            d64_scratch(
+                image.start,
+                image.len,
+                name.start,
+                name.len,
                 answer.start,
                 answer.len,
             )

@@ -47,10 +47,38 @@ pub trait EntryPoints {
         unsafe { host::check(image.bytes(), answer.bytes_mut()) }
     }
 
+    unsafe fn format(&self, image: Slice, name: Slice, id1: u8, id2: u8, answer: Slice) -> u32 {
+        unsafe {
+            let (image, answer) = (image.bytes_mut(), answer.bytes_mut());
+            host::format(image, name.bytes(), id1, id2, answer)
+        }
+    }
+
     unsafe fn read(&self, image: Slice, name: Slice, out: Slice, answer: Slice) -> u32 {
         unsafe {
             let (out, answer) = (out.bytes_mut(), answer.bytes_mut());
             host::read(image.bytes(), name.bytes(), out, answer)
+        }
+    }
+
+    unsafe fn store(
+        &self,
+        image: Slice,
+        name: Slice,
+        kind: u32,
+        data: Slice,
+        answer: Slice,
+    ) -> u32 {
+        unsafe {
+            let (image, answer) = (image.bytes_mut(), answer.bytes_mut());
+            host::store(image, name.bytes(), kind, data.bytes(), answer)
+        }
+    }
+
+    unsafe fn scratch(&self, image: Slice, name: Slice, answer: Slice) -> u32 {
+        unsafe {
+            let (image, answer) = (image.bytes_mut(), answer.bytes_mut());
+            host::scratch(image, name.bytes(), answer)
         }
     }
 

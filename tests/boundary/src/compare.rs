@@ -3,11 +3,12 @@
 
 use crate::calls::{EntryPoints, Slice};
 use crate::memory::Guarded;
+use independent::geometry::{IMAGE_BYTES, TRACK_18_BYTES, TRACK_18_OFFSET};
 use independent::request::{lent, perform, Call, Independent, Request};
 use independent::rng::Rng;
 
-/// The image, or track 18 for the listing, as lent to the library under test,
-/// and as the independent program leaves it.
+/// The image, or track 18 alone, as lent to the library under test, and as
+/// the independent program leaves it.
 pub struct Disk {
     lent: Guarded,
     expected: Vec<u8>,
@@ -25,6 +26,7 @@ impl Disk {
 /// What one call is lent besides the disk.
 struct Lent {
     name: Guarded,
+    data: Guarded,
     output: Guarded,
     answer: Guarded,
 }
@@ -33,6 +35,7 @@ impl Lent {
     fn to(request: &Request, rng: &mut Rng) -> Lent {
         Lent {
             name: Guarded::holding(name_of(&request.call), rng),
+            data: Guarded::holding(data_of(&request.call), rng),
             output: Guarded::holding(&lent(request.call.room()), rng),
             answer: Guarded::holding(&lent(request.block), rng),
         }
@@ -50,6 +53,14 @@ fn name_of(call: &Call) -> &[u8] {
     }
 }
 
+/// The data that a store is given.
+fn data_of(call: &Call) -> &[u8] {
+    match call {
+        Call::Store { data, .. } => data,
+        _ => &[],
+    }
+}
+
 /// The word for a call in messages and counts.
 pub fn word_of(call: &Call) -> &'static str {
     match call {
@@ -63,18 +74,31 @@ pub fn word_of(call: &Call) -> &'static str {
     }
 }
 
-/// The call itself; calls that d64.h doesn't have yet are not asked for.
+/// Track 18 of a whole image; anything else as it is.
+fn track_18_in(disk: Slice) -> Slice {
+    if disk.len != IMAGE_BYTES {
+        return disk;
+    }
+    Slice {
+        start: disk.start.wrapping_add(TRACK_18_OFFSET),
+        len: TRACK_18_BYTES,
+    }
+}
+
+/// The call itself.
 fn run(library: &dyn EntryPoints, call: &Call, disk: Slice, memory: &mut Lent) -> u32 {
-    let name = memory.name.lend();
+    let (name, data) = (memory.name.lend(), memory.data.lend());
     let (output, answer) = (memory.output.lend(), memory.answer.lend());
-    // The slices are of four allocations, each lent once.
+    // The slices are of five allocations, each lent once.
     unsafe {
-        match call {
+        match *call {
             Call::Check => library.check(disk, answer),
+            Call::Format { id1, id2, .. } => library.format(disk, name, id1, id2, answer),
             Call::Read { .. } => library.read(disk, name, output, answer),
-            Call::Tell { position, .. } => library.tell(disk, *position, output, answer),
-            Call::Listing { .. } => library.listing(disk, output, answer),
-            _ => unreachable!("{} is no call of d64.h", word_of(call)),
+            Call::Store { kind, .. } => library.store(disk, name, kind, data, answer),
+            Call::Scratch { .. } => library.scratch(disk, name, answer),
+            Call::Tell { position, .. } => library.tell(disk, position, output, answer),
+            Call::Listing { .. } => library.listing(track_18_in(disk), output, answer),
         }
     }
 }
@@ -97,6 +121,7 @@ pub fn compare(
     found.extend(memory.answer.differences("answer", &owed.block));
     found.extend(memory.output.differences("output", &owed.out));
     found.extend(memory.name.differences("name", name_of(&request.call)));
+    found.extend(memory.data.differences("data", data_of(&request.call)));
     found.extend(disk.lent.differences("image", &disk.expected));
     match found.is_empty() {
         true => Ok(owed.number),

@@ -4,12 +4,17 @@
 //!
 //! `calls` has the calls as C has them; `archive` is the library itself;
 //! `memory` lends guarded bytes; `compare` runs one request on both sides;
-//! `rounds` makes the images and the requests by seed. To add a call: its
-//! prototype in `archive`, a method of `calls::EntryPoints`, its line in
-//! `compare::run`, and its requests in `rounds`.
+//! `rounds` runs some `requests` on each of many images; `lists` runs long
+//! lists of them on one image, and demand 3 over what the library makes of
+//! it; `tally` is what a run met. To add a call: its prototype in `archive`, a
+//! method of `calls::EntryPoints`, its line in `compare::run`, and its
+//! requests in `requests`.
 
 pub mod archive;
 pub mod calls;
 pub mod compare;
+pub mod lists;
 pub mod memory;
+pub mod requests;
 pub mod rounds;
+pub mod tally;

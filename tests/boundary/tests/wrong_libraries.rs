@@ -5,124 +5,19 @@
 mod wrong;
 
 use boundary::calls::{EntryPoints, Faithful};
-use boundary::rounds::{run_round, Failure, Tally};
-use wrong::*;
+use boundary::lists::{compare_list, demand3_over, List, OWN_CHECK};
+use boundary::rounds::run_round;
+use boundary::tally::{Failure, Tally};
+use independent::plain::{ACCEPTED, CLAUSES, GIVEN_BACK, PLAIN_LIST, READ_SECTORS, REFUSED};
+use wrong::changes::{ScratchEdited, StoreEdited};
+use wrong::formatting::FormatEdited;
+use wrong::{formatting, reading, scratching, stored, storing, Row};
 
 /// Rounds within which each wrong library is to be found.
 const ROUNDS: u64 = 12;
 
-/// Each with what has to differ.
-const WRONG: &[(&str, &dyn EntryPoints, &str)] = &[
-    ("the last byte is counted", &LastByteCounted, "answer:"),
-    ("the link in 18/0 is trusted", &MapLinkTrusted, "number:"),
-    ("every image is refused", &AllRefused, "number:"),
-    ("a read gives zeros", &ZerosRead, "output:"),
-    (
-        "the first sector alone is read",
-        &FirstSectorAlone,
-        "output:",
-    ),
-    ("a read visits one sector", &OneSectorReported, "answer:"),
-    (
-        "the sectors are those the length needs",
-        &SectorsFromLength,
-        "answer:",
-    ),
-    (
-        "a block of the wrong size is written",
-        &WrongBlockWritten,
-        "answer:",
-    ),
-    ("a block of ten is taken", &LongBlockTaken, "number:"),
-    (
-        "a byte is written past the output",
-        &PastOutputWritten,
-        "after output:",
-    ),
-    (
-        "a byte is written before the output",
-        &BeforeOutputWritten,
-        "before output:",
-    ),
-    (
-        "a byte is written past the block",
-        &PastBlockWritten,
-        "after answer:",
-    ),
-    (
-        "a short output gets what fits",
-        &ShortOutputFilled,
-        "output:",
-    ),
-    ("the rest of the output is cleared", &RestCleared, "output:"),
-    ("a refused read has written", &RefusedReadWrites, "output:"),
-    ("the image is written", &ImageWritten, "image:"),
-    ("the name is written", &NameWritten, "name:"),
-    (
-        "a refused check leaves the block",
-        &RefusalUnanswered,
-        "answer:",
-    ),
-    (
-        "a fault is placed where its link leads",
-        &TargetPlaced,
-        "answer:",
-    ),
-    ("the count is not checked", &CountUnchecked, "number:"),
-    (
-        "bits past a track's end are not checked",
-        &PastTrackUnchecked,
-        "number:",
-    ),
-    (
-        "the length has its high byte first",
-        &LengthHighFirst,
-        "answer:",
-    ),
-    ("a name is cut to 16 bytes", &NameCut, "number:"),
-    (
-        "a wrong name comes before a wrong size",
-        &NameBeforeSize,
-        "number:",
-    ),
-    (
-        "a short output comes before a missing name",
-        &ShortBeforeMissing,
-        "number:",
-    ),
-    ("a null pointer is refused", &NullRefused, "number:"),
-    (
-        "a refused tell clears the entry",
-        &RefusedTellClears,
-        "output:",
-    ),
-    (
-        "tell asks for an entry of exactly 25",
-        &LongEntryRefused,
-        "number:",
-    ),
-    ("tell counts empty slots", &EmptySlotsCounted, "number:"),
-    ("tell hides the lock", &LockHidden, "output:"),
-    ("tell cuts the position to a byte", &PositionCut, "number:"),
-    ("tell reports the file's length", &TellReports, "answer:"),
-    ("tell leaves the map unchecked", &TellWithoutMap, "number:"),
-    ("the listing is in lowercase", &LowercaseListing, "output:"),
-    (
-        "the listing counts track 18 as room",
-        &Track18Counted,
-        "output:",
-    ),
-    (
-        "a refused listing has no place",
-        &ListingUnplaced,
-        "answer:",
-    ),
-    (
-        "a short text comes before a bad slot",
-        &ShortTextFirst,
-        "number:",
-    ),
-];
+/// Lists within which a cheat is to be found by demand 3.
+const LISTS: u64 = 40;
 
 /// The first difference within the rounds, and the images up to it.
 fn run(library: &dyn EntryPoints) -> (usize, Result<(), Failure>) {
@@ -132,9 +27,8 @@ fn run(library: &dyn EntryPoints) -> (usize, Result<(), Failure>) {
     (tally.images, result)
 }
 
-#[test]
-fn each_wrong_library_is_found() {
-    for (what, library, differs) in WRONG {
+fn each_is_found(rows: &[Row]) {
+    for (what, library, differs) in rows {
         let (images, result) = run(*library);
         let failure = match result {
             Ok(()) => panic!("not found in {images} images: {what}"),
@@ -150,8 +44,150 @@ fn each_wrong_library_is_found() {
 }
 
 #[test]
+fn each_wrong_check_read_tell_and_listing_is_found() {
+    each_is_found(reading::WRONG);
+}
+
+#[test]
+fn each_wrong_format_is_found() {
+    each_is_found(formatting::WRONG);
+}
+
+#[test]
+fn each_wrong_store_is_found() {
+    each_is_found(storing::WRONG);
+    each_is_found(stored::WRONG);
+}
+
+#[test]
+fn each_wrong_scratch_is_found() {
+    each_is_found(scratching::WRONG);
+}
+
+/// What demand 3 finds by itself, with no independent program beside the
+/// library: the clauses that each breaks, and no others.
+const CHEATS: &[(&str, &dyn EntryPoints, &[&str])] = &[
+    ("check refuses all", &reading::AllRefused, &[OWN_CHECK]),
+    (
+        "a read visits one sector",
+        &reading::OneSectorReported,
+        &[READ_SECTORS],
+    ),
+    (
+        "format leaves codes",
+        &FormatEdited(formatting::codes_left),
+        &[GIVEN_BACK],
+    ),
+    (
+        "format forgets 18/1",
+        &FormatEdited(formatting::directory_marked_free),
+        &[ACCEPTED],
+    ),
+    (
+        "a refused format clears",
+        &formatting::RefusedYetCleared,
+        &[ACCEPTED, REFUSED],
+    ),
+    (
+        "store stores nothing",
+        &StoreEdited(stored::nothing_stored),
+        &[PLAIN_LIST],
+    ),
+    (
+        "the first sector alone",
+        &StoreEdited(stored::first_sector_alone),
+        &[PLAIN_LIST],
+    ),
+    (
+        "the last byte is lost",
+        &StoreEdited(stored::last_byte_miscounted),
+        &[PLAIN_LIST],
+    ),
+    (
+        "the count is invented",
+        &StoreEdited(stored::count_invented),
+        &[ACCEPTED],
+    ),
+    (
+        "the map before 14",
+        &storing::MapMarkedBeforeFull,
+        &[ACCEPTED, REFUSED],
+    ),
+    (
+        "not linked on",
+        &StoreEdited(stored::old_link_left),
+        &[ACCEPTED],
+    ),
+    ("store replaces", &storing::NameReplaced, &[PLAIN_LIST]),
+    (
+        "scratch leaves codes",
+        &ScratchEdited(scratching::codes_left),
+        &[GIVEN_BACK],
+    ),
+    (
+        "scratch leaves slack",
+        &ScratchEdited(scratching::slack_left),
+        &[GIVEN_BACK],
+    ),
+    (
+        "scratch leaves the slot",
+        &ScratchEdited(scratching::slot_left),
+        &[ACCEPTED],
+    ),
+    (
+        "scratch leaves the map",
+        &ScratchEdited(scratching::map_left),
+        &[ACCEPTED],
+    ),
+    (
+        "one too many freed",
+        &ScratchEdited(scratching::one_too_many_freed),
+        &[ACCEPTED],
+    ),
+    (
+        "the first file goes",
+        &scratching::FirstFileScratched,
+        &[PLAIN_LIST],
+    ),
+    (
+        "scratch does nothing",
+        &ScratchEdited(scratching::nothing_scratched),
+        &[PLAIN_LIST],
+    ),
+];
+
+/// The first list on which demand 3 is broken.
+fn broken_by(library: &dyn EntryPoints) -> Option<String> {
+    let mut lists = (0..LISTS).map(List::new);
+    lists.find_map(|list| Some(demand3_over(library, &list).err()?.to_string()))
+}
+
+#[test]
+fn demand_3_alone_finds_cheats() {
+    for (what, library, clauses) in CHEATS {
+        let broken = broken_by(*library).unwrap_or_else(|| panic!("not found: {what}"));
+        let all = CLAUSES.iter().chain([&OWN_CHECK]);
+        let named: Vec<&str> = all
+            .copied()
+            .filter(|clause| broken.contains(clause))
+            .collect();
+        assert_eq!(named, *clauses, "{what}: {broken}");
+    }
+}
+
+#[test]
 fn the_right_library_passes() {
-    if let (_, Err(failure)) = run(&Faithful) {
-        panic!("{failure}");
+    // Edits that change nothing are not what is found in the others.
+    let edited = StoreEdited(stored::house_order);
+    for library in [&Faithful as &dyn EntryPoints, &edited] {
+        if let (_, Err(failure)) = run(library) {
+            panic!("{failure}");
+        }
+    }
+    for list in (0..LISTS).map(List::new) {
+        let result = compare_list(&Faithful, &list, false, &mut Tally::default());
+        if let Err(failure) = result.and_then(|()| demand3_over(&Faithful, &list)) {
+            panic!("{failure}");
+        }
     }
 }

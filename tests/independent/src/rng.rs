@@ -78,9 +78,14 @@ fn asked(name: &str) -> Option<u64> {
 /// The seeds of one test: 0 to `rounds` - 1, or as many as ROUNDS says, or
 /// the single one that SEED says.
 pub fn seeds(rounds: u64) -> Vec<u64> {
+    seeds_by("ROUNDS", rounds)
+}
+
+/// The same, with another name than ROUNDS for how many.
+pub fn seeds_by(many: &str, usual: u64) -> Vec<u64> {
     match asked("SEED") {
         Some(seed) => vec![seed],
-        None => (0..asked("ROUNDS").unwrap_or(rounds)).collect(),
+        None => (0..asked(many).unwrap_or(usual)).collect(),
     }
 }
 

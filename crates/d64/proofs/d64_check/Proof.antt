@@ -29,7 +29,7 @@ returns-2 c =
     let t = g .before .before in
     let k = t .before in
     let p = k .before .before .before .before .args in
-    call-nine layout35 (p .image .now) (p .answer .now) check _ _ _ _ (omega arith) (check-replied (p .image .now) (k .check-image .result) _ (k .check-image .ensures) (t .report-of .ensures)) (g .give-answer .ensures)
+    call-nine layout35 (p .image .now) (p .answer .now) check _ _ _ _ _ (omega arith) (check-replied (p .image .now) (k .check-image .result) _ (k .check-image .ensures) (t .report-of .ensures)) (g .give-answer .ensures)
 
 pub d64-check-spec : {M : Type 1} → statement M
 d64-check-spec =

@@ -30,7 +30,7 @@ returns-2 c =
     let k = g .before .before .before .before in
     let p = k .before .before .before .before .before .before .args in
     let replied = listing-replied (p .track18 .now) (p .text .now) _ _ (k .list-track18 .ensures) in
-    served-nine (p .track18 .now) (p .text .now) (p .answer .now) (listInto layout35 (p .track18 .now) (p .text .now)) _ _ _ _ (omega arith) replied (g .give-answer .ensures)
+    served-nine (p .track18 .now) (p .text .now) (p .answer .now) (listInto layout35 (p .track18 .now) (p .text .now)) _ _ _ _ _ (omega arith) replied (g .give-answer .ensures)
 
 pub d64-listing-spec : {M : Type 1} → statement M
 d64-listing-spec =

@@ -28,7 +28,7 @@ returns-2 c =
     let g = c .before .before in
     let k = g .before .before .before .before in
     let p = k .before .before .before .before .before .before .before .args in
-    call-nine layout35 (p .image .now) (p .answer .now) (read (p .name .now) (p .out .now)) _ _ _ _ (omega arith) (k .read-file .ensures) (g .give-answer .ensures)
+    call-nine layout35 (p .image .now) (p .answer .now) (read (p .name .now) (p .out .now)) _ _ _ _ _ (omega arith) (k .read-file .ensures) (g .give-answer .ensures)
 
 pub d64-read-spec : {M : Type 1} → statement M
 d64-read-spec =

@@ -46,7 +46,7 @@ returns-2 c =
     let k = b .before .before in
     let p = k .before .before .before .before .before .args in
     let replied = tell-replied (p .image .now) (p .entry .now) (p .position) (k .tell-file .result) _ _ _ _ (k .tell-file .ensures) (search needs) (b .entry-bytes .ensures) (e .give-entry .ensures) (t .report-of .ensures) in
-    served-nine (p .image .now) (p .entry .now) (p .answer .now) (tellInto layout35 (p .image .now) (p .position) (p .entry .now)) _ _ _ _ (omega arith) replied (g .give-answer .ensures)
+    served-nine (p .image .now) (p .entry .now) (p .answer .now) (tellInto layout35 (p .image .now) (p .position) (p .entry .now)) _ _ _ _ _ (omega arith) replied (g .give-answer .ensures)
 
 pub d64-tell-spec : {M : Type 1} → statement M
 d64-tell-spec =

@@ -8,7 +8,7 @@ use Rattle.answers.specs.declared.Fault.the-variants.{WrongSize, BadNameArgumen
 use Rattle.answers.specs.Faults.{faultOf}
 use Rattle.diskcheck.proofs.CheckedLaws.{refused-image}
 use Rattle.reading.proofs.ReplyLaws.{read-size, read-name, read-fault, read-refused}
-use Rattle.reading.proofs.FoundLaws.{checked-slots}
+use Rattle.finding.proofs.CheckedSlotLaws.{checked-slots}
 use borrow.Author.Needs.{needs}
 use Rattle.reading.proofs.read_file.Statement.{statement}
 use Rattle.reading.proofs.read_file.Tie as tie

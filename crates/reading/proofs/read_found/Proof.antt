@@ -8,7 +8,7 @@ use Rattle.answers.specs.Faults.{faultOf}
 use Rattle.reading.specs.FileSlots.{firstOf, FileEntry}
 use Rattle.reading.specs.Replies.{readFrom}
 use Rattle.reading.proofs.ReplyLaws.{read-refused, read-replied}
-use Rattle.reading.proofs.FoundLaws.{slots-there, none-named, some-named}
+use Rattle.reading.proofs.FoundLaws.{none-named, some-named}
 use borrow.Author.Needs.{needs}
 use Rattle.reading.proofs.read_found.Statement.{statement}
 use Rattle.reading.proofs.read_found.Tie as tie
@@ -23,7 +23,7 @@ part-track18-end : tie.Need-part-track18-end
 part-track18-end c = search needs
 
 find-named-requires : tie.Need-find-named-requires
-find-named-requires c κs = slots-there (c .before .before .before .before .pre .0)
+find-named-requires c κs = search needs
 
 refuse-requires : tie.Need-refuse-requires
 refuse-requires c κs = search needs

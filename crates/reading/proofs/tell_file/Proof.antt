@@ -1,7 +1,7 @@
 -- `reading::tell_file` meets its contract. In order: the check; the telling of a checked image.
 use Rattle.diskcheck.proofs.CheckedLaws.{refused-image}
 use Rattle.reading.proofs.ReplyLaws.{tell-fault, tell-refused}
-use Rattle.reading.proofs.FoundLaws.{checked-slots}
+use Rattle.finding.proofs.CheckedSlotLaws.{checked-slots}
 use borrow.Author.Needs.{needs}
 use Rattle.reading.proofs.tell_file.Statement.{statement}
 use Rattle.reading.proofs.tell_file.Tie as tie

@@ -9,7 +9,7 @@ use Rattle.answers.specs.Faults.{faultOf}
 use Rattle.reading.specs.FileSlots.{FileEntry}
 use Rattle.reading.specs.Replies.{toldOf}
 use Rattle.reading.proofs.ReplyLaws.{tell-refused, tell-replied}
-use Rattle.reading.proofs.FoundLaws.{slots-there, none-placed, some-placed}
+use Rattle.reading.proofs.FoundLaws.{none-placed, some-placed}
 use borrow.Author.Needs.{needs}
 use Rattle.reading.proofs.tell_found.Statement.{statement}
 use Rattle.reading.proofs.tell_found.Tie as tie
@@ -24,7 +24,7 @@ part-track18-end : tie.Need-part-track18-end
 part-track18-end c = search needs
 
 find-placed-requires : tie.Need-find-placed-requires
-find-placed-requires c κs = slots-there (c .before .before .pre)
+find-placed-requires c κs = search needs
 
 tell-nothing-requires : tie.Need-tell-nothing-requires
 tell-nothing-requires c κs = search needs

@@ -1,7 +1,9 @@
 -- `sectors::write_sector` meets its contract: what comes back of the loan is the sector's place with the content in it, and else nothing is lent.
+use Prim.Native.Nat.{_*_}
 use native.Mathlib.Omega.{arith}
-use mathlib.Core.Path.{sym}
-use Rattle.sectors.proofs.SectorLaws.{withSector-size, withSector-cut, copied}
+use mathlib.Core.Path.{sym, _∙_}
+use Rattle.parts.proofs.OverwriteLaws.{copied-back}
+use Rattle.sectors.proofs.SectorLaws.{withSector-whole, withSector-size, withSector-cut}
 use borrow.Author.Needs.{needs}
 use Rattle.sectors.proofs.write_sector.Statement.{statement}
 use Rattle.sectors.proofs.write_sector.Tie as tie
@@ -30,7 +32,8 @@ same-length c = search needs
 returns : tie.Need-returns
 returns c =
     let a = c .before .before .before .before .before .before .before .before .args in
-    copied (a .img .now) (a .n) (a .content .now) (omega arith) (omega arith) (c .before .before .copy .ensures .1)
+    copied-back (a .img .now) (256 * a .n) 256 (a .content .now) (omega arith) (c .before .before .copy .ensures .1)
+    ∙ sym (withSector-whole (a .img .now) (a .n) (a .content .now) (omega arith) (omega arith))
 
 returns-2 : tie.Need-returns-2
 returns-2 c =

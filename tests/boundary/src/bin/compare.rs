@@ -1,8 +1,9 @@
-//! Compares the archive libd64.a with the independent program. SEED runs one
-//! round, ROUNDS so many, TRACE=1 prints each call before it is made.
+//! Compares the archive libd64.a with the independent program by rounds. SEED
+//! runs one round, ROUNDS so many, TRACE=1 prints each call before it is made.
 
 use boundary::archive::Archive;
-use boundary::rounds::{run_round, Tally};
+use boundary::rounds::run_round;
+use boundary::tally::{Tally, EVERY_NUMBER};
 use independent::rng::seeds;
 use std::process::ExitCode;
 
@@ -25,7 +26,7 @@ fn main() -> ExitCode {
     }
     println!("{tally}");
     // Fewer rounds than usual may well be thin.
-    let thin = tally.thin(ENOUGH);
+    let thin = tally.thin(EVERY_NUMBER, ENOUGH);
     if rounds.len() as u64 >= ROUNDS && !thin.is_empty() {
         println!("{}", thin.join("\n"));
         return ExitCode::FAILURE;

@@ -1,0 +1,4 @@
+pub mod ClearLaws
+pub mod MapSectorLaws
+pub mod FreshLaws
+pub mod ReplyLaws

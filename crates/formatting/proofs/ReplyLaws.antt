@@ -1,0 +1,47 @@
+-- The reply to a format (01, Answer numbers; Format): refused with 1 or 9, or done; and that the code's report says the same.
+use Prim.Native.Nat.{ℕ, _*_}
+use native.Mathlib.Omega.{arith}
+use mathlib.Core.Path.{_≡_}
+use mathlib.Core.Bool.{true, false}
+use mathlib.Core.List.{[]}
+use lib.ListN.{length}
+use borrow.Author.Tests.{eq-eqb, ne-eqb}
+use Rattle.d64spec.specs.Lists.{Bytes}
+use Rattle.d64spec.specs.Answers.{refused, wrongSize, badNameArgument}
+use Rattle.d64spec.specs.Geometry.{layout35, total}
+use Rattle.d64spec.specs.Image.{image}
+use Rattle.d64spec.specs.Check.{rightSize}
+use Rattle.d64spec.specs.Reply.{reply, validNameArgument}
+use Rattle.d64spec.specs.Format.{callFormat, formattedDisk}
+use Rattle.d64spec.specs.Call.{attempt, format, outputBuffer, perform}
+use Rattle.d64spec.proofs.RunTheorem.{sectors35}
+use Rattle.answers.specs.declared.Fault as code
+use Rattle.answers.specs.declared.Verdict.the-variants.{Fine, Refused}
+use Rattle.answers.specs.declared.Report.{Report}
+use Rattle.answers.specs.Faults.{faultOf, verdictOf, answerTo, replyOf}
+
+module _ (img name : Bytes) (i j : ℕ) where
+  -- THE REPLY TO A FORMAT that is refused
+  pub format-refused : {rep : Report} (f : code.Fault) → rep ≡ record { verdict = Refused f; length = 0; sectors = 0 } → callFormat layout35 img name i j ≡ refused (faultOf f)
+      → replyOf rep img [] ≡ perform layout35 img (format name i j)
+  unfolding perform attempt outputBuffer reply verdictOf answerTo
+  format-refused f e r = rw (e, r)
+
+  pub format-size : (length img ≡ 174848 → ⊥) → callFormat layout35 img name i j ≡ refused wrongSize
+  unfolding callFormat rightSize
+  format-size other = rw (ne-eqb (length img) (256 * total layout35) (λ e. other (omega (arith, sectors35))))
+
+  module _ (size : length img ≡ 174848) where
+    sized : rightSize layout35 img ≡ true
+    unfolding rightSize
+    sized = eq-eqb (length img) (256 * total layout35) (omega (arith, sectors35))
+
+    pub format-name : validNameArgument name ≡ false → callFormat layout35 img name i j ≡ refused badNameArgument
+    unfolding callFormat
+    format-name asked = rw (sized, asked)
+
+    -- THE REPLY TO A FORMAT that is done
+    pub format-done : {rep : Report} {img′ : Bytes} → validNameArgument name ≡ true → img′ ≡ image layout35 (formattedDisk layout35 name i j)
+        → rep ≡ record { verdict = Fine; length = 0; sectors = 0 } → replyOf rep img′ [] ≡ perform layout35 img (format name i j)
+    unfolding perform attempt outputBuffer callFormat reply verdictOf answerTo
+    format-done asked e r = rw (r, e, sized, asked)

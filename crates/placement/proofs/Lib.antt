@@ -1,0 +1,4 @@
+pub mod BehindLaws
+pub mod TrackLaws
+pub mod OrderLaws
+pub mod PlaceLaws

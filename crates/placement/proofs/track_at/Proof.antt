@@ -1,0 +1,21 @@
+-- `placement::track_at`: the order by index, downward below 17, then upward. Assumes nothing.
+use native.Mathlib.Omega.{arith}
+use borrow.Author.Needs.{needs}
+use Rattle.placement.proofs.OrderLaws.{order-down, order-up}
+use Rattle.placement.proofs.track_at.Statement.{statement}
+use Rattle.placement.proofs.track_at.Tie as tie
+
+sub-result : tie.Need-sub-result
+sub-result c = search needs
+
+add-result : tie.Need-add-result
+add-result c = search needs
+
+returns : tie.Need-returns
+returns c = order-down (omega arith) (omega arith)
+
+returns-2 : tie.Need-returns-2
+returns-2 c = order-up (omega arith) (omega arith) (omega arith)
+
+pub track-at-spec : {M : Type 1} → statement M
+track-at-spec = tie.close (tie.spec sub-result add-result returns returns-2)
