@@ -34,7 +34,7 @@ module _ {A : Type 0} (P : A → Type 0) where
   all-of-mem [] f = tt
   all-of-mem (x ∷ l) f = (f x (List·Memᴰ·head refl), all-of-mem l (λ y m. f y (List·Memᴰ·tail m)))
 
-  all-at : (l : List A) → All P l → (i : ℕ) (z : A) → i < length l → P (getD l i z)
+  pub all-at : (l : List A) → All P l → (i : ℕ) (z : A) → i < length l → P (getD l i z)
   all-at [] a i z h = absurd (omega arith)
   all-at (x ∷ l) a zero z h = a .0
   all-at (x ∷ l) a (suc i) z h = all-at l (a .1) i z (omega arith)

@@ -51,6 +51,8 @@ pub record Entered (g : Geometry) (d d1 d2 : Disk) (entry : Bytes) (place : Slot
 pub record StoreLeaves (g : Geometry) (d d2 : Disk) (place : SlotPlace) (l : List Address) (bs : Bytes) (x : PlainEntry) : Type 0 where
   pub prepared : Prepared g d d2 (addedSectors place ++ l)
   pub holds : Perm (plainList g (rewriteMap g d2)) (x ∷ plainList g d)
+  -- each sector taken has one owner more
+  pub owned : (n : ℕ) → claimCount g d2 n ≡ claimCount g d n + count n (map (sectorNumber g) l) + count n (map (sectorNumber g) (addedSectors place))
   pub claims : (n : ℕ) → claimCount g d n ≤ claimCount g (rewriteMap g d2) n
   pub kept : (n : ℕ) → claimCount g (rewriteMap g d2) n ≡ 0 → rewriteMap g d2 n ≡ d n
   pub laid : DataWritten g (rewriteMap g d2) l (x .content)
@@ -250,6 +252,7 @@ module _ (g : Geometry) (v : Valid g) (d : Disk) (a : Sound g d) (r : Address) (
   store-leaves = record {
     prepared = prepared2;
     holds = rw (rewrite-plainList g v d2 (e .whole) sound2, plainList2, plainList-are) (perm-middle (map (plainEntryOf g d) before) (map (plainEntryOf g d) behind));
+    owned = claims2;
     claims = λ n. omega (arith, store-claims n);
     kept = λ n h.
         let o : claimCount g d n + count n (map (sectorNumber g) refs) + count n extra ≡ 0 = sym (store-claims n) ∙ h in

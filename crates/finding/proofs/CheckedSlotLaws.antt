@@ -7,7 +7,7 @@ use mathlib.Core.Bool.{true, false}
 use mathlib.Core.List.{List, [], _∷_, map}
 use lib.ListN.{length, take, drop}
 use lib.Dec.{eqb}
-use borrow.Author.Tests.{ne-eqb}
+use borrow.Author.Tests.{eq-eqb, ne-eqb}
 use Rattle.d64spec.specs.Lists.{Bytes, All}
 use Rattle.d64spec.specs.Answers.{Fault, notFound, refused, done, first}
 use Rattle.d64spec.specs.Geometry.{layout35}
@@ -24,7 +24,7 @@ use Rattle.diskcheck.specs.ImageChecks.{ImageChecked}
 use Rattle.diskcheck.proofs.TrackLaws.{track18-lent}
 use Rattle.diskcheck.proofs.CheckedLaws.{fine-image}
 use Rattle.finding.specs.FileSlots.{slotNamed, slotPlaced, CheckedSlots}
-use Rattle.finding.proofs.FindLaws.{foundAt, filesFrom, found-none, found-some, named-found, placed-found}
+use Rattle.finding.proofs.FindLaws.{foundAt, filesFrom, named-found, placed-found}
 
 -- track 18 as the code lends it
 abbrev pub lentTrack18 : Bytes → Bytes
@@ -63,6 +63,15 @@ module _ {img : Bytes} {ss : List ℕ} {end : ℕ} (there : CheckedSlots img ss 
   unfolding files
   files-found = ap (map (fileOf layout35 (disk img))) (there .occupied)
 
+  -- where the search ends at the end of the slots, and where at a slot
+  pub found-none : {k : ℕ} → k ≡ end → foundAt img ss end k ≡ refused notFound
+  unfolding foundAt
+  found-none {k} e = rw (eq-eqb k end e)
+
+  pub found-some : {k : ℕ} → (k ≡ end → ⊥) → foundAt img ss end k ≡ done (fileOf layout35 (disk img) (imageSlot img ss k))
+  unfolding foundAt
+  found-some {k} e = rw (ne-eqb k end e)
+
   pub names-valid : All (λ s. validName (s .bytes) ≡ true) (imageOccupied img ss 0 end)
   unfolding fileOf
   names-valid =
@@ -80,10 +89,10 @@ module _ {img : Bytes} {ss : List ℕ} {end : ℕ} (there : CheckedSlots img ss 
   -- whether a file has the name
   module _ (name : Bytes) (asked : validNameArgument name ≡ true) {k : ℕ} (is : k ≡ slotNamed (lentTrack18 img) ss name 0 end) where
     pub name-free : k ≡ end → eqb (length (filesNamed name (files layout35 (disk img)))) 0 ≡ true
-    name-free e = none-first notFound (filesNamed name (files layout35 (disk img))) (by-name name asked is ∙ found-none img ss e)
+    name-free e = none-first notFound (filesNamed name (files layout35 (disk img))) (by-name name asked is ∙ found-none e)
 
     pub name-used : (k ≡ end → ⊥) → eqb (length (filesNamed name (files layout35 (disk img)))) 0 ≡ false
-    name-used e = some-first notFound (filesNamed name (files layout35 (disk img))) (by-name name asked is ∙ found-some img ss e)
+    name-used e = some-first notFound (filesNamed name (files layout35 (disk img))) (by-name name asked is ∙ found-some e)
 
   -- THE FILE AT A POSITION
   pub by-position : (position : ℕ) {k : ℕ} → k ≡ slotPlaced (lentTrack18 img) ss position 0 end → first notFound (drop position (files layout35 (disk img))) ≡ foundAt img ss end k

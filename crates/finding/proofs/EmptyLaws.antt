@@ -6,7 +6,7 @@ use mathlib.Core.Path.{_≡_, refl, sym, ap, _∙_}
 use mathlib.Core.Bool.{Bool, true, false, cond}
 use mathlib.Core.List.{List, [], _∷_, map}
 use lib.ListN.{length}
-use Rattle.d64spec.specs.Lists.{Bytes, All, filter, range}
+use Rattle.d64spec.specs.Lists.{Bytes, filter, range}
 use Rattle.d64spec.specs.Answers.{Address}
 use Rattle.d64spec.specs.Geometry.{layout35}
 use Rattle.d64spec.specs.Image.{disk}
@@ -16,7 +16,7 @@ use Rattle.d64spec.specs.Store.{emptySlots}
 use Rattle.directory.specs.Directories.{sectorsOf, slotAt, slotBytes}
 use Rattle.diskcheck.specs.SlotChecks.{imageSlot}
 use Rattle.diskcheck.proofs.TrackLaws.{track18-lent, slots-by-track18}
-use Rattle.finding.specs.FileSlots.{slotEmpty}
+use Rattle.finding.specs.FileSlots.{slotEmpty, CheckedSlots}
 use Rattle.finding.proofs.CheckedSlotLaws.{lentTrack18}
 
 -- ---- slots by number
@@ -45,12 +45,12 @@ module _ (b ss : List ℕ) where
 
 -- ---- the image
 
-module _ (img ss : List ℕ) (count : ℕ) (inside : All (λ s. s < 19) ss) (whole : count ≤ length ss) (sectors : sectorsOf ss count ≡ directorySectors layout35 (disk img)) where
+module _ {img ss : List ℕ} (count : ℕ) (there : CheckedSlots img ss (8 * count)) (sectors : sectorsOf ss count ≡ directorySectors layout35 (disk img)) (whole : count ≤ length ss) where
   slots-empty : emptySlots layout35 (disk img) ≡ emptyFrom (bytesOfTrack18 layout35 img) ss 0 (8 * count)
   unfolding emptySlots
   slots-empty =
       ap (λ (ds : List Address). filter (λ s. isEmpty (s .bytes)) (slotsFrom layout35 (disk img) 0 ds)) (sym sectors)
-      ∙ ap (filter (λ s. isEmpty (s .bytes))) (slots-by-track18 img ss count inside whole)
+      ∙ ap (filter (λ s. isEmpty (s .bytes))) (slots-by-track18 img ss count (there .inside) whole)
 
   module _ {k : ℕ} (is : k ≡ slotEmpty (lentTrack18 img) ss 0 (8 * count)) where
     same : k ≡ slotEmpty (bytesOfTrack18 layout35 img) ss 0 (8 * count)

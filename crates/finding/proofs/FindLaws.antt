@@ -112,14 +112,6 @@ unfoldable pub foundAt : Bytes → List ℕ → ℕ → ℕ → Result File
 foundAt img ss end i = cond (eqb i end) (refused notFound) (done (fileOf layout35 (disk img) (imageSlot img ss i)))
 
 module _ (img : Bytes) (ss : List ℕ) where
-  pub found-none : {end k : ℕ} → k ≡ end → foundAt img ss end k ≡ refused notFound
-  unfolding foundAt
-  found-none {end} {k} e = rw (eq-eqb k end e)
-
-  pub found-some : {end k : ℕ} → (k ≡ end → ⊥) → foundAt img ss end k ≡ done (fileOf layout35 (disk img) (imageSlot img ss k))
-  unfolding foundAt
-  found-some {end} {k} e = rw (ne-eqb k end e)
-
   -- the files of the occupied slots among the n from k on
   abbrev pub filesFrom : ℕ → ℕ → List File
   filesFrom k n = map (fileOf layout35 (disk img)) (imageOccupied img ss k n)

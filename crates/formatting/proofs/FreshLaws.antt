@@ -12,7 +12,7 @@ use Rattle.d64spec.specs.Format.{emptyDirectorySector, formattedDisk, formatted
 use Rattle.d64spec.proofs.BoundLaws.{sectorNumber-lt, map-on}
 use Rattle.d64spec.proofs.FormatLaws.{part-zeros}
 use Rattle.d64spec.proofs.InPlaceLaws.{disk-image}
-use Rattle.d64spec.proofs.RunTheorem.{valid35, sectors35}
+use Rattle.d64spec.proofs.RunTheorem.{sectors35}
 use Rattle.d64spec.proofs.SplitLaws.{map-range}
 use Rattle.sectors.specs.Sectors.{withSector}
 use Rattle.sectors.proofs.SectorLaws.{disk-withSector, length-withSector}

@@ -1,18 +1,19 @@
--- 18/0 of a fresh disk, as the code puts it together (01, Format). In order: the runs of bytes beside the map; the map, its entries written at once.
-use Prim.Native.Nat.{ℕ, _+_, _≤_}
+-- 18/0 of a fresh disk, as the code puts it together (01, Format). In order: the runs of bytes beside the map; the map's entries; 18/0 with them.
+use Prim.Native.Nat.{ℕ, suc, _+_, _≤_}
 use native.Mathlib.Omega.{arith}
 use mathlib.Core.Path.{_≡_, refl, sym, ap, ap₂, _∙_}
-use mathlib.Core.Bool.{Bool}
+use mathlib.Core.Bool.{Bool, true, false, cond}
 use mathlib.Core.List.{List, [], _∷_, _++_, map}
 use lib.ListN.{length, take, length-replicate}
 use lib.Seq.{take-all}
 use borrow.Author.Tests.{le-leb}
-use Rattle.d64spec.specs.Lists.{Bytes, ascending, join, range, splice, zeros}
+use Rattle.d64spec.specs.Lists.{Bytes, ascending, equal, join, range, splice, zeros}
 use Rattle.d64spec.specs.Answers.{Address}
 use Rattle.d64spec.specs.Geometry.{layout35, tracks}
 use Rattle.d64spec.specs.Directory.{padded}
 use Rattle.d64spec.specs.Map.{expectedEntry, withEntries}
 use Rattle.d64spec.specs.Format.{formatHeader, formattedMap, freeAfterFormat}
+use Rattle.d64spec.proofs.ListLaws.{eq-of-equal}
 use Rattle.d64spec.proofs.SpliceLaws.{length-splice}
 use Rattle.d64spec.proofs.FormatLaws.{header, header-same, padded-length}
 use Rattle.parts.specs.Overwrites.{overwritten}
@@ -48,6 +49,32 @@ module _ (name : Bytes) (i j : ℕ) (short : length name ≤ 16) where
       e₁ (e₂ ∙ ap (overwritten m₁ 0x90) field) e₃
 
 -- ---- the map
+
+-- the tracks, from t on, whose entry is not that of a fresh disk
+unfoldable pub wrongTracks : ℕ → Entries → List ℕ
+wrongTracks t [] = []
+wrongTracks t (e ∷ es) = cond (equal e (expectedEntry layout35 (freeAfterFormat layout35) t)) [] (t ∷ []) ++ wrongTracks (suc t) es
+
+entries-from : (t : ℕ) (es : Entries) → wrongTracks t es ≡ [] → es ≡ map (expectedEntry layout35 (freeAfterFormat layout35)) (range t (length es))
+unfolding wrongTracks
+entries-from t [] none = refl
+entries-from t (e ∷ es) none = go (equal e x) refl (entries-from (suc t) es) none
+  where
+    x : Bytes
+    x = expectedEntry layout35 (freeAfterFormat layout35) t
+
+    rest : Entries
+    rest = map (expectedEntry layout35 (freeAfterFormat layout35)) (range (suc t) (length es))
+
+    go : (b : Bool) → equal e x ≡ b → (wrongTracks (suc t) es ≡ [] → es ≡ rest) → cond b [] (t ∷ []) ++ wrongTracks (suc t) es ≡ [] → _≡_ {A = Entries} (e ∷ es) (x ∷ rest)
+    go true same more h = ap₂ (λ (y : Bytes) (l : Entries). y ∷ l) (eq-of-equal e x same) (more h)
+    go false same more h = absurd (let z : _≡_ {A = ℕ} 0 1 = cc in omega arith)
+
+-- THE MAP OF A FRESH DISK: 35 entries, none of them wrong
+pub fresh-entries : (es : Entries) → length es ≡ 35 → wrongTracks 1 es ≡ [] → es ≡ map (expectedEntry layout35 (freeAfterFormat layout35)) (range 1 35)
+fresh-entries es size none = entries-from 1 es none ∙ ap (λ (n : ℕ). map (expectedEntry layout35 (freeAfterFormat layout35)) (range 1 n)) size
+
+-- ---- 18/0 with the map
 
 -- all entries at once, or one by one, over four bytes and zeros
 entries-at-once : (free : Address → Bool) (a b c d : ℕ) (rest : Bytes)

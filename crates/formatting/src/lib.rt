@@ -14,7 +14,7 @@ use answers::Fault;
 use answers::Report;
 use answers::Verdict;
 
-// The map of a fresh disk, from track 1 on: the count of free sectors and three bitmap bytes, with all free but 18/0 and 18/1.
+// The map of a fresh disk, from track 1 on: each track's count of free sectors and three bitmap bytes, with all free but 18/0 and 18/1.
 const FRESH_MAP: [[u8; 4]; 35] = [
     [21, 0xFF, 0xFF, 0x1F],
     [21, 0xFF, 0xFF, 0x1F],
@@ -109,7 +109,7 @@ fn fresh_map_sector(name: &[u8], id1: u8, id2: u8) -> [u8; 256]
     m
 }
 
-// Makes an image of the right size that of a fresh disk.
+// Writes a fresh disk over an image of the right size: zeros, then 18/1, then 18/0.
 fn write_fresh(img: &mut [u8], name: &[u8], id1: u8, id2: u8)
     requires { ⌜ (length (now img) ≡ 174848) × (length (now name) ≤ 16) ⌝ }
     ensures { λ _. ⌜ now (img .exit) ≡ image layout35 (formattedDisk layout35 (now (name .entry)) id1 id2) ⌝ }
@@ -121,7 +121,7 @@ fn write_fresh(img: &mut [u8], name: &[u8], id1: u8, id2: u8)
     sectors::write_sector(img, 357, &m);
 }
 
-// Formats the image.
+// Formats an image: all zero except 18/0 and 18/1. Refused with 1 or 9, in this order; a refusal leaves the image as it was.
 pub fn format_image(img: &mut [u8], name: &[u8], id1: u8, id2: u8) -> Report
     ensures { λ r. ⌜ replyOf r (now (img .exit)) [] ≡ perform layout35 (now (img .entry)) (format (now (name .entry)) id1 id2) ⌝ }
 {

@@ -19,7 +19,7 @@ use Rattle.d64spec.proofs.SplitLaws.{all-mem}
 use Rattle.d64spec.proofs.RunTheorem.{sectors35}
 use Rattle.d64spec.proofs.ReadTheorem.{file-length}
 use Rattle.reading.specs.ChainReads.{sectorsFrom, dataFrom, lastByteFrom, ChainFrom}
-use Rattle.reading.specs.FileEntries.{firstOf, FileEntry}
+use Rattle.reading.specs.FileSlots.{firstOf, FileEntry}
 use Rattle.reading.proofs.ChainStepLaws.{chain-bad, sectors-first}
 
 -- the file at a position is one of the files

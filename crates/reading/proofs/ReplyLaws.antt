@@ -26,14 +26,14 @@ use Rattle.answers.specs.Faults.{faultOf, verdictOf, answerTo, replyOf}
 use Rattle.reading.specs.declared.copying.Copied.{Copied}
 use Rattle.reading.specs.declared.FileInformation.{FileInformation}
 use Rattle.reading.specs.declared.Told.{Told}
-use Rattle.reading.specs.FileEntries.{firstOf}
+use Rattle.reading.specs.FileSlots.{firstOf}
 use Rattle.reading.specs.ChainReads.{sectorsFrom, dataFrom, ChainCopied}
 use Rattle.reading.specs.Replies.{readFrom, toldOf, nothingTold, informationOf, tellReplyOf}
 
 -- ---- reports
 
 -- a report of a refusal says that refusal
-refused-reply : {img out : Bytes} {rep : Report} {x : Result Change} (f : code.Fault) → rep ≡ record { verdict = Refused f; length = 0; sectors = 0 } → x ≡ refused (faultOf f)
+pub refused-reply : {img out : Bytes} {rep : Report} {x : Result Change} (f : code.Fault) → rep ≡ record { verdict = Refused f; length = 0; sectors = 0 } → x ≡ refused (faultOf f)
     → replyOf rep img out ≡ reply img out x
 unfolding reply verdictOf answerTo
 refused-reply f e r = rw (e, r)
@@ -73,16 +73,16 @@ module _ (img b : Bytes) where
 
 -- ---- the size and the check
 
-size-true : (img : Bytes) → length img ≡ 174848 → rightSize layout35 img ≡ true
+pub size-true : (img : Bytes) → length img ≡ 174848 → rightSize layout35 img ≡ true
 unfolding rightSize
 size-true img h = eq-eqb (length img) (256 * total layout35) (omega (arith, sectors35))
 
-size-false : (img : Bytes) → (length img ≡ 174848 → ⊥) → rightSize layout35 img ≡ false
+pub size-false : (img : Bytes) → (length img ≡ 174848 → ⊥) → rightSize layout35 img ≡ false
 unfolding rightSize
 size-false img h = ne-eqb (length img) (256 * total layout35) (λ e. h (omega (arith, sectors35)))
 
 -- the check of an image of the right size is that of its sectors
-check-sized : (img : Bytes) {x : Result DirectoryContents} → rightSize layout35 img ≡ true → checkImage layout35 img ≡ x → checkDisk layout35 (disk img) ≡ x
+pub check-sized : (img : Bytes) {x : Result DirectoryContents} → rightSize layout35 img ≡ true → checkImage layout35 img ≡ x → checkDisk layout35 (disk img) ≡ x
 unfolding checkImage
 check-sized img size e = rw size at e
 

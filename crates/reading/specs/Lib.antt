@@ -1,3 +1,3 @@
 pub mod ChainReads
-pub mod FileEntries
+pub mod FileSlots
 pub mod Replies

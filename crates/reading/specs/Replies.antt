@@ -8,7 +8,7 @@ use Rattle.d64spec.specs.Reply.{Change}
 use Rattle.d64spec.specs.Read.{FileInformation as Information, TellReply}
 use Rattle.answers.specs.Faults.{verdictOf, answerTo}
 use Rattle.reading.specs.ChainReads.{sectorsFrom, dataFrom}
-use Rattle.reading.specs.FileEntries.{firstOf}
+use Rattle.reading.specs.FileSlots.{firstOf}
 use Rattle.reading.specs.declared.FileInformation.{FileInformation}
 use Rattle.reading.specs.declared.Told.{Told}
 

@@ -10,7 +10,7 @@ ghost use Rattle.d64spec.specs.Reply.{reply, validNameArgument};
 ghost use Rattle.d64spec.specs.Call.{read, perform};
 ghost use Rattle.answers.specs.Faults.{replyOf};
 ghost use Rattle.finding.specs.FileSlots.{CheckedSlots};
-ghost use Rattle.reading.specs.FileEntries.{firstOf, FileEntry};
+ghost use Rattle.reading.specs.FileSlots.{firstOf, FileEntry};
 ghost use Rattle.reading.specs.Replies.{readFrom, toldOf, nothingTold, informationOf, tellReplyOf};
 use answers::Fault;
 use answers::Report;

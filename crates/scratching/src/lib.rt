@@ -1,10 +1,20 @@
 // Scratch (01, What the calls do): the file's sectors and its slot zeroed, and its sectors free in the map. Every refusal is decided while the
 // image is only read; what is written then cannot fail.
 ghost use mathlib.Core.Path.{_≡_};
+ghost use mathlib.Core.Bool.{true};
 ghost use mathlib.Core.List.{[]};
+ghost use lib.ListN.{length};
+ghost use Rattle.d64spec.specs.Lists.{zeros};
+ghost use Rattle.d64spec.specs.Answers.{done};
 ghost use Rattle.d64spec.specs.Geometry.{layout35};
+ghost use Rattle.d64spec.specs.Reply.{reply, validNameArgument};
+ghost use Rattle.d64spec.specs.Scratch.{scratchChange};
 ghost use Rattle.d64spec.specs.Call.{scratch, perform};
+ghost use Rattle.geometry.specs.Layout.{addressOf};
+ghost use Rattle.parts.specs.Overwrites.{overwritten};
 ghost use Rattle.answers.specs.Faults.{replyOf};
+ghost use Rattle.finding.specs.FileSlots.{CheckedSlots};
+ghost use Rattle.scratching.specs.Scratches.{ChainOwned, ClearReady, ChainCleared, withMap, EntryOwned, FileCleared, fileOn, FileThere, MayScratch};
 use answers::Fault;
 use answers::Report;
 use answers::Verdict;
@@ -17,12 +27,15 @@ struct Cleared {
 }
 
 // Clears the sectors of the chain that starts at `first`, and marks them free in the map. Each link is read before its sector is cleared.
-fn clear_chain(
+fn clear_from(
     img: &mut [u8],
     first: Address,
     map: &mut [[u8; 4]; 35],
     firsts: &[u16; 35],
-) -> Cleared {
+) -> Cleared
+    requires { ⌜ ClearReady (now img) (now map) (now firsts) (addressOf first) ⌝ }
+    ensures { λ r. ⌜ ChainCleared (now (img .entry)) (addressOf first) r (now (img .exit)) (now (map .exit)) ⌝ }
+{
     let mut track = first.track;
     let mut sector = first.sector;
     let mut count: usize = 0;
@@ -42,18 +55,46 @@ fn clear_chain(
     }
 }
 
-// Scratches the file of slot `index` of the directory sector 18/holder of a checked image.
-fn scratch_slot(img: &mut [u8], holder: u8, index: usize) -> Report {
-    let at = 91392 + 256 * (holder as usize) + 32 * index + 2;
+// The same, over the layout's own table.
+fn clear_chain(img: &mut [u8], first: Address, map: &mut [[u8; 4]; 35]) -> Cleared
+    requires { ⌜ ChainOwned (now img) (now map) (addressOf first) ⌝ }
+    ensures { λ r. ⌜ ChainCleared (now (img .entry)) (addressOf first) r (now (img .exit)) (now (map .exit)) ⌝ }
+{
+    clear_from(img, first, map, &geometry::FIRST)
+}
+
+// Zeroes the 30 bytes of a slot from byte `at` on, and puts the map into its sector.
+fn clear_slot(img: &mut [u8], at: usize, map: [[u8; 4]; 35])
+    requires { ⌜ length (now img) ≡ 174848 ⌝ }
+    ensures { λ _. ⌜ now (img .exit) ≡ withMap map (overwritten (now (img .entry)) at (zeros 30)) ⌝ }
+{
+    let blank = [0u8; 30];
+    parts::overwrite(img, at, &blank);
+    mapsector::store_map(map, &mut img[91392..91648]);
+}
+
+// Clears the chain that the slot from byte `at` on starts, and the slot itself; the map follows.
+fn clear_file(img: &mut [u8], at: usize) -> Cleared
+    requires { ⌜ EntryOwned (now img) at ⌝ }
+    ensures { λ r. ⌜ FileCleared (now (img .entry)) at r (now (img .exit)) ⌝ }
+{
     let first = Address {
         track: img[at + 1],
         sector: img[at + 2],
     };
     let mut map = mapsector::load_map(&img[91392..91648]);
-    let cleared = clear_chain(img, first, &mut map, &geometry::FIRST);
-    let blank = [0u8; 30];
-    parts::overwrite(img, at, &blank);
-    mapsector::store_map(map, &mut img[91392..91648]);
+    let cleared = clear_chain(img, first, &mut map);
+    clear_slot(img, at, map);
+    cleared
+}
+
+// Scratches the file of slot `index` of the directory sector 18/holder of a checked image.
+fn scratch_slot(img: &mut [u8], holder: u8, index: usize) -> Report
+    requires { ⌜ FileThere (now img) holder index ⌝ }
+    ensures { λ r. ⌜ replyOf r (now (img .exit)) [] ≡ reply (now (img .entry)) [] (done (scratchChange layout35 (now (img .entry)) (fileOn (now (img .entry)) holder 0 index))) ⌝ }
+{
+    let at = 91392 + 256 * (holder as usize) + 32 * index + 2;
+    let cleared = clear_file(img, at);
     Report {
         verdict: Verdict::Fine,
         length: 254 * (cleared.count as u32 - 1) + cleared.last as u32 - 1,
@@ -61,18 +102,29 @@ fn scratch_slot(img: &mut [u8], holder: u8, index: usize) -> Report {
     }
 }
 
-// The same for the file of this name on a checked image, looked for among the slots 0 to end - 1; refused with 11 where the DOS version forbids
-// writing, and with 13 where no slot has the name.
-fn scratch_checked(img: &mut [u8], name: &[u8], sectors: &[u8; 18], end: usize) -> Report {
-    if !mapsector::may_write(&img[91392..91648]) {
-        return answers::refuse(Fault::WriteForbidden);
-    }
+// The same for the file of this name on a checked image that may be written, looked for among the slots 0 to end - 1; refused with 13 where no
+// slot has the name.
+fn scratch_named(img: &mut [u8], name: &[u8], sectors: &[u8; 18], end: usize) -> Report
+    requires { ⌜ MayScratch (now img) (now name) (now sectors) end ⌝ }
+    ensures { λ r. ⌜ replyOf r (now (img .exit)) [] ≡ perform layout35 (now (img .entry)) (scratch (now (name .entry))) ⌝ }
+{
     let k = finding::find_named(&img[91392..96256], sectors, name, end);
     if k == end {
         return answers::refuse(Fault::NotFound);
     }
     let i = k / 8;
     scratch_slot(img, sectors[i], k % 8)
+}
+
+// The same on any checked image; refused with 11 where the DOS version forbids writing.
+fn scratch_checked(img: &mut [u8], name: &[u8], sectors: &[u8; 18], end: usize) -> Report
+    requires { ⌜ CheckedSlots (now img) (now sectors) end × (validNameArgument (now name) ≡ true) ⌝ }
+    ensures { λ r. ⌜ replyOf r (now (img .exit)) [] ≡ perform layout35 (now (img .entry)) (scratch (now (name .entry))) ⌝ }
+{
+    if !mapsector::may_write(&img[91392..91648]) {
+        return answers::refuse(Fault::WriteForbidden);
+    }
+    scratch_named(img, name, sectors, end)
 }
 
 // Scratches the file of this name: zeroes its sectors and bytes 02-1F of its slot, and frees the sectors in the map; reports its length and its

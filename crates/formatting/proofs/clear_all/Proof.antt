@@ -1,10 +1,8 @@
 -- `formatting::clear_all` meets its contract: the bytes passed are 0.
 use native.Mathlib.Omega.{arith}
 use Prim.Native.Nat.{_-_}
-use mathlib.Core.Path.{refl}
 use lib.ListN.{length, length-set}
-use Rattle.mapsector.proofs.FillLaws.{filling-start, filling-moved}
-use Rattle.formatting.proofs.ClearLaws.{Clearing, clearing-finished}
+use Rattle.formatting.proofs.ClearLaws.{Clearing, clearing-start, clearing-moved, clearing-finished}
 use Rattle.formatting.proofs.clear_all.Statement.{statement}
 use Rattle.formatting.proofs.clear_all.Tie as tie
 
@@ -15,7 +13,7 @@ abbrev μ-loop : tie.MeasureT-loop
 μ-loop img₀ i₀ img i = length img - i
 
 loop-holds : tie.Need-loop-holds Inv-loop μ-loop
-loop-holds c = filling-start _ refl
+loop-holds c = clearing-start _ (omega arith)
 
 slice-write-img : tie.Need-slice-write-img Inv-loop μ-loop
 slice-write-img c = omega arith
@@ -27,7 +25,7 @@ loop-less : tie.Need-loop-less Inv-loop μ-loop
 loop-less c = simp length-set (omega arith)
 
 loop-again : tie.Need-loop-again Inv-loop μ-loop
-loop-again c = filling-moved (c .before .loop .inv) (omega arith) 0 refl
+loop-again c = clearing-moved (c .before .loop .inv) (omega arith) (omega arith) (omega arith)
 
 same-length : tie.Need-same-length Inv-loop μ-loop
 same-length c = omega arith

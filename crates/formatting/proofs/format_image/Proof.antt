@@ -20,7 +20,7 @@ unfolding faultOf
 returns c =
     let a = c .before .before .before .before .args in
     format-refused (a .img .now) (a .name .now) (a .id1) (a .id2) WrongSize (c .refuse .ensures)
-    (format-size (a .img .now) (a .name .now) (a .id1) (a .id2) (λ size. c .before .if1 .taken (omega arith)))
+    (format-size (a .img .now) (a .name .now) (a .id1) (a .id2) (λ size. omega (arith, c .before .if1 .taken)))
 
 valid-name-argument-requires : tie.Need-valid-name-argument-requires
 valid-name-argument-requires c κs = search needs

@@ -3,15 +3,13 @@ use mathlib.Core.Path.{refl}
 use Rattle.d64spec.specs.Geometry.{layout35, sectorsOn, sectorNumber, firstOn}
 use Rattle.d64spec.specs.Map.{expectedBit, bitmapByte, expectedEntry}
 use Rattle.d64spec.specs.Format.{freeAfterFormat}
+use Rattle.formatting.proofs.MapSectorLaws.{wrongTracks, fresh-entries}
 use Rattle.formatting.proofs.fresh_map.Statement.{statement}
 use Rattle.formatting.proofs.fresh_map.Tie as tie
-use Rattle.formatting.proofs.fresh_map.Reads as reads
-use Rattle.formatting.proofs.fresh_map.Lts as lts
 
--- src/lib.rt:68:1
 returns : tie.Need-returns
-unfolding expectedEntry expectedBit bitmapByte freeAfterFormat layout35 sectorsOn sectorNumber firstOn
-returns c = refl
+unfolding wrongTracks expectedEntry expectedBit bitmapByte freeAfterFormat layout35 sectorsOn sectorNumber firstOn
+returns c = fresh-entries _ refl refl
 
 pub fresh-map-spec : {M : Type 1} → statement M
 fresh-map-spec = tie.close (tie.spec returns)

@@ -5,7 +5,7 @@ use Rattle.d64spec.specs.Geometry.{layout35}
 use Rattle.d64spec.specs.Read.{callRead}
 use Rattle.answers.specs.declared.Fault.the-variants.{NotFound}
 use Rattle.answers.specs.Faults.{faultOf}
-use Rattle.reading.specs.FileEntries.{firstOf, FileEntry}
+use Rattle.reading.specs.FileSlots.{firstOf, FileEntry}
 use Rattle.reading.specs.Replies.{readFrom}
 use Rattle.reading.proofs.ReplyLaws.{read-refused, read-replied}
 use Rattle.reading.proofs.FoundLaws.{none-named, some-named}

@@ -4,7 +4,7 @@ use native.Mathlib.Omega.{arith}
 use mathlib.Core.Logic.{⊎-elim}
 use lib.ListN.{length}
 use Rattle.reading.specs.ChainReads.{dataFrom}
-use Rattle.reading.specs.FileEntries.{firstOf}
+use Rattle.reading.specs.FileSlots.{firstOf}
 use Rattle.reading.proofs.ReplyLaws.{short-reply, whole-reply}
 use borrow.Author.Needs.{needs}
 use Rattle.reading.proofs.read_slot.Statement.{statement}

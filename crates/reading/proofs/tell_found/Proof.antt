@@ -6,7 +6,7 @@ use Rattle.d64spec.specs.Geometry.{layout35}
 use Rattle.d64spec.specs.Read.{callTell}
 use Rattle.answers.specs.declared.Fault.the-variants.{NotFound}
 use Rattle.answers.specs.Faults.{faultOf}
-use Rattle.reading.specs.FileEntries.{FileEntry}
+use Rattle.reading.specs.FileSlots.{FileEntry}
 use Rattle.reading.specs.Replies.{toldOf}
 use Rattle.reading.proofs.ReplyLaws.{tell-refused, tell-replied}
 use Rattle.reading.proofs.FoundLaws.{none-placed, some-placed}

@@ -1,0 +1,160 @@
+-- The loop that clears a chain (01, Scratch; Chains): what it keeps, from its start through each sector to the last.
+-- In order: sectors cleared in another order; what is kept (`Clearing`); the sector at hand is as it was; it is cleared, and its mark moved.
+use Prim.Native.Nat.{ℕ, _+_, _*_, _/_, _%_, _≤_, _<_}
+use native.Mathlib.Omega.{arith}
+use native.Mathlib.Decide.{decLt}
+use mathlib.Core.Path.{_≡_, refl, sym, ap, ap₂, _∙_, fun-ext}
+use mathlib.Core.Bool.{Bool, true, false, cond}
+use mathlib.Core.List.{List, [], _∷_, map}
+use lib.ListN.{length}
+use lib.Dec.{eqb, ltb}
+use borrow.Author.Tests.{eq-eqb, ne-eqb}
+use Rattle.d64spec.specs.Lists.{Bytes, byte, count, indicator, zeros}
+use Rattle.d64spec.specs.Answers.{Address, address}
+use Rattle.d64spec.specs.Geometry.{layout35, sectorNumber}
+use Rattle.d64spec.specs.Image.{Disk, disk, put}
+use Rattle.d64spec.specs.Owner.{claimCount, isFree}
+use Rattle.d64spec.specs.Scratch.{clearSectors}
+use Rattle.d64spec.proofs.ClearLaws.{clear-in, clear-other}
+use Rattle.sectors.specs.Sectors.{withSector}
+use Rattle.sectors.proofs.SectorLaws.{byte-disk, byte-disk-first, length-withSector, disk-withSector}
+use Rattle.mapentry.specs.MapEntry.{Entries}
+use Rattle.bam.specs.Bam.{movedMark}
+use Rattle.bamlaws.specs.Expected.{Expects, freeAfter}
+use Rattle.bamlaws.proofs.FollowLaws.{expects-start, expects-moved, expects-agree}
+use Rattle.reading.specs.ChainReads.{sectorsFrom, lastByteFrom, ChainFrom}
+use Rattle.reading.proofs.ChainStepLaws.{Visited, linkAt, Follows, sectors-first, last-alone, follows}
+use Rattle.reading.proofs.CopyLaws.{Ending, ending-last, ending-moved}
+use Rattle.scratching.specs.declared.Cleared.{Cleared}
+use Rattle.scratching.specs.Scratches.{ChainOwned, ChainCleared}
+
+-- how often sector n stands among these
+abbrev times : ℕ → List Address → ℕ
+times n l = count n (map (sectorNumber layout35) l)
+
+-- ---- the same sectors in another order
+
+module _ (l m : List Address) (same : (n : ℕ) → times n l ≡ times n m) where
+  clear-same : (d : Disk) → clearSectors layout35 l d ≡ clearSectors layout35 m d
+  clear-same d = fun-ext (λ n. elim (decLt 0 (times n l)) [
+    | yes h ↦ clear-in layout35 l d n h ∙ sym (clear-in layout35 m d n (omega (arith, same n)))
+    | no h ↦ clear-other layout35 l d n (omega arith) ∙ sym (clear-other layout35 m d n (omega (arith, same n)))
+  ])
+
+  free-same : (v : Bool) (before : Address → Bool) (r : Address) → freeAfter v l before r ≡ freeAfter v m before r
+  unfolding freeAfter
+  free-same v before r = ap (λ (k : ℕ). cond (ltb 0 k) v (before r)) (same (sectorNumber layout35 r))
+
+-- ---- what the loop keeps
+
+-- k sectors of the chain from `first` on are zeroed and free in the map, and the chain goes on at `at`, as it was in the image at the start
+pub record Clearing (img : Bytes) (first at : Address) (img′ : Bytes) (es′ : Entries) (k : ℕ) : Type 0 where
+  pub chain : ChainFrom img at
+  pub cleared : List Address
+  pub sectors : disk img′ ≡ clearSectors layout35 cleared (disk img)
+  pub size : length img′ ≡ length img
+  pub marks : Expects (freeAfter true cleared (isFree layout35 (disk img))) es′
+  pub apart : (n : ℕ) → times n cleared + times n (sectorsFrom img at) ≡ times n (sectorsFrom img first)
+  pub left : k + length (sectorsFrom img at) ≡ length (sectorsFrom img first)
+  pub same : lastByteFrom img at ≡ lastByteFrom img first
+  pub track : at .track < 256
+  pub sector : at .sector < 256
+
+pub clearing-start : {img : Bytes} {es : Entries} {first : Address} → ChainOwned img es first → first .track < 256 → first .sector < 256 → Clearing img first first img es 0
+clearing-start o t s = record {
+  chain = o .chain;
+  cleared = [];
+  sectors = refl;
+  size = refl;
+  marks = expects-start true (o .marks);
+  apart = λ n. omega arith;
+  left = omega arith;
+  same = refl;
+  track = t;
+  sector = s;
+}
+
+module _ {img : Bytes} {es : Entries} {first at : Address} {img′ : Bytes} {es′ : Entries} {k : ℕ} (o : ChainOwned img es first) (w : Clearing img first at img′ es′ k) where
+  -- ---- the sector at hand is as it was
+
+  abbrev own : ℕ
+  own = sectorNumber layout35 at
+
+  among : 1 ≤ times own (sectorsFrom img at)
+  among =
+      let s = sectors-first (w .chain) in
+      let self : indicator (eqb own own) ≡ 1 = rw (eq-eqb own own refl) in
+      omega (arith, ap (times own) (s .1))
+
+  not-yet : times own (w .cleared) ≡ 0
+  not-yet = omega (arith, among, w .apart own, o .owned own, o .once own)
+
+  as-was : disk img′ own ≡ disk img own
+  as-was = ap (λ (d : Disk). d own) (w .sectors) ∙ clear-other layout35 (w .cleared) (disk img) own not-yet
+
+  used : freeAfter true (w .cleared) (isFree layout35 (disk img)) at ≡ false
+  unfolding freeAfter
+  used = rw not-yet (ne-eqb (claimCount layout35 (disk img) own) 0 (λ e. omega (arith, among, w .apart own, o .owned own)))
+
+  module _ {n : ℕ} (v : Visited img at n) where
+    track-as-was : byte img′ (256 * n) ≡ byte img (256 * n)
+    track-as-was = sym (byte-disk-first img′ n) ∙ ap (λ (m : ℕ). byte (disk img′ m) 0) (v .number) ∙ ap (λ (s : Bytes). byte s 0) as-was ∙ sym (v .track)
+
+    sector-as-was : byte img′ (256 * n + 1) ≡ byte img (256 * n + 1)
+    sector-as-was = sym (byte-disk img′ n 1 (omega arith)) ∙ ap (λ (m : ℕ). byte (disk img′ m) 1) (v .number) ∙ ap (λ (s : Bytes). byte s 1) as-was ∙ sym (v .sector)
+
+    pub inside′ : 256 * n + 256 ≤ length img′
+    inside′ = omega (arith, v .inside, w .size)
+
+    -- the sector that the link there names is the chain's next
+    pub next : 1 ≤ byte img′ (256 * n) → Follows img at (linkAt img′ n)
+    next h = rw (track-as-was, sector-as-was) (follows (w .chain) v (omega (arith, track-as-was)))
+
+    -- or it is the last
+    pub alone : byte img′ (256 * n) < 1 → sectorsFrom img at ≡ at ∷ []
+    alone h = last-alone (w .chain) v (omega (arith, track-as-was))
+
+    -- ---- it is cleared, and its mark moved
+
+    -- the image without it
+    abbrev img″ : Bytes
+    img″ = withSector img′ n (zeros 256)
+
+    sectors″ : disk img″ ≡ clearSectors layout35 (at ∷ w .cleared) (disk img)
+    sectors″ = disk-withSector img′ n (zeros 256) inside′ refl ∙ ap₂ (λ (d : Disk) (m : ℕ). put d m (zeros 256)) (w .sectors) (v .number)
+
+    size″ : length img″ ≡ length img
+    size″ = length-withSector img′ n (zeros 256) ∙ w .size
+
+    module _ {place : ℕ} {es″ : Entries} (moved : es″ ≡ movedMark true (address (place / 256) (place % 256)) es′) (packed : place ≡ 256 * at .track + at .sector) where
+      marks″ : Expects (freeAfter true (at ∷ w .cleared) (isFree layout35 (disk img))) es″
+      marks″ =
+          let narrow = w .sector in
+          let t : place / 256 ≡ at .track = omega arith in
+          let s : place % 256 ≡ at .sector = omega arith in
+          rw (moved, t, s) (expects-moved (isFree layout35 (disk img)) true (w .cleared) (w .marks) at (w .chain .on) used)
+
+      pub clearing-moved : Follows img at (linkAt img′ n) → byte img′ (256 * n) < 256 → byte img′ (256 * n + 1) < 256 → Clearing img first (linkAt img′ n) img″ es″ (k + 1)
+      clearing-moved f t s = record {
+        chain = f .rest;
+        cleared = at ∷ w .cleared;
+        sectors = sectors″;
+        size = size″;
+        marks = marks″;
+        apart = λ m. omega (arith, w .apart m, ap (times m) (f .sectors));
+        left = omega (arith, w .left, ap length (f .sectors));
+        same = ending-moved (record { chain = w .chain; same = w .same }) f .same;
+        track = t;
+        sector = s;
+      }
+
+      pub clearing-finished : sectorsFrom img at ≡ at ∷ [] → ChainCleared img first (record { count = k + 1; last = byte img′ (256 * n + 1) }) img″ es″
+      clearing-finished e =
+          let all : (m : ℕ) → times m (at ∷ w .cleared) ≡ times m (sectorsFrom img first) = λ m. omega (arith, w .apart m, ap (times m) e) in
+          record {
+            sectors = sectors″ ∙ clear-same (at ∷ w .cleared) (sectorsFrom img first) all (disk img);
+            size = size″;
+            marks = expects-agree marks″ (λ r on. free-same (at ∷ w .cleared) (sectorsFrom img first) all true (isFree layout35 (disk img)) r);
+            number = omega (arith, w .left, ap length e);
+            last = sector-as-was ∙ v .sector ∙ ending-last (record { chain = w .chain; same = w .same }) e;
+          }

@@ -1,0 +1,88 @@
+-- The file that a scratch takes on a checked image (01, Scratch): whether writing is allowed, and where the search for its slot ends.
+use Prim.Native.Nat.{ℕ, zero, suc, _+_, _*_, _/_, _%_, _≤_, _<_}
+use native.Mathlib.Omega.{arith}
+use mathlib.Core.Path.{_≡_, sym, ap, _∙_}
+use mathlib.Core.Bool.{Bool, true, false, cond}
+use mathlib.Core.List.{List}
+use lib.ListN.{take, drop, getD}
+use Rattle.d64spec.specs.Lists.{Bytes, equal}
+use Rattle.d64spec.specs.Answers.{Address, address, notFound, writeForbidden, Result, refused, done, first}
+use Rattle.d64spec.specs.Geometry.{layout35, sectorNumber}
+use Rattle.d64spec.specs.Image.{disk}
+use Rattle.d64spec.specs.Directory.{Slot, File, nameOf, slotIn, fileOf, firstLink, files}
+use Rattle.d64spec.specs.Reply.{validNameArgument, writable, filesNamed}
+use Rattle.d64spec.specs.Scratch.{callScratch, scratchedDisk, scratchChange}
+use Rattle.d64spec.specs.Accepted.{ValidEntry}
+use Rattle.d64spec.proofs.ReadLaws.{first-kept}
+use Rattle.d64spec.proofs.ListingTheorem.{track18-sectors}
+use Rattle.mapsector.specs.MapSector.{allowsWriting}
+use Rattle.directory.specs.Directories.{slotAt}
+use Rattle.directory.proofs.SearchLaws.{sector-lt}
+use Rattle.directory.proofs.Track18Laws.{number-18}
+use Rattle.diskcheck.specs.SlotChecks.{imageSlot}
+use Rattle.diskcheck.proofs.TrackLaws.{map-lent}
+use Rattle.finding.specs.FileSlots.{holdsFile, slotNamed, CheckedSlots}
+use Rattle.finding.proofs.CheckedSlotLaws.{lentTrack18, found-none, found-some, by-name}
+use Rattle.scratching.specs.Scratches.{slotOn, fileOn, FileThere, MayScratch}
+use Rattle.scratching.proofs.ReplyLaws.{scratch-forbidden, scratch-none, scratch-some}
+
+-- a search ends at the latest where the slots end
+named-le : (b ss name : List ℕ) (k n : ℕ) → slotNamed b ss name k n ≤ k + n
+named-le b ss name k zero = omega arith
+named-le b ss name k (suc n) = go (holdsFile b ss name k) (named-le b ss name (suc k) n)
+  where
+    go : (h : Bool) → slotNamed b ss name (suc k) n ≤ suc k + n → cond h k (slotNamed b ss name (suc k) n) ≤ k + suc n
+    go true l = omega arith
+    go false l = omega arith
+
+-- whether writing is allowed, by the map sector as the code lends it
+pub writable-lent : (img : Bytes) {b c : Bool} → b ≡ allowsWriting (take 256 (drop 91392 img)) → b ≡ c → writable layout35 (disk img) ≡ c
+unfolding writable allowsWriting
+writable-lent img e is = sym (e ∙ ap allowsWriting (map-lent img)) ∙ is
+
+pub forbidden : {img : Bytes} {ss : List ℕ} {end : ℕ} → CheckedSlots img ss end → (name : Bytes) → validNameArgument name ≡ true → writable layout35 (disk img) ≡ false
+    → callScratch layout35 img name ≡ refused writeForbidden
+forbidden {img} there name asked denied = scratch-forbidden img name (there .size) asked (there .contents) denied
+
+module _ {img name ss : List ℕ} {end : ℕ} (may : MayScratch img name ss end) {k : ℕ} (is : k ≡ slotNamed (lentTrack18 img) ss name 0 end) where
+  abbrev there : CheckedSlots img ss end
+  there = may .slots
+
+  pub none-named : k ≡ end → callScratch layout35 img name ≡ refused notFound
+  none-named e = scratch-none img name (there .size) (may .asked) (there .contents) (may .allowed) (by-name there name (may .asked) is ∙ found-none there e)
+
+  -- where the search ends at a slot
+  module _ (some : k ≡ end → ⊥) where
+    pub slot-below : k < 144
+    slot-below = omega (arith, is, named-le (lentTrack18 img) ss name 0 end, there .few)
+
+    -- its directory sector
+    abbrev holder : ℕ
+    holder = getD ss (k / 8) 0
+
+    inside : holder < 19
+    inside = sector-lt ss (there .inside) (k / 8)
+
+    slot-is : imageSlot img ss k ≡ slotOn img holder (8 * (k / 8)) (k % 8)
+    unfolding slotAt slotOn
+    slot-is = ap (λ (s : Bytes). slotIn s (address 18 holder) (8 * (k / 8)) (k % 8)) (track18-sectors img holder inside ∙ ap (disk img) (sym (number-18 holder)))
+
+    found-file : first notFound (filesNamed name (files layout35 (disk img))) ≡ done (fileOn img holder (8 * (k / 8)) (k % 8))
+    unfolding fileOn
+    found-file = by-name there name (may .asked) is ∙ found-some there some ∙ ap (λ (s : Slot). done (fileOf layout35 (disk img) s)) slot-is
+
+    -- the file of that slot is one of the image's
+    pub file-there : FileThere img holder (k % 8)
+    unfolding filesNamed
+    file-there = record {
+      accepted = there .accepted;
+      inside = inside;
+      place = omega arith;
+      from = 8 * (k / 8);
+      element = first-kept (λ f. equal name (nameOf (f .slot .bytes))) (ValidEntry layout35 (disk img)) notFound (files layout35 (disk img)) (fileOn img holder (8 * (k / 8)) (k % 8)) (there .accepted .content .entry) found-file .element;
+    }
+
+    -- and the one that is scratched
+    pub some-named : callScratch layout35 img name ≡ done (scratchChange layout35 img (fileOn img holder 0 (k % 8)))
+    unfolding fileOn slotOn slotIn fileOf firstLink scratchedDisk
+    some-named = scratch-some img name (there .size) (may .asked) (there .contents) (may .allowed) (fileOn img holder (8 * (k / 8)) (k % 8)) found-file

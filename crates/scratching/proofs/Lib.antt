@@ -1,0 +1,4 @@
+pub mod ClearingLaws
+pub mod WrittenLaws
+pub mod ReplyLaws
+pub mod FoundLaws

@@ -1,0 +1,265 @@
+-- The file of a slot scratched in the image (01, Scratch): its chain as the code reads it, and that what is written is document 01's disk.
+-- In order: the map put into its sector; the slot's bytes; the file; its chain is owned; the image after; the report.
+use Prim.Native.Nat.{ℕ, zero, suc, _+_, _-_, _*_, _≤_, _<_}
+use native.Mathlib.Omega.{arith}
+use mathlib.Core.Path.{_≡_, refl, sym, ap, ap₂, _∙_}
+use mathlib.Core.Bool.{true, cond}
+use mathlib.Core.List.{List, [], _++_, map}
+use lib.ListN.{length, take, drop, length-take, length-drop}
+use lib.Seq.{getD-take, getD-drop}
+use lib.Dec.{eqb, ltb}
+use borrow.Author.Tests.{eq-eqb, lt-ltb}
+use Rattle.d64spec.specs.Lists.{Bytes, byte, count, splice, zeros}
+use Rattle.d64spec.specs.Answers.{Address, address, done}
+use Rattle.d64spec.specs.Geometry.{layout35, sectorNumber, mapAddress}
+use Rattle.d64spec.specs.Image.{Disk, disk, image, put}
+use Rattle.d64spec.specs.Chain.{chainData}
+use Rattle.d64spec.specs.Directory.{File, Slot, slotIn, fileOf, firstLink}
+use Rattle.d64spec.specs.Owner.{claimCount, isFree}
+use Rattle.d64spec.specs.Map.{rewriteMap}
+use Rattle.d64spec.specs.Reply.{Change, changed, reply}
+use Rattle.d64spec.specs.Store.{overwriteSlot}
+use Rattle.d64spec.specs.Scratch.{clearSectors, scratchedDisk, scratchChange}
+use Rattle.d64spec.proofs.ImageLaws.{Whole, disk-whole, put-same}
+use Rattle.d64spec.proofs.InPlaceLaws.{disk-image, splice-disk}
+use Rattle.d64spec.proofs.SpliceLaws.{length-splice}
+use Rattle.d64spec.proofs.FrameLaws.{Sound}
+use Rattle.d64spec.proofs.MapBytes.{Prepared}
+use Rattle.d64spec.proofs.MapWriteLaws.{rewrite-whole}
+use Rattle.d64spec.proofs.OtherBytes.{byte-small}
+use Rattle.d64spec.proofs.SlotLaws.{slot-bytes-at}
+use Rattle.d64spec.proofs.ScratchLaws
+use Rattle.d64spec.proofs.ScratchStep.{sound-of, Found, found}
+use Rattle.d64spec.proofs.RunTheorem.{valid35, sectors35}
+use Rattle.sectors.proofs.SectorLaws.{byte-disk}
+use Rattle.parts.specs.Overwrites.{overwritten}
+use Rattle.parts.proofs.OverwriteLaws.{disk-overwritten, length-overwritten, lent-back}
+use Rattle.answers.specs.declared.Verdict.the-variants.{Fine}
+use Rattle.answers.specs.Faults.{verdictOf, answerTo, replyOf}
+use Rattle.mapentry.specs.MapEntry.{Entries}
+use Rattle.mapsector.specs.MapSector.{storedEntries}
+use Rattle.bamlaws.specs.Expected.{Expects, freeAfter}
+use Rattle.bamlaws.proofs.FollowLaws.{expects-loaded, expects-agree, map-follows}
+use Rattle.directory.proofs.Track18Laws.{number-18}
+use Rattle.diskcheck.proofs.TrackLaws.{map-lent}
+use Rattle.reading.specs.ChainReads.{sectorsFrom, dataFrom}
+use Rattle.reading.specs.FileSlots.{firstOf, FileEntry}
+use Rattle.reading.proofs.ChainStepLaws.{sectorsFrom-le}
+use Rattle.reading.proofs.FileLaws.{sectors-of, entry-of}
+use Rattle.scratching.specs.declared.Cleared.{Cleared}
+use Rattle.scratching.specs.Scratches.{ChainCleared, withMap, startAt, EntryOwned, FileCleared, slotOn, fileOn, FileThere}
+
+-- what a scratch counts of a chain cleared: at least one sector, a last byte as a file's has it, and so the file's length (01, Chains)
+pub record LengthTold (c : Cleared) (n : ℕ) : Type 0 where
+  pub some : 1 ≤ c .count
+  pub few : c .count ≤ 684
+  pub low : 1 ≤ c .last
+  pub high : c .last ≤ 255
+  pub bytes : 254 * (c .count - 1) + c .last - 1 ≡ n
+
+-- ---- the map put into its sector
+
+-- what comes back of a loan of 256 bytes when f of them is written over them
+part-put : (a : ℕ) (f : Bytes → Bytes) {img img′ p : Bytes} → img′ ≡ img → p ≡ f (take 256 (drop a img′)) → length p ≡ 256
+    → take a img′ ++ (p ++ drop 256 (drop a img′)) ≡ splice img a (f (take 256 (drop a img)))
+part-put a f {img} {img′} {p} e is long = lent-back img′ a 256 p long ∙ ap (splice img′ a) is ∙ ap (λ (s : Bytes). splice s a (f (take 256 (drop a s)))) e
+
+pub map-put : (es : Entries) {img img′ p : Bytes} → img′ ≡ img → p ≡ storedEntries es (take 256 (drop 91392 img′)) → length p ≡ 256
+    → take 91392 img′ ++ (p ++ drop 256 (drop 91392 img′)) ≡ withMap es img
+unfolding withMap
+map-put es {img} {img′} {p} e is long = part-put 91392 (storedEntries es) {img = img} {img′ = img′} {p = p} e is long
+
+-- the map's sector
+abbrev m : ℕ
+m = sectorNumber layout35 mapAddress
+
+module _ (es : Entries) (img : Bytes) (size : length img ≡ 174848) (full : length (storedEntries es (disk img m)) ≡ 256) where
+  stored : withMap es img ≡ splice img (256 * 357) (storedEntries es (disk img m))
+  unfolding withMap
+  stored = ap (λ (s : Bytes). splice img 91392 (storedEntries es s)) (map-lent img)
+
+  disk-withMap : disk (withMap es img) ≡ put (disk img) m (storedEntries es (disk img m))
+  disk-withMap =
+      ap disk stored ∙ splice-disk img 357 (storedEntries es (disk img m)) (omega arith) full
+      ∙ ap (λ (n : ℕ). put (disk img) n (storedEntries es (disk img m))) (sym (number-18 0))
+
+  length-withMap : length (withMap es img) ≡ length img
+  length-withMap = ap length stored ∙ length-splice img (256 * 357) (storedEntries es (disk img m)) (omega arith)
+
+-- ---- the slot's bytes
+
+module _ {img : Bytes} {holder index : ℕ} (t : FileThere img holder index) where
+  size-there : length img ≡ 174848
+  size-there = omega (arith, t .accepted .size, sectors35)
+
+  -- the slot, and the number of its sector
+  abbrev s : Slot
+  s = slotOn img holder (t .from) index
+
+  abbrev n : ℕ
+  n = 357 + holder
+
+  bytes-are : s .bytes ≡ take 30 (drop (32 * index + 2) (disk img n))
+  unfolding slotOn slotIn
+  bytes-are = slot-bytes-at (disk img (sectorNumber layout35 (address 18 holder))) index ∙ ap (λ (k : ℕ). take 30 (drop (32 * index + 2) (disk img k))) (number-18 holder)
+
+  -- the sector is whole
+  whole : Whole layout35 (disk img)
+  whole = disk-whole layout35 img (t .accepted .size)
+
+  long : length (disk img n) ≡ 256
+  long = whole .full n (omega (arith, t .inside, sectors35))
+
+  full : length (s .bytes) ≡ 30
+  full = let place = t .place in ap length bytes-are ∙ simp (length-take, length-drop) (omega (arith, long))
+
+  byte-at : (i : ℕ) → i < 30 → byte (s .bytes) i ≡ byte img (256 * n + (32 * index + 2 + i))
+  byte-at i h =
+      ap (λ (b : Bytes). byte b i) bytes-are ∙ getD-take 30 (drop (32 * index + 2) (disk img n)) i 0 h ∙ getD-drop (32 * index + 2) (disk img n) i 0
+      ∙ byte-disk img n (32 * index + 2 + i) (omega (arith, t .place))
+
+  -- where the code finds them
+  module _ {at : ℕ} (is : at ≡ 91392 + 256 * holder + 32 * index + 2) where
+    first-read : startAt img at ≡ firstOf (s .bytes)
+    first-read =
+        let one : at + 1 ≡ 256 * n + (32 * index + 2 + 1) = omega arith in
+        let two : at + 2 ≡ 256 * n + (32 * index + 2 + 2) = omega arith in
+        ap₂ address (ap (byte img) one ∙ sym (byte-at 1 (omega arith))) (ap (byte img) two ∙ sym (byte-at 2 (omega arith)))
+
+  -- ---- the file
+
+  abbrev d : Disk
+  d = disk img
+
+  abbrev f : File
+  f = fileOn img holder (t .from) index
+
+  sound : Sound layout35 d
+  sound = sound-of layout35 d (t .accepted .content)
+
+  there : Found layout35 d f
+  there = found layout35 d f (t .element)
+
+  -- without its sectors and its slot
+  abbrev d2 : Disk
+  d2 = overwriteSlot layout35 (address 18 holder) index (zeros 30) (clearSectors layout35 (f .sectors) d)
+
+  same2 : ScratchLaws.d2 layout35 valid35 d whole sound (there .place) ≡ d2
+  unfolding fileOn fileOf slotOn slotIn
+  same2 = ap (λ (x : File). overwriteSlot layout35 (x .slot .holder) (x .slot .index) (zeros 30) (clearSectors layout35 (x .sectors) d)) (there .is)
+
+  claims : (k : ℕ) → claimCount layout35 d2 k + count k (map (sectorNumber layout35) (f .sectors)) ≡ claimCount layout35 d k
+  claims k =
+      ap₂ (λ (x : Disk) (y : File). claimCount layout35 x k + count k (map (sectorNumber layout35) (y .sectors))) (sym same2) (sym (there .is))
+      ∙ ScratchLaws.claims2 layout35 valid35 d whole sound (there .place) k
+
+  prepared : Prepared layout35 d d2 (f .sectors)
+  prepared = rw (same2, ap (λ (x : File). x .sectors) (there .is)) at (ScratchLaws.prepared2 layout35 valid35 d whole sound (there .place))
+
+  sectors-are : f .sectors ≡ sectorsFrom img (firstOf (s .bytes))
+  unfolding fileOn
+  sectors-are = sectors-of img (t .accepted) s (t .element)
+
+  -- ---- its chain is owned
+
+  module _ (small : (i : ℕ) → byte img i < 256) where
+    entry : FileEntry img (s .bytes)
+    unfolding fileOn
+    entry = entry-of img (t .accepted) s (t .element) small full
+
+    pub entry-owned : {at : ℕ} → at ≡ 91392 + 256 * holder + 32 * index + 2 → EntryOwned img at
+    entry-owned {at} is = record {
+      size = size-there;
+      inside = omega (arith, size-there, t .inside, t .place);
+      chain = rw (first-read is) (record {
+        chain = entry .chain;
+        owned = λ k. omega (arith, claims k, ap (λ (l : List Address). count k (map (sectorNumber layout35) l)) sectors-are);
+        once = t .accepted .content .once;
+        marks = rw (map-lent img) (expects-loaded d (t .accepted .content) (whole .full m (omega (arith, number-18 0, sectors35))) (byte-small img small m));
+      });
+    }
+
+  -- ---- the image after
+
+  -- which sectors are then free
+  free-after : (r : Address) → freeAfter true (f .sectors) (isFree layout35 d) r ≡ isFree layout35 d2 r
+  unfolding freeAfter
+  free-after r = go (count k (map (sectorNumber layout35) (f .sectors))) refl
+    where
+      k : ℕ
+      k = sectorNumber layout35 r
+
+      go : (c : ℕ) → count k (map (sectorNumber layout35) (f .sectors)) ≡ c → cond (ltb 0 c) true (isFree layout35 d r) ≡ isFree layout35 d2 r
+      go zero e = let same : claimCount layout35 d k ≡ claimCount layout35 d2 k = omega (arith, claims k) in ap (λ (x : ℕ). eqb x 0) same
+      go (suc c) e = rw (lt-ltb 0 (suc c) (omega arith)) (sym (eq-eqb (claimCount layout35 d2 k) 0 (omega (arith, claims k, t .accepted .content .once k))))
+
+  module _ {at : ℕ} {c : Cleared} {img″ : Bytes} (scratched : FileCleared img at c img″) (is : at ≡ 91392 + 256 * holder + 32 * index + 2) where
+    abbrev img′ : Bytes
+    img′ = scratched .before
+
+    abbrev es′ : Entries
+    es′ = scratched .marked
+
+    cleared : ChainCleared img (startAt img at) c img′ es′
+    cleared = scratched .chain
+
+    first-disk : disk img′ ≡ clearSectors layout35 (f .sectors) d
+    first-disk = cleared .sectors ∙ ap (λ (r : Address). clearSectors layout35 (sectorsFrom img r) d) (first-read is) ∙ ap (λ (l : List Address). clearSectors layout35 l d) (sym sectors-are)
+
+    second-disk : disk (overwritten img′ at (zeros 30)) ≡ d2
+    unfolding overwriteSlot
+    second-disk =
+        let place : at ≡ 256 * n + (32 * index + 2) = omega arith in
+        ap (λ (a : ℕ). disk (overwritten img′ a (zeros 30))) place
+        ∙ disk-overwritten img′ n (32 * index + 2) (zeros 30) (omega (arith, cleared .size, size-there, t .inside)) (omega (arith, t .place))
+        ∙ ap₂ (λ (x : Disk) (k : ℕ). put x k (splice (x k) (32 * index + 2) (zeros 30))) first-disk (sym (number-18 holder))
+
+    marks : Expects (isFree layout35 d2) es′
+    marks =
+        let freed : Expects (freeAfter true (f .sectors) (isFree layout35 d)) es′ = rw (first-read is, ← sectors-are) at (cleared .marks) in
+        expects-agree freed (λ r on. free-after r)
+
+    follows : put d2 m (storedEntries es′ (d2 m)) ≡ rewriteMap layout35 d2
+    follows = map-follows d2 marks (prepared .whole .full m (omega (arith, number-18 0, sectors35)))
+
+    stored-long : length (storedEntries es′ (d2 m)) ≡ 256
+    stored-long =
+        ap length (sym (put-same d2 m (storedEntries es′ (d2 m))) ∙ ap (λ (x : Disk). x m) follows)
+        ∙ rewrite-whole layout35 valid35 d2 (prepared .whole) (prepared .sound) .full m (omega (arith, number-18 0, sectors35))
+
+    -- THE IMAGE AFTER A SCRATCH is that of document 01's disk
+    image-scratched : withMap es′ (overwritten img′ at (zeros 30)) ≡ image layout35 (scratchedDisk layout35 d f)
+    unfolding scratchedDisk fileOn fileOf slotOn slotIn
+    image-scratched =
+        let img2 : Bytes = overwritten img′ at (zeros 30) in
+        let size2 : length img2 ≡ 174848 = length-overwritten img′ at (zeros 30) ∙ cleared .size ∙ size-there in
+        let long2 : length (storedEntries es′ (disk img2 m)) ≡ 256 = ap (λ (x : Disk). length (storedEntries es′ (x m))) second-disk ∙ stored-long in
+        let same : disk (withMap es′ img2) ≡ rewriteMap layout35 d2
+        = disk-withMap es′ img2 size2 long2 ∙ ap (λ (x : Disk). put x m (storedEntries es′ (x m))) second-disk ∙ follows in
+        sym (disk-image layout35 (withMap es′ img2) (omega (arith, length-withMap es′ img2 size2 long2, size2, sectors35))) ∙ ap (image layout35) same
+
+    -- ---- the report
+
+    number-is : c .count ≡ length (f .sectors)
+    number-is = cleared .number ∙ ap (λ (r : Address). length (sectorsFrom img r)) (first-read is) ∙ ap length (sym sectors-are)
+
+    -- what the length of the file is counted from
+    pub told : ((i : ℕ) → byte img i < 256) → LengthTold c (length (chainData layout35 d (f .sectors)))
+    unfolding dataFrom
+    told small =
+        let e = entry small in
+        let last = rw (first-read is) at (cleared .last) in
+        let bytes : length (chainData layout35 d (f .sectors)) ≡ length (dataFrom img (firstOf (s .bytes))) = ap (λ (l : List Address). length (chainData layout35 d l)) sectors-are in
+        record {
+          some = omega (arith, number-is, ap length sectors-are, e .count, e .some);
+          few = omega (arith, number-is, ap length sectors-are, sectorsFrom-le img (firstOf (s .bytes)));
+          low = omega (arith, last, e .low);
+          high = omega (arith, last, e .high);
+          bytes = omega (arith, bytes, number-is, ap length sectors-are, e .count, e .bytes, last);
+        }
+
+    -- THE REPLY OF A SCRATCH that is done
+    pub scratch-replied : ((i : ℕ) → byte img i < 256)
+        → replyOf (record { verdict = Fine; length = 254 * (c .count - 1) + c .last - 1; sectors = c .count }) img″ [] ≡ reply img [] (done (scratchChange layout35 img (fileOn img holder 0 index)))
+    unfolding reply verdictOf answerTo fileOn slotOn slotIn fileOf firstLink scratchedDisk
+    scratch-replied small = rw (scratched .written ∙ image-scratched, told small .bytes, number-is)

@@ -1,0 +1,93 @@
+-- What the parts of a scratch rely on and what they leave (01, Scratch; The map; Chains).
+-- In order: a chain cleared; the map put into the image; a slot and its file; the file of a name. Laws: proofs/ClearingLaws, WrittenLaws, FoundLaws.
+use Prim.Native.Nat.{ℕ, _+_, _≤_, _<_}
+use mathlib.Core.Path.{_≡_}
+use mathlib.Core.Bool.{true}
+use mathlib.Core.List.{List, List·Memᴰ, map}
+use lib.ListN.{length, take, drop}
+use Rattle.d64spec.specs.Lists.{Bytes, byte, count, splice, zeros}
+use Rattle.d64spec.specs.Answers.{Address, address}
+use Rattle.d64spec.specs.Geometry.{layout35, sectorNumber}
+use Rattle.d64spec.specs.Image.{disk}
+use Rattle.d64spec.specs.Directory.{Slot, File, slotIn, fileOf, files}
+use Rattle.d64spec.specs.Owner.{claimCount, isFree}
+use Rattle.d64spec.specs.Accepted.{Accepted}
+use Rattle.d64spec.specs.Reply.{validNameArgument, writable}
+use Rattle.d64spec.specs.Scratch.{clearSectors}
+use Rattle.geometry.specs.Layout.{IsFirsts}
+use Rattle.parts.specs.Overwrites.{overwritten}
+use Rattle.mapentry.specs.MapEntry.{Entries}
+use Rattle.mapsector.specs.MapSector.{mapEntries, storedEntries}
+use Rattle.bamlaws.specs.Expected.{Expects, freeAfter}
+use Rattle.finding.specs.FileSlots.{CheckedSlots}
+use Rattle.reading.specs.ChainReads.{sectorsFrom, lastByteFrom, ChainFrom}
+use Rattle.scratching.specs.declared.Cleared.{Cleared}
+
+-- ---- a chain
+
+-- a whole chain starts at the sector r, each sector on it has its one owner, and the map marks exactly nobody's sectors free (01, Chains; The map)
+pub record ChainOwned (img : Bytes) (es : Entries) (r : Address) : Type 0 where
+  pub chain : ChainFrom img r
+  pub owned : (n : ℕ) → count n (map (sectorNumber layout35) (sectorsFrom img r)) ≤ claimCount layout35 (disk img) n
+  pub once : (n : ℕ) → claimCount layout35 (disk img) n ≤ 1
+  pub marks : Expects (isFree layout35 (disk img)) es
+
+-- what the loop relies on: besides, a table of the tracks' first numbers
+pub record ClearReady (img : Bytes) (es : Entries) (firsts : List ℕ) (r : Address) : Type 0 where
+  pub chain : ChainOwned img es r
+  pub numbers : IsFirsts firsts
+
+-- the chain's sectors zeroed, and free in the map; their number, and the second byte that the last of them had (01, Scratch)
+pub record ChainCleared (img : Bytes) (r : Address) (c : Cleared) (img′ : Bytes) (es′ : Entries) : Type 0 where
+  pub sectors : disk img′ ≡ clearSectors layout35 (sectorsFrom img r) (disk img)
+  pub size : length img′ ≡ length img
+  pub marks : Expects (freeAfter true (sectorsFrom img r) (isFree layout35 (disk img))) es′
+  pub number : c .count ≡ length (sectorsFrom img r)
+  pub last : c .last ≡ lastByteFrom img r
+
+-- ---- the map
+
+-- the image with these entries in its map sector, 18/0 (01, The map)
+unfoldable pub withMap : Entries → Bytes → Bytes
+withMap es img = splice img 91392 (storedEntries es (take 256 (drop 91392 img)))
+
+-- ---- a slot
+
+-- the first sector that the entry from byte `at` of the image on names: its bytes 03-04, the second and the third of its 30 (01, The directory)
+abbrev pub startAt : Bytes → ℕ → Address
+startAt img at = address (byte img (at + 1)) (byte img (at + 2))
+
+-- the 30 bytes of an entry lie in an image of the right size, its chain is owned, and the map marks exactly nobody's sectors free
+pub record EntryOwned (img : Bytes) (at : ℕ) : Type 0 where
+  pub size : length img ≡ 174848
+  pub inside : at + 30 ≤ length img
+  pub chain : ChainOwned img (mapEntries (take 256 (drop 91392 img))) (startAt img at)
+
+-- its chain cleared, its 30 bytes zeroed, and the map as it then is put into its sector (01, Scratch)
+pub record FileCleared (img : Bytes) (at : ℕ) (c : Cleared) (img′ : Bytes) : Type 0 where
+  pub before : Bytes
+  pub marked : Entries
+  pub chain : ChainCleared img (startAt img at) c before marked
+  pub written : img′ ≡ withMap marked (overwritten before at (zeros 30))
+
+-- slot `index` of the directory sector 18/holder; its number through the directory plays no part in a scratch (01, The directory)
+unfoldable pub slotOn : Bytes → ℕ → ℕ → ℕ → Slot
+slotOn img holder n index = slotIn (disk img (sectorNumber layout35 (address 18 holder))) (address 18 holder) n index
+
+-- the file of that slot (01, The directory: 03-04; Chains)
+unfoldable pub fileOn : Bytes → ℕ → ℕ → ℕ → File
+fileOn img holder n index = fileOf layout35 (disk img) (slotOn img holder n index)
+
+-- an accepted image, and the file of one of its occupied slots, of which n is the sector's first number (01, Scratch)
+pub record FileThere (img : Bytes) (holder index : ℕ) : Type 0 where
+  pub accepted : Accepted layout35 img
+  pub inside : holder < 19
+  pub place : index < 8
+  pub from : ℕ
+  pub element : List·Memᴰ (fileOn img holder from index) (files layout35 (disk img))
+
+-- a checked image that may be written, and a name that a call takes (01, The map: byte 2; Scratch)
+pub record MayScratch (img name ss : List ℕ) (end : ℕ) : Type 0 where
+  pub slots : CheckedSlots img ss end
+  pub asked : validNameArgument name ≡ true
+  pub allowed : writable layout35 (disk img) ≡ true
