@@ -154,7 +154,7 @@ module _ (g : Geometry) (v : Valid g) (img : Bytes) (a : Accepted g img) (name :
   w1 = writeChain-whole g (r ∷ l) bs d (taken .on) fits (disk-whole g img (a .size))
 
   -- a sector of the directory is not taken
-  directory-stay : (n : ℕ) → 0 < count n (map (sectorNumber g) (directorySectors g d)) → d n ≡ d1 n
+  pub directory-stay : (n : ℕ) → 0 < count n (map (sectorNumber g) (directorySectors g d)) → d n ≡ d1 n
   directory-stay n h = sym (writeChain-other g (r ∷ l) bs d n (elim (decLe 1 (count n (map (sectorNumber g) (r ∷ l)))) [
     | yes k ↦ absurd (omega (arith, taken .free n k, claimCount-of g d n))
     | no k ↦ omega arith

@@ -3,15 +3,39 @@ mod room;
 mod writing;
 
 ghost use mathlib.Core.Path.{_≡_};
+ghost use mathlib.Core.Bool.{true};
 ghost use mathlib.Core.List.{[]};
+ghost use lib.ListN.{length};
+ghost use lib.Dec.{eqb};
 ghost use Rattle.d64spec.specs.Geometry.{layout35};
+ghost use Rattle.d64spec.specs.Image.{disk};
+ghost use Rattle.d64spec.specs.Directory.{files};
+ghost use Rattle.d64spec.specs.Reply.{validNameArgument, writable, filesNamed};
 ghost use Rattle.d64spec.specs.Call.{store, perform};
 ghost use Rattle.answers.specs.Faults.{replyOf};
+ghost use Rattle.finding.specs.FileSlots.{CheckedSlots};
+ghost use Rattle.storing.specs.Decisions.{StoreChecked, StoreNew, StorePlaced};
 use answers::Fault;
 use answers::Report;
 use answers::Verdict;
 use room::EntryPlace;
 use room::Room;
+
+// Whether the DOS version of an image allows writing.
+fn may_write(img: &[u8]) -> bool
+    requires { ⌜ length (now img) ≡ 174848 ⌝ }
+    ensures { λ r. ⌜ r ≡ writable layout35 (disk (now (img .entry))) ⌝ }
+{
+    mapsector::may_write(&img[91392..91648])
+}
+
+// Whether no file of a checked image has this name; its slots are 0 to end - 1.
+fn is_new(img: &[u8], name: &[u8], sectors: &[u8; 18], end: usize) -> bool
+    requires { ⌜ CheckedSlots (now img) (now sectors) end × (validNameArgument (now name) ≡ true) ⌝ }
+    ensures { λ r. ⌜ r ≡ eqb (length (filesNamed (now (name .entry)) (files layout35 (disk (now (img .entry)))))) 0 ⌝ }
+{
+    finding::find_named(&img[91392..96256], sectors, name, end) == end
+}
 
 // Stores the file with its entry at this place of the directory, whose last sector is 18/last; refused with 15 where its sectors are not there.
 fn store_placed(
@@ -22,7 +46,10 @@ fn store_placed(
     place: EntryPlace,
     last: u8,
     map: &[[u8; 4]; 35],
-) -> Report {
+) -> Report
+    requires { ⌜ StorePlaced (now img) (now name) kind place last (now map) ⌝ }
+    ensures { λ r. ⌜ replyOf r (now (img .exit)) [] ≡ perform layout35 (now (img .entry)) (store (now (name .entry)) kind (now (content .entry))) ⌝ }
+{
     // no disk has room for more, and the number of sectors is then not asked for
     if 168656 < content.len() {
         return answers::refuse(Fault::DiskFull);
@@ -48,9 +75,12 @@ fn store_new(
     content: &[u8],
     sectors: &[u8; 18],
     count: usize,
-) -> Report {
-    let map = mapsector::load_map(&img[91392..91648]);
-    let room = room::entry_room(&img[91392..96256], sectors, 8 * count, &map);
+) -> Report
+    requires { ⌜ StoreNew (now img) (now name) kind (now sectors) count ⌝ }
+    ensures { λ r. ⌜ replyOf r (now (img .exit)) [] ≡ perform layout35 (now (img .entry)) (store (now (name .entry)) kind (now (content .entry))) ⌝ }
+{
+    let map = room::map_of(img);
+    let room = room::room_in(img, sectors, count, &map);
     match room {
         Room::Full => answers::refuse(Fault::DirectoryFull),
         Room::At(place) => store_placed(img, name, kind, content, place, sectors[count - 1], &map),
@@ -65,12 +95,14 @@ fn store_checked(
     content: &[u8],
     sectors: &[u8; 18],
     count: usize,
-) -> Report {
-    if !mapsector::may_write(&img[91392..91648]) {
+) -> Report
+    requires { ⌜ StoreChecked (now img) (now name) kind (now sectors) count ⌝ }
+    ensures { λ r. ⌜ replyOf r (now (img .exit)) [] ≡ perform layout35 (now (img .entry)) (store (now (name .entry)) kind (now (content .entry))) ⌝ }
+{
+    if !may_write(img) {
         return answers::refuse(Fault::WriteForbidden);
     }
-    let end = 8 * count;
-    if finding::find_named(&img[91392..96256], sectors, name, end) != end {
+    if !is_new(img, name, sectors, 8 * count) {
         return answers::refuse(Fault::NameExists);
     }
     store_new(img, name, kind, content, sectors, count)

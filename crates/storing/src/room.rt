@@ -1,4 +1,11 @@
 // Room for a file: the sectors that its data need, and where its entry goes (01, Store).
+ghost use mathlib.Core.Path.{_≡_};
+ghost use Prim.Native.Nat.{_≤_};
+ghost use lib.ListN.{length};
+ghost use Rattle.d64spec.specs.Geometry.{layout35, sectorNumber, mapAddress};
+ghost use Rattle.d64spec.specs.Image.{disk};
+ghost use Rattle.mapsector.specs.MapSector.{mapEntries};
+ghost use Rattle.storing.specs.Decisions.{Needed, roomFor, RoomAsked, RoomIs};
 
 // Where the entry goes: slot `index` of 18/sector, which is new to the directory where it is `grown`.
 pub(crate) struct EntryPlace {
@@ -14,7 +21,10 @@ pub(crate) enum Room {
 }
 
 // The sectors that so many bytes need: 1 for none, else 254 bytes in each.
-pub(crate) fn sectors_needed(length: usize) -> usize {
+pub(crate) fn sectors_needed(length: usize) -> usize
+    requires { ⌜ length ≤ 168656 ⌝ }
+    ensures { λ r. ⌜ Needed length r ⌝ }
+{
     if length == 0 {
         return 1;
     }
@@ -27,7 +37,10 @@ pub(crate) fn entry_room(
     sectors: &[u8; 18],
     end: usize,
     map: &[[u8; 4]; 35],
-) -> Room {
+) -> Room
+    requires { ⌜ end ≤ 144 ⌝ }
+    ensures { λ r. ⌜ r ≡ roomFor (now (track18 .entry)) (now (sectors .entry)) end (now (map .entry)) ⌝ }
+{
     let k = finding::find_empty(track18, sectors, end);
     if k < end {
         let i = k / 8;
@@ -46,4 +59,20 @@ pub(crate) fn entry_room(
         index: 0,
         grown: true,
     })
+}
+
+// The map of an image.
+pub(crate) fn map_of(img: &[u8]) -> [[u8; 4]; 35]
+    requires { ⌜ length (now img) ≡ 174848 ⌝ }
+    ensures { λ r. ⌜ r ≡ mapEntries (disk (now (img .entry)) (sectorNumber layout35 mapAddress)) ⌝ }
+{
+    mapsector::load_map(&img[91392..91648])
+}
+
+// Room for the entry on a checked image whose directory has `count` sectors.
+pub(crate) fn room_in(img: &[u8], sectors: &[u8; 18], count: usize, map: &[[u8; 4]; 35]) -> Room
+    requires { ⌜ RoomAsked (now img) (now sectors) count (now map) ⌝ }
+    ensures { λ r. ⌜ RoomIs (now (img .entry)) r ⌝ }
+{
+    entry_room(&img[91392..96256], sectors, 8 * count, map)
 }

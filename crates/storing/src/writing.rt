@@ -1,19 +1,33 @@
 // What a store writes, once everything is decided (01, Store): the content, the entry, the map. Nothing here refuses.
 // Each sector is lent on as a part of the image and written once. The data are laid from the last sector to the first, and each sector is marked
 // in the map right after it is written: the two do not wait for each other.
+ghost use mathlib.Core.Path.{_≡_};
+ghost use mathlib.Core.Bool.{true};
+ghost use Prim.Native.Nat.{_≤_, _<_};
+ghost use lib.ListN.{length};
+ghost use Rattle.d64spec.specs.Geometry.{layout35, onDisk};
+ghost use Rattle.d64spec.specs.Store.{newEntry};
+ghost use Rattle.geometry.specs.Layout.{unpacked, IsFirsts};
 ghost use Rattle.storing.specs.Plans.{WriteReady, FileWritten};
+ghost use Rattle.storing.specs.Writes.{linkedSector, lastSector, StartsAt, SectorReady, SectorWritten, ChainReady, ChainWritten, GrowReady, Grown, EntryReady, EntryLaid, MapWritten};
 use crate::room::EntryPlace;
 use geometry::Address;
 
 // A sector of a chain: the link to the next one, and 254 bytes.
-fn fill_linked(sector: &mut [u8], next: u16, content: &[u8]) {
+fn fill_linked(sector: &mut [u8], next: u16, content: &[u8])
+    requires { ⌜ (length (now sector) ≡ 256) × (length (now content) ≡ 254) ⌝ }
+    ensures { λ _. ⌜ now (sector .exit) ≡ linkedSector (unpacked next) (now (content .entry)) ⌝ }
+{
     sector[0] = (next / 256) as u8;
     sector[1] = (next % 256) as u8;
     bytes::copy(content, &mut sector[2..]);
 }
 
 // The last sector of a chain: 00, the number of its last used byte, at most 254 bytes, and zeros.
-fn fill_last(sector: &mut [u8], content: &[u8]) {
+fn fill_last(sector: &mut [u8], content: &[u8])
+    requires { ⌜ (length (now sector) ≡ 256) × (length (now content) ≤ 254) ⌝ }
+    ensures { λ _. ⌜ now (sector .exit) ≡ lastSector (now (content .entry)) ⌝ }
+{
     let blank = [0u8; 256];
     bytes::copy(&blank, sector);
     sector[1] = (content.len() + 1) as u8;
@@ -21,12 +35,48 @@ fn fill_last(sector: &mut [u8], content: &[u8]) {
 }
 
 // Where the sector at a place starts in the image.
-fn start_of(place: u16, firsts: &[u16; 35]) -> usize {
+fn start_of(place: u16, firsts: &[u16; 35]) -> usize
+    requires { ⌜ (onDisk layout35 (unpacked place) ≡ true) × IsFirsts (now firsts) ⌝ }
+    ensures { λ r. ⌜ StartsAt place r ⌝ }
+{
     let at = Address {
         track: (place / 256) as u8,
         sector: (place % 256) as u8,
     };
     256 * geometry::number_by(firsts, at)
+}
+
+// Writes the last sector of a chain at its place, and marks it used in the map.
+fn write_last(
+    img: &mut [u8],
+    place: u16,
+    content: &[u8],
+    map: &mut [[u8; 4]; 35],
+    firsts: &[u16; 35],
+)
+    requires { ⌜ SectorReady (now img) place (now firsts) × (length (now content) ≤ 254) ⌝ }
+    ensures { λ _. ⌜ SectorWritten (now (img .entry)) place (lastSector (now (content .entry))) (now (map .entry)) (now (img .exit)) (now (map .exit)) ⌝ }
+{
+    let start = start_of(place, firsts);
+    fill_last(&mut img[start..start + 256], content);
+    bam::move_mark(map, place, false);
+}
+
+// Writes a sector of a chain that goes on at `next`, and marks it used in the map.
+fn write_linked(
+    img: &mut [u8],
+    place: u16,
+    next: u16,
+    content: &[u8],
+    map: &mut [[u8; 4]; 35],
+    firsts: &[u16; 35],
+)
+    requires { ⌜ SectorReady (now img) place (now firsts) × (length (now content) ≡ 254) ⌝ }
+    ensures { λ _. ⌜ SectorWritten (now (img .entry)) place (linkedSector (unpacked next) (now (content .entry))) (now (map .entry)) (now (img .exit)) (now (map .exit)) ⌝ }
+{
+    let start = start_of(place, firsts);
+    fill_linked(&mut img[start..start + 256], next, content);
+    bam::move_mark(map, place, false);
 }
 
 // Lays the data along the sectors at these places, and marks them used in the map.
@@ -36,26 +86,31 @@ fn write_chain(
     content: &[u8],
     map: &mut [[u8; 4]; 35],
     firsts: &[u16; 35],
-) {
+)
+    requires { ⌜ ChainReady (now img) (now places) (now content) (now firsts) ⌝ }
+    ensures { λ _. ⌜ ChainWritten (now (img .entry)) (now (places .entry)) (now (content .entry)) (now (map .entry)) (now (img .exit)) (now (map .exit)) ⌝ }
+{
     let mut i = places.len() - 1;
-    let end = start_of(places[i], firsts);
-    fill_last(&mut img[end..end + 256], &content[254 * i..]);
-    bam::move_mark(map, places[i], false);
+    write_last(img, places[i], &content[254 * i..], map, firsts);
     while 0 < i {
         let next = places[i];
         i -= 1;
-        let start = start_of(places[i], firsts);
-        fill_linked(
-            &mut img[start..start + 256],
+        write_linked(
+            img,
+            places[i],
             next,
             &content[254 * i..254 * i + 254],
+            map,
+            firsts,
         );
-        bam::move_mark(map, places[i], false);
     }
 }
 
 // Bytes 02 to 1F of the new entry: $80 + kind, first sector, name, nine zeros, count.
-fn new_entry(name: &[u8], kind: u8, first: u16, count: usize) -> [u8; 30] {
+fn new_entry(name: &[u8], kind: u8, first: u16, count: usize) -> [u8; 30]
+    requires { ⌜ (length (now name) ≤ 16) × (kind ≤ 3) × (count < 65536) ⌝ }
+    ensures { λ r. ⌜ r ≡ newEntry (now (name .entry)) kind (unpacked first) count ⌝ }
+{
     let mut entry = [0u8; 30];
     entry[0] = 0x80 + kind;
     entry[1] = (first / 256) as u8;
@@ -67,7 +122,10 @@ fn new_entry(name: &[u8], kind: u8, first: u16, count: usize) -> [u8; 30] {
 }
 
 // Adds 18/sector to the directory: it becomes 00 FF and zeros, and the last sector so far, 18/last, links to it.
-fn grow_directory(img: &mut [u8], last: u8, sector: u8) {
+fn grow_directory(img: &mut [u8], last: u8, sector: u8)
+    requires { ⌜ GrowReady (now img) last sector ⌝ }
+    ensures { λ _. ⌜ Grown (now (img .entry)) last sector (now (img .exit)) ⌝ }
+{
     sectors::write_sector(
         img,
         357 + sector as usize,
@@ -77,12 +135,23 @@ fn grow_directory(img: &mut [u8], last: u8, sector: u8) {
 }
 
 // Writes the entry at its place, after the directory has grown where it must.
-fn write_entry(img: &mut [u8], entry: &[u8; 30], place: EntryPlace, last: u8) {
+fn write_entry(img: &mut [u8], entry: &[u8; 30], place: EntryPlace, last: u8)
+    requires { ⌜ EntryReady (now img) (now entry) place last ⌝ }
+    ensures { λ _. ⌜ EntryLaid (now (img .entry)) (now (entry .entry)) place last (now (img .exit)) ⌝ }
+{
     if place.grown {
         grow_directory(img, last, place.sector);
     }
     let start = 91392 + 256 * (place.sector as usize) + 32 * (place.index as usize);
     parts::overwrite(img, start + 2, entry);
+}
+
+// Puts the map into its sector, 18/0.
+fn write_map(img: &mut [u8], map: [[u8; 4]; 35])
+    requires { ⌜ length (now img) ≡ 174848 ⌝ }
+    ensures { λ _. ⌜ MapWritten (now (img .entry)) map (now (img .exit)) ⌝ }
+{
+    mapsector::store_map(map, &mut img[91392..91648]);
 }
 
 // Writes a file: its data in the sectors at these places, its entry, and the map, which was loaded from the image.
@@ -106,5 +175,5 @@ pub(crate) fn write_file(
     if place.grown {
         bam::move_mark(&mut marks, 18 * 256 + place.sector as u16, false);
     }
-    mapsector::store_map(marks, &mut img[91392..91648]);
+    write_map(img, marks);
 }

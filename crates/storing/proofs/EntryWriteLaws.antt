@@ -1,0 +1,136 @@
+-- The entry, and its place in the directory (01, Store).
+-- In order: the entry's bytes; the directory grown by a sector; the entry at its place; the map in its sector; the place of the definitions.
+use Prim.Native.Nat.{ℕ, _+_, _-_, _*_, _/_, _%_, _≤_, _<_}
+use native.Mathlib.Omega.{arith}
+use mathlib.Core.Path.{_≡_, refl, sym, ap, ap₂, _∙_, subst}
+use mathlib.Core.Bool.{Bool, true, false, cond}
+use mathlib.Core.Logic.{_⊎_, inl, inr}
+use mathlib.Core.List.{List, [], _∷_, _++_, append-assoc, append-nil}
+use lib.ListN.{length, take, drop, set, length-append, length-replicate}
+use lib.Seq.{take-all, take-length, set-at}
+use Rattle.d64spec.specs.Lists.{Bytes, splice, zeros}
+use Rattle.d64spec.specs.Answers.{Address, address}
+use Rattle.d64spec.specs.Geometry.{layout35, sectorNumber, mapAddress, directoryStart}
+use Rattle.d64spec.specs.Image.{Disk, disk, put}
+use Rattle.d64spec.specs.Directory.{directorySectors, padded}
+use Rattle.d64spec.specs.Format.{emptyDirectorySector}
+use Rattle.d64spec.specs.Store.{SlotPlace, inEmptySlot, inNewSector, newEntry, overwriteSlot, lastOf, growDirectory, writeSlot}
+use Rattle.d64spec.proofs.FormatLaws.{padded-length}
+use Rattle.d64spec.proofs.ImageLaws.{put-other}
+use Rattle.d64spec.proofs.InPlaceLaws.{splice-disk}
+use Rattle.d64spec.proofs.SpliceLaws.{length-splice}
+use Rattle.geometry.specs.Layout.{unpacked}
+use Rattle.sectors.specs.Sectors.{withSector}
+use Rattle.sectors.proofs.SectorLaws.{disk-withSector, length-withSector}
+use Rattle.parts.specs.Overwrites.{overwritten}
+use Rattle.storing.specs.declared.room.EntryPlace.{EntryPlace}
+use Rattle.storing.specs.Plans.{PlaceIs}
+use Rattle.storing.specs.Writes.{grownDisk, entryDisk, GrowReady, Grown, EntryReady, EntryLaid, MapWritten}
+use Rattle.parts.proofs.OverwriteLaws.{lent-back, length-overwritten, disk-overwritten}
+use Rattle.mapentry.specs.MapEntry.{Entries}
+use Rattle.mapsector.specs.MapSector.{storedEntries}
+use Rattle.directory.proofs.Track18Laws.{number-18}
+use Rattle.diskcheck.proofs.TrackLaws.{map-lent}
+
+-- ---- the entry's bytes
+
+-- two bytes set behind 16 and nine
+entry-tail : (p : Bytes) (x y : ℕ) → length p ≡ 16 → set (set (p ++ zeros 11) 25 x) 26 y ≡ p ++ (zeros 9 ++ (x ∷ y ∷ []))
+entry-tail p x y h =
+    let q : Bytes = p ++ zeros 9 in
+    let size : length q ≡ 25 = omega (arith, length-append p (zeros 9)) in
+    let more : length (q ++ x ∷ []) ≡ 26 = omega (arith, length-append q (x ∷ []), size) in
+    ap (λ (l : Bytes). set (set l 25 x) 26 y) (sym (append-assoc p (zeros 9) (0 ∷ 0 ∷ [])))
+    ∙ ap (λ (l : Bytes). set l 26 y) (set-at q 0 (0 ∷ []) x 25 size ∙ sym (append-assoc q (x ∷ []) (0 ∷ [])))
+    ∙ set-at (q ++ x ∷ []) 0 [] y 26 more ∙ append-assoc q (x ∷ []) (y ∷ []) ∙ append-assoc p (zeros 9) (x ∷ y ∷ [])
+
+-- the name copied over the 16 bytes lent for it
+pub entry-made : (name : Bytes) (kind first k : ℕ) {f p : Bytes} → length name ≤ 16 → f ≡ take 16 (padded name) → p ≡ take (length f) f ++ drop (length f) (zeros 16)
+    → (0x80 + kind) ∷ first / 256 ∷ first % 256 ∷ set (set (p ++ zeros 11) 25 (k % 256)) 26 (k / 256) ≡ newEntry name kind (unpacked first) k
+unfolding newEntry
+entry-made name kind first k {f} {p} h e c =
+    let whole : f ≡ padded name = e ∙ take-all 16 (padded name) (omega (arith, padded-length name h)) in
+    let long : length f ≡ 16 = ap length whole ∙ padded-length name h in
+    let is : p ≡ padded name = c ∙ ap₂ (λ (x y : Bytes). x ++ y) (take-length f) (ap (λ (n : ℕ). drop n (zeros 16)) long) ∙ append-nil f ∙ whole in
+    ap (λ (l : Bytes). (0x80 + kind) ∷ first / 256 ∷ first % 256 ∷ l)
+    (ap (λ (l : Bytes). set (set (l ++ zeros 11) 25 (k % 256)) 26 (k / 256)) is ∙ entry-tail (padded name) (k % 256) (k / 256) (padded-length name h))
+
+-- ---- the directory grown
+
+module _ {img : Bytes} {last s : ℕ} (r : GrowReady img last s) where
+  pub directory-grown : {e img′ img″ : Bytes} → e ≡ emptyDirectorySector → img′ ≡ withSector img (357 + s) e → img″ ≡ overwritten img′ (91392 + 256 * last) (18 ∷ s ∷ [])
+      → Grown img last s img″
+  unfolding grownDisk
+  directory-grown {e} {img′} {img″} empty new linked =
+      let size = r .size in
+      let low = r .lastInside in
+      let high = r .sectorInside in
+      let full : length e ≡ 256 = ap length empty ∙ ap (λ (n : ℕ). 2 + n) (length-replicate {A = ℕ} 254 0) in
+      let kept : length img′ ≡ length img = ap length new ∙ length-withSector img (357 + s) e in
+      let first : disk img′ ≡ put (disk img) (357 + s) emptyDirectorySector
+      = ap disk new ∙ disk-withSector img (357 + s) e (omega arith) full ∙ ap (put (disk img) (357 + s)) empty in
+      let at : 91392 + 256 * last ≡ 256 * (357 + last) + 0 = omega arith in
+      let apart : 357 + last ≡ 357 + s → ⊥ = λ z. r .other (omega arith) in
+      let old : disk img′ (357 + last) ≡ disk img (357 + last)
+      = ap (λ (d : Disk). d (357 + last)) first ∙ put-other (disk img) (357 + s) emptyDirectorySector (357 + last) apart in
+      record {
+        size = ap length linked ∙ length-overwritten img′ (91392 + 256 * last) (18 ∷ s ∷ []) ∙ kept;
+        laid = ap disk linked ∙ ap (λ (n : ℕ). disk (overwritten img′ n (18 ∷ s ∷ []))) at
+            ∙ disk-overwritten img′ (357 + last) 0 (18 ∷ s ∷ []) (omega arith) (omega arith)
+            ∙ ap₂ (λ (d : Disk) (b : Bytes). put d (357 + last) (splice b 0 (18 ∷ s ∷ []))) first old
+            ∙ ap₂ (λ (n m : ℕ). put (put (disk img) n emptyDirectorySector) m (splice (disk img m) 0 (18 ∷ s ∷ []))) (sym (number-18 s)) (sym (number-18 last));
+      }
+
+-- ---- the entry at its place
+
+module _ {img e : Bytes} {p : EntryPlace} {last : ℕ} (r : EntryReady img e p last) where
+  -- what the code does before it writes the entry
+  abbrev pub Before : Bytes → Type 0
+  Before img′ = ((p .grown ≡ true) × (x : Bytes) × Grown img last (p .sector) x × (img′ ≡ x)) ⊎ ((p .grown ≡ false) × (img′ ≡ img))
+
+  length-before : {img′ : Bytes} → Before img′ → length img′ ≡ length img
+  length-before (inl g) = ap length (g .3) ∙ g .2 .size
+  length-before (inr g) = ap length (g .1)
+
+  disk-before : {img′ : Bytes} → Before img′ → disk img′ ≡ cond (p .grown) (grownDisk (disk img) last (p .sector)) (disk img)
+  disk-before (inl g) = ap disk (g .3) ∙ g .2 .laid ∙ ap (λ (b : Bool). cond b (grownDisk (disk img) last (p .sector)) (disk img)) (sym (g .0))
+  disk-before (inr g) = ap disk (g .1) ∙ ap (λ (b : Bool). cond b (grownDisk (disk img) last (p .sector)) (disk img)) (sym (g .0))
+
+  pub entry-laid : {img′ img″ : Bytes} → Before img′ → img″ ≡ overwritten img′ (91392 + 256 * p .sector + 32 * p .index + 2) e → EntryLaid img e p last img″
+  unfolding entryDisk overwriteSlot
+  entry-laid {img′} {img″} b w =
+      let kept : length img′ ≡ length img = length-before b in
+      let at : 91392 + 256 * p .sector + 32 * p .index + 2 ≡ 256 * (357 + p .sector) + (32 * p .index + 2) = omega arith in
+      record {
+        size = ap length w ∙ length-overwritten img′ (91392 + 256 * p .sector + 32 * p .index + 2) e ∙ kept;
+        laid = ap disk w ∙ ap (λ (n : ℕ). disk (overwritten img′ n e)) at
+            ∙ disk-overwritten img′ (357 + p .sector) (32 * p .index + 2) e (omega (arith, r .size, r .sectorInside)) (omega (arith, r .whole, r .indexInside))
+            ∙ ap₂ (λ (d : Disk) (n : ℕ). put d n (splice (d n) (32 * p .index + 2) e)) (disk-before b) (sym (number-18 (p .sector)));
+      }
+
+-- ---- the map in its sector
+
+-- what comes back of a loan of 18/0 when the map is put into it
+pub map-written : (es : Entries) (img : Bytes) {q : Bytes} → length img ≡ 174848 → q ≡ storedEntries es (take 256 (drop 91392 img)) → length q ≡ 256
+    → MapWritten img es (take 91392 img ++ (q ++ drop 256 (drop 91392 img)))
+map-written es img {q} size is full =
+    let m : ℕ = sectorNumber layout35 mapAddress in
+    let back : take 91392 img ++ (q ++ drop 256 (drop 91392 img)) ≡ splice img (256 * 357) q = lent-back img 91392 256 q full in
+    record {
+      size = ap length back ∙ length-splice img (256 * 357) q (omega arith);
+      laid = ap disk back ∙ splice-disk img 357 q (omega arith) full ∙ ap₂ (put (disk img)) (sym (number-18 0)) (is ∙ ap (storedEntries es) (map-lent img));
+    }
+
+-- ---- the place of the definitions
+
+-- an entry written at the place that the code's struct names is written where the definitions write it
+pub writeSlot-place : (d : Disk) (place : SlotPlace) (p : EntryPlace) (last : ℕ) (e : Bytes) → PlaceIs place p → address 18 last ≡ lastOf directoryStart (directorySectors layout35 d)
+    → entryDisk d e p last ≡ writeSlot layout35 d place e
+unfolding entryDisk writeSlot growDirectory grownDisk
+writeSlot-place d (inEmptySlot s) p last e (grown, holder, index) l =
+    ap (λ (b : Bool). overwriteSlot layout35 (address 18 (p .sector)) (p .index) e (cond b (grownDisk d last (p .sector)) d)) grown
+    ∙ ap₂ (λ (x : Address) (j : ℕ). overwriteSlot layout35 x j e d) (sym holder) (sym index)
+writeSlot-place d (inNewSector x) p last e (grown, holder, index) l =
+    ap₂ (λ (b : Bool) (j : ℕ). overwriteSlot layout35 (address 18 (p .sector)) j e (cond b (grownDisk d last (p .sector)) d)) grown index
+    ∙ ap (λ (q : Address). overwriteSlot layout35 (address 18 (p .sector)) 0 e (put (put d (sectorNumber layout35 (address 18 (p .sector))) emptyDirectorySector) (sectorNumber layout35 q) (splice (d (sectorNumber layout35 q)) 0 (18 ∷ p .sector ∷ [])))) l
+    ∙ ap (λ (y : Address). overwriteSlot layout35 y 0 e (growDirectory layout35 d y)) (sym holder)

@@ -1,0 +1,106 @@
+-- Replies to a store (01, Answer numbers; Store): what the definitions answer, refusal by refusal, and that the code's report says the same.
+-- In order: the size and the check; refusals in document 01's order; a store that is done; reports.
+use Prim.Native.Nat.{ℕ, _*_, _≤_, _<_}
+use native.Mathlib.Omega.{arith}
+use mathlib.Core.Path.{_≡_}
+use mathlib.Core.Bool.{true, false}
+use mathlib.Core.List.{[]}
+use lib.ListN.{length}
+use lib.Dec.{eqb}
+use borrow.Author.Tests.{eq-eqb, ne-eqb, le-leb, lt-leb}
+use Rattle.d64spec.specs.Lists.{Bytes}
+use Rattle.d64spec.specs.Answers.{Fault, Result, refused, done, wrongSize, badNameArgument, badKindArgument, writeForbidden, nameExists, directoryFull, diskFull}
+use Rattle.d64spec.specs.Geometry.{layout35, total}
+use Rattle.d64spec.specs.Image.{disk}
+use Rattle.d64spec.specs.Directory.{files}
+use Rattle.d64spec.specs.Owner.{freeForFiles}
+use Rattle.d64spec.specs.Check.{DirectoryContents, rightSize, checkDisk, checkImage}
+use Rattle.d64spec.specs.Reply.{reply, validNameArgument, validKind, writable, filesNamed}
+use Rattle.d64spec.specs.Store.{SlotPlace, slotPlaceFor, sectorsNeeded, storeChange, callStore}
+use Rattle.d64spec.specs.Call.{store, perform, attempt, outputBuffer}
+use Rattle.d64spec.proofs.RunTheorem.{sectors35}
+use Rattle.answers.specs.declared.Fault as code
+use Rattle.answers.specs.declared.Verdict.the-variants.{Fine, Refused}
+use Rattle.answers.specs.declared.Report.{Report}
+use Rattle.answers.specs.Faults.{faultOf, verdictOf, answerTo, replyOf}
+
+-- ---- the size and the check
+
+pub size-true : (img : Bytes) → length img ≡ 174848 → rightSize layout35 img ≡ true
+unfolding rightSize
+size-true img h = eq-eqb (length img) (256 * total layout35) (omega (arith, sectors35))
+
+size-false : (img : Bytes) → (length img ≡ 174848 → ⊥) → rightSize layout35 img ≡ false
+unfolding rightSize
+size-false img h = ne-eqb (length img) (256 * total layout35) (λ e. h (omega (arith, sectors35)))
+
+-- the check of an image of the right size is that of its sectors
+check-sized : (img : Bytes) {x : Result DirectoryContents} → rightSize layout35 img ≡ true → checkImage layout35 img ≡ x → checkDisk layout35 (disk img) ≡ x
+unfolding checkImage
+check-sized img size e = rw size at e
+
+-- ---- refusals
+
+module _ (img name : Bytes) (kind : ℕ) (bs : Bytes) where
+  pub store-size : (length img ≡ 174848 → ⊥) → callStore layout35 img name kind bs ≡ refused wrongSize
+  unfolding callStore
+  store-size h = rw (size-false img h)
+
+  module _ (size : length img ≡ 174848) where
+    pub store-name : validNameArgument name ≡ false → callStore layout35 img name kind bs ≡ refused badNameArgument
+    unfolding callStore
+    store-name asked = rw (size-true img size, asked)
+
+    module _ (asked : validNameArgument name ≡ true) where
+      pub store-kind : validKind kind ≡ false → callStore layout35 img name kind bs ≡ refused badKindArgument
+      unfolding callStore
+      store-kind kindAsked = rw (size-true img size, asked, kindAsked)
+
+      module _ (kindAsked : validKind kind ≡ true) where
+        pub store-fault : {f : Fault} → checkImage layout35 img ≡ refused f → callStore layout35 img name kind bs ≡ refused f
+        unfolding callStore
+        store-fault e = rw (size-true img size, asked, kindAsked, check-sized img (size-true img size) e)
+
+        module _ {c : DirectoryContents} (checked : checkImage layout35 img ≡ done c) where
+          pub store-forbidden : writable layout35 (disk img) ≡ false → callStore layout35 img name kind bs ≡ refused writeForbidden
+          unfolding callStore
+          store-forbidden may = rw (size-true img size, asked, kindAsked, check-sized img (size-true img size) checked, may)
+
+          module _ (may : writable layout35 (disk img) ≡ true) where
+            pub store-exists : eqb (length (filesNamed name (files layout35 (disk img)))) 0 ≡ false → callStore layout35 img name kind bs ≡ refused nameExists
+            unfolding callStore
+            store-exists there = rw (size-true img size, asked, kindAsked, check-sized img (size-true img size) checked, may, there)
+
+            module _ (absent : length (filesNamed name (files layout35 (disk img))) ≡ 0) where
+              absent-true : eqb (length (filesNamed name (files layout35 (disk img)))) 0 ≡ true
+              absent-true = eq-eqb (length (filesNamed name (files layout35 (disk img)))) 0 absent
+
+              pub store-full : slotPlaceFor layout35 (disk img) ≡ refused directoryFull → callStore layout35 img name kind bs ≡ refused directoryFull
+              unfolding callStore
+              store-full e = rw (size-true img size, asked, kindAsked, check-sized img (size-true img size) checked, may, absent-true, e)
+
+              module _ {place : SlotPlace} (found : slotPlaceFor layout35 (disk img) ≡ done place) where
+                pub store-no-room : length (freeForFiles layout35 (disk img)) < sectorsNeeded (length bs) → callStore layout35 img name kind bs ≡ refused diskFull
+                unfolding callStore
+                store-no-room h =
+                    rw (size-true img size, asked, kindAsked, check-sized img (size-true img size) checked, may, absent-true, found, lt-leb (sectorsNeeded (length bs)) (length (freeForFiles layout35 (disk img))) h)
+
+                pub store-done : sectorsNeeded (length bs) ≤ length (freeForFiles layout35 (disk img)) → callStore layout35 img name kind bs ≡ done (storeChange layout35 img place name kind bs)
+                unfolding callStore
+                store-done h =
+                    rw (size-true img size, asked, kindAsked, check-sized img (size-true img size) checked, may, absent-true, found, le-leb (sectorsNeeded (length bs)) (length (freeForFiles layout35 (disk img))) h)
+
+  -- ---- reports
+
+  -- THE REPLY TO A STORE that is refused
+  pub store-refused : {rep : Report} (f : code.Fault) → rep ≡ record { verdict = Refused f; length = 0; sectors = 0 } → callStore layout35 img name kind bs ≡ refused (faultOf f)
+      → replyOf rep img [] ≡ perform layout35 img (store name kind bs)
+  unfolding perform attempt outputBuffer reply verdictOf answerTo
+  store-refused f e r = rw (e, r)
+
+  -- THE REPLY TO A STORE that is done
+  pub store-replied : {img′ : Bytes} {n k : ℕ} (place : SlotPlace) → callStore layout35 img name kind bs ≡ done (storeChange layout35 img place name kind bs)
+      → img′ ≡ storeChange layout35 img place name kind bs .imageAfter → n ≡ length bs → k ≡ sectorsNeeded (length bs)
+      → replyOf (record { verdict = Fine; length = n; sectors = k }) img′ [] ≡ perform layout35 img (store name kind bs)
+  unfolding perform attempt outputBuffer reply verdictOf answerTo
+  store-replied place e written long counted = rw (e, written, long, counted)

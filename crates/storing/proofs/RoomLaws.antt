@@ -1,0 +1,191 @@
+-- Room for a file on a checked image (01, Store; Answer numbers: 14, 15): what the code finds is what the definitions find.
+-- In order: the sectors needed; the directory's last sector; the map's marks; a place for the entry; sectors for the content.
+use Prim.Native.Nat.{ℕ, zero, suc, _+_, _*_, _-_, _/_, _%_, _≤_, _<_}
+use native.Mathlib.Omega.{arith}
+use mathlib.Core.Path.{_≡_, refl, sym, ap, _∙_}
+use mathlib.Core.Bool.{Bool, true, false, cond}
+use mathlib.Core.List.{List, [], _∷_, map}
+use lib.ListN.{length, take, drop, getD, length-take, length-drop}
+use lib.Dec.{eqb, ltb}
+use borrow.Author.Tests.{eq-eqb, ne-eqb, eqb-true, eqb-false, lt-ltb, le-ltb, ltb-true, ltb-false}
+use Rattle.d64spec.specs.Lists.{Bytes, byte}
+use Rattle.d64spec.specs.Answers.{Address, address, refused, done, directoryFull, first}
+use Rattle.d64spec.specs.Geometry.{layout35, sectorNumber, mapAddress, directoryStart}
+use Rattle.d64spec.specs.Image.{Disk, disk}
+use Rattle.d64spec.specs.Chain.{follow}
+use Rattle.d64spec.specs.Directory.{Slot, isEmpty, slotIn, directorySectors}
+use Rattle.d64spec.specs.Owner.{freeForFiles, freeForDirectory}
+use Rattle.d64spec.specs.Accepted.{Accepted}
+use Rattle.d64spec.specs.Store.{inEmptySlot, inNewSector, emptySlots, slotPlaceFor, sectorsNeeded, placement, lastOf}
+use Rattle.d64spec.proofs.OtherBytes.{byte-small}
+use Rattle.d64spec.proofs.RunTheorem.{sectors35}
+use Rattle.geometry.specs.Layout.{unpacked}
+use Rattle.directory.specs.Directories.{sectorsOf, slotAt, slotBytes}
+use Rattle.directory.proofs.Track18Laws.{number-18}
+use Rattle.diskcheck.specs.SlotChecks.{imageSlot}
+use Rattle.finding.specs.FileSlots.{slotEmpty, CheckedSlots}
+use Rattle.finding.proofs.CheckedSlotLaws.{lentTrack18}
+use Rattle.finding.proofs.EmptyLaws.{empty-none, empty-some}
+use Rattle.mapentry.specs.MapEntry.{Entries}
+use Rattle.mapsector.specs.MapSector.{mapEntries}
+use Rattle.bamlaws.proofs.FollowLaws.{expects-loaded, markedFree-expected}
+use Rattle.placement.specs.Placements.{Placed, directoryPlace}
+use Rattle.placement.proofs.PlaceLaws.{MarksFree, few-places, places-count, places-few, places-named, directory-none, directory-lowest}
+use Rattle.storing.specs.declared.room.Room.{Room}
+use Rattle.storing.specs.declared.room.Room.the-variants.{At, Full}
+use Rattle.storing.specs.Plans.{PlaceReady}
+use Rattle.storing.specs.Decisions.{Needed, slotPlace, newPlace, roomAt, roomFor, RoomIs, RoomAsked}
+
+-- ---- the sectors needed
+
+pub needed-none : {size : ℕ} → size ≡ 0 → Needed size 1
+unfolding sectorsNeeded
+needed-none {size} e = record { is = rw (eq-eqb size 0 e); some = omega arith; few = omega arith }
+
+pub needed-some : {size : ℕ} → (size ≡ 0 → ⊥) → size ≤ 168656 → Needed size ((size + 253) / 254)
+unfolding sectorsNeeded
+needed-some {size} e h = record { is = rw (ne-eqb size 0 e); some = omega arith; few = omega arith }
+
+-- more bytes than 664 sectors hold
+needed-many : {size : ℕ} → 168656 < size → 664 < sectorsNeeded size
+unfolding sectorsNeeded
+needed-many {size} h = rw (ne-eqb size 0 (λ e. omega arith)) (omega arith)
+
+-- ---- the directory's sectors
+
+lastOf-sectors : (r : Address) (ss : List ℕ) (n : ℕ) → n < length ss → lastOf r (sectorsOf ss (suc n)) ≡ address 18 (getD ss n 0)
+unfolding lastOf
+lastOf-sectors r [] n h = absurd (omega arith)
+lastOf-sectors r (s ∷ ss) zero h = refl
+lastOf-sectors r (s ∷ ss) (suc n) h = lastOf-sectors (address 18 s) ss n (omega arith)
+
+directory-length : (img : Bytes) → 1 ≤ length (directorySectors layout35 (disk img))
+unfolding directorySectors
+directory-length img = omega arith
+
+module _ (img : Bytes) (ss : List ℕ) (count : ℕ) (sectors : sectorsOf ss count ≡ directorySectors layout35 (disk img)) where
+  -- the directory starts at 18/1: there is a sector of it
+  pub count-some : 1 ≤ count
+  count-some = go count sectors
+    where
+      go : (n : ℕ) → sectorsOf ss n ≡ directorySectors layout35 (disk img) → 1 ≤ n
+      go zero e = let z : 0 ≡ length (directorySectors layout35 (disk img)) = ap length e in absurd (omega (arith, directory-length img))
+      go (suc n) e = omega arith
+
+  pub last-sector : count ≤ length ss → address 18 (getD ss (count - 1) 0) ≡ lastOf directoryStart (directorySectors layout35 (disk img))
+  last-sector h =
+      let e : count ≡ suc (count - 1) = omega (arith, count-some) in
+      sym (lastOf-sectors directoryStart ss (count - 1) (omega (arith, count-some)))
+      ∙ ap (λ (n : ℕ). lastOf directoryStart (sectorsOf ss n)) (sym e)
+      ∙ ap (lastOf directoryStart) sectors
+
+-- ---- the map's marks
+
+map-full : (img : Bytes) → length img ≡ 174848 → length (disk img (sectorNumber layout35 mapAddress)) ≡ 256
+unfolding disk
+map-full img size = rw (number-18 0) (simp (length-take, length-drop) (omega arith))
+
+module _ {img : Bytes} (accepted : Accepted layout35 img) (bytes : (i : ℕ) → byte img i < 256) where
+  image-size : length img ≡ 174848
+  image-size = omega (arith, accepted .size, sectors35)
+
+  -- THE MAP OF AN ACCEPTED IMAGE marks exactly the free sectors
+  marks-free : MarksFree (mapEntries (disk img (sectorNumber layout35 mapAddress))) (disk img)
+  marks-free = record { agrees = markedFree-expected (expects-loaded (disk img) (accepted .content) (map-full img image-size) (byte-small img bytes (sectorNumber layout35 mapAddress))) }
+
+-- ---- a place for the entry
+
+-- where the definitions put the entry, by the empty slots and the free sectors of track 18
+module _ (d : Disk) where
+  place-slot : (s : Slot) (l : List Slot) → emptySlots layout35 d ≡ s ∷ l → slotPlaceFor layout35 d ≡ done (inEmptySlot s)
+  unfolding slotPlaceFor
+  place-slot s l e = rw (e, slotPlaceFor)
+
+  place-none : emptySlots layout35 d ≡ [] → freeForDirectory layout35 d ≡ [] → slotPlaceFor layout35 d ≡ refused directoryFull
+  unfolding slotPlaceFor first
+  place-none e f = rw (e, f, slotPlaceFor)
+
+  place-new : emptySlots layout35 d ≡ [] → (r : Address) (l : List Address) → freeForDirectory layout35 d ≡ r ∷ l → slotPlaceFor layout35 d ≡ done (inNewSector r)
+  unfolding slotPlaceFor first
+  place-new e r l f = rw (e, f, slotPlaceFor)
+
+-- what the code returns, by its tests
+module _ (b : Bytes) (ss : List ℕ) (end : ℕ) (es : Entries) {k : ℕ} (is : k ≡ slotEmpty b ss 0 end) where
+  pub room-slot : k < end → At (slotPlace ss k) ≡ roomFor b ss end es
+  unfolding roomFor roomAt
+  room-slot h = rw (← is) (rw (lt-ltb k end h))
+
+  module _ (full : end ≤ k) {n : ℕ} (place : n ≡ directoryPlace es) where
+    pub room-none : n ≡ 0 → Full ≡ roomFor b ss end es
+    unfolding roomFor roomAt
+    room-none e = rw (← is, ← place) (rw (le-ltb k end full, eq-eqb n 0 e))
+
+    pub room-new : (n ≡ 0 → ⊥) → At (newPlace n) ≡ roomFor b ss end es
+    unfolding roomFor roomAt
+    room-new e = rw (← is, ← place) (rw (le-ltb k end full, ne-eqb n 0 e))
+
+module _ {img : Bytes} {ss : List ℕ} (count : ℕ) (there : CheckedSlots img ss (8 * count)) (whole : count ≤ length ss) (sectors : sectorsOf ss count ≡ directorySectors layout35 (disk img))
+    (bytes : (i : ℕ) → byte img i < 256) where
+  -- an empty slot
+  slot-ready : (k : ℕ) → k ≡ slotEmpty (lentTrack18 img) ss 0 (8 * count) → k < 8 * count → PlaceReady img (slotPlace ss k)
+  unfolding slotAt slotIn
+  slot-ready k is h =
+      let e = empty-some img ss count (there .inside) whole sectors is h in
+      record { place = inEmptySlot (imageSlot img ss k); found = place-slot (disk img) (imageSlot img ss k) (e .0) (e .1); is = (refl, refl, refl) }
+
+  -- no empty slot: a new sector, or none
+  module _ (none : emptySlots layout35 (disk img) ≡ []) where
+    abbrev es : Entries
+    es = mapEntries (disk img (sectorNumber layout35 mapAddress))
+
+    sector-none : directoryPlace es ≡ 0 → slotPlaceFor layout35 (disk img) ≡ refused directoryFull
+    sector-none e = place-none (disk img) none (directory-none (marks-free (there .accepted) bytes) .0 e)
+
+    sector-ready : (directoryPlace es ≡ 0 → ⊥) → PlaceReady img (newPlace (directoryPlace es))
+    sector-ready e =
+        let f = directory-lowest (marks-free (there .accepted) bytes) e in
+        let z : f .sector ≡ directoryPlace es % 256 = omega (arith, f .number, f .small) in
+        record { place = inNewSector (address 18 (f .sector)); found = place-new (disk img) none (address 18 (f .sector)) (f .others) (f .free); is = (refl, ap (address 18) z, refl) }
+
+  room-decided : (k n : ℕ) → k ≡ slotEmpty (lentTrack18 img) ss 0 (8 * count) → n ≡ directoryPlace (mapEntries (disk img (sectorNumber layout35 mapAddress)))
+      → RoomIs img (roomAt ss (8 * count) k n)
+  unfolding roomAt
+  room-decided k n is place = slot (ltb k (8 * count)) refl
+    where
+      sector : (t : Bool) → eqb n 0 ≡ t → emptySlots layout35 (disk img) ≡ [] → RoomIs img (cond t Full (At (newPlace n)))
+      sector true e none = sector-none none (sym place ∙ eqb-true n 0 e)
+      sector false e none = rw place (sector-ready none (λ z. eqb-false n 0 e (place ∙ z)))
+
+      slot : (t : Bool) → ltb k (8 * count) ≡ t → RoomIs img (cond t (At (slotPlace ss k)) (cond (eqb n 0) Full (At (newPlace n))))
+      slot true e = slot-ready k is (ltb-true k (8 * count) e)
+      slot false e = sector (eqb n 0) refl (empty-none img ss count (there .inside) whole sectors is (ltb-false k (8 * count) e))
+
+-- ROOM FOR THE ENTRY is where the definitions have it
+pub room-is : {img ss : List ℕ} {count : ℕ} {es : Entries} {room : Room} → RoomAsked img ss count es → room ≡ roomFor (lentTrack18 img) ss (8 * count) es → RoomIs img room
+unfolding roomFor
+room-is {img} {ss} {count} {es} a is =
+    let d = a .directory in
+    rw is (room-decided count (d .slots) (d .whole) (d .sectors) (d .bytes) (slotEmpty (lentTrack18 img) ss 0 (8 * count)) (directoryPlace es) refl (ap directoryPlace (a .entries)))
+
+-- ---- sectors for the content
+
+module _ {img : Bytes} (accepted : Accepted layout35 img) (bytes : (i : ℕ) → byte img i < 256) {es : Entries}
+    (entries : es ≡ mapEntries (disk img (sectorNumber layout35 mapAddress))) where
+  marks-of : MarksFree es (disk img)
+  marks-of = rw entries (marks-free accepted bytes)
+
+  module _ {size n r : ℕ} {at at′ : List ℕ} (need : Needed size n) (room : n ≤ length at) (placed : Placed es n at r at′) where
+    -- fewer sectors than are needed
+    pub sectors-few : r < n → length (freeForFiles layout35 (disk img)) < sectorsNeeded size
+    sectors-few h = omega (arith, places-few marks-of room placed .0 h, need .is)
+
+    -- as many as are needed
+    pub sectors-enough : n ≤ r → sectorsNeeded size ≤ length (freeForFiles layout35 (disk img))
+    sectors-enough h = omega (arith, places-count marks-of room placed, need .is)
+
+    pub sectors-taken : n ≤ r → map unpacked (take n at′) ≡ placement layout35 (disk img) (sectorsNeeded size)
+    sectors-taken h = places-named marks-of room placed (omega (arith, sectors-enough h, need .is)) ∙ ap (placement layout35 (disk img)) (need .is)
+
+-- more bytes than any disk has room for
+pub sectors-never : (img : Bytes) {size : ℕ} → 168656 < size → length (freeForFiles layout35 (disk img)) < sectorsNeeded size
+sectors-never img h = omega (arith, few-places (disk img), needed-many h)

@@ -1,0 +1,25 @@
+-- `storing::may_write` meets its contract: the DOS version is that of the map sector.
+use Rattle.storing.proofs.DecisionLaws.{writable-lent}
+use borrow.Author.Needs.{needs}
+use Rattle.storing.proofs.may_write.Statement.{statement}
+use Rattle.storing.proofs.may_write.Tie as tie
+
+sub-may-write : tie.Need-sub-may-write
+sub-may-write c = search needs
+
+part-may-write-start : tie.Need-part-may-write-start
+part-may-write-start c = search needs
+
+part-may-write-end : tie.Need-part-may-write-end
+part-may-write-end c = search needs
+
+may-write-requires : tie.Need-may-write-requires
+may-write-requires c κs = search needs
+
+returns : tie.Need-returns
+returns c = writable-lent (c .before .before .before .args .img .now) (c .may-write .ensures)
+
+pub may-write-spec : {M : Type 1} → statement M
+may-write-spec =
+    tie.close
+    (tie.spec sub-may-write part-may-write-start part-may-write-end may-write-requires returns)

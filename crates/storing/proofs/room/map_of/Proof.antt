@@ -1,0 +1,25 @@
+-- `storing::room::map_of` meets its contract: the map is that of 18/0.
+use Rattle.storing.proofs.DecisionLaws.{map-loaded}
+use borrow.Author.Needs.{needs}
+use Rattle.storing.proofs.room.map_of.Statement.{statement}
+use Rattle.storing.proofs.room.map_of.Tie as tie
+
+sub-load-map : tie.Need-sub-load-map
+sub-load-map c = search needs
+
+part-load-map-start : tie.Need-part-load-map-start
+part-load-map-start c = search needs
+
+part-load-map-end : tie.Need-part-load-map-end
+part-load-map-end c = search needs
+
+load-map-requires : tie.Need-load-map-requires
+load-map-requires c κs = search needs
+
+returns : tie.Need-returns
+returns c = map-loaded (c .before .before .before .args .img .now) (c .load-map .ensures)
+
+pub map-of-spec : {M : Type 1} → statement M
+map-of-spec =
+    tie.close
+    (tie.spec sub-load-map part-load-map-start part-load-map-end load-map-requires returns)
