@@ -6,10 +6,10 @@ use mathlib.Core.Bool.{Bool, true, false, cond}
 use mathlib.Core.List.{List}
 use lib.ListN.{take, drop, getD}
 use Rattle.d64spec.specs.Lists.{Bytes, equal}
-use Rattle.d64spec.specs.Answers.{Address, address, notFound, writeForbidden, Result, refused, done, first}
-use Rattle.d64spec.specs.Geometry.{layout35, sectorNumber}
+use Rattle.d64spec.specs.Answers.{address, notFound, writeForbidden, refused, done, first}
+use Rattle.d64spec.specs.Geometry.{layout35}
 use Rattle.d64spec.specs.Image.{disk}
-use Rattle.d64spec.specs.Directory.{Slot, File, nameOf, slotIn, fileOf, firstLink, files}
+use Rattle.d64spec.specs.Directory.{Slot, nameOf, slotIn, fileOf, firstLink, files}
 use Rattle.d64spec.specs.Listing.{bytesOfTrack18}
 use Rattle.d64spec.specs.Reply.{validNameArgument, writable, filesNamed}
 use Rattle.d64spec.specs.Scratch.{callScratch, scratchedDisk, scratchChange}
