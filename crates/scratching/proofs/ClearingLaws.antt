@@ -24,8 +24,7 @@ use Rattle.bamlaws.specs.Expected.{Expects, freeAfter}
 use Rattle.bamlaws.proofs.FollowLaws.{expects-start, expects-moved, expects-agree}
 use Rattle.reading.specs.ChainReads.{sectorsFrom, lastByteFrom, ChainFrom}
 use Rattle.reading.proofs.ChainStepLaws.{Visited, linkAt, Follows, sectors-first, last-alone, follows}
-use Rattle.reading.proofs.CopyLaws.{Ending, ending-last, ending-moved}
-use Rattle.scratching.specs.declared.Cleared.{Cleared}
+use Rattle.reading.proofs.CopyLaws.{ending-last, ending-moved}
 use Rattle.scratching.specs.Scratches.{ChainOwned, ChainCleared}
 
 -- how often sector n stands among these

@@ -1,15 +1,15 @@
 -- The file that a scratch takes on a checked image (01, Scratch): whether writing is allowed, and where the search for its slot ends.
-use Prim.Native.Nat.{ℕ, zero, suc, _+_, _*_, _/_, _%_, _≤_, _<_}
+use Prim.Native.Nat.{ℕ, _*_, _/_, _%_, _<_}
 use native.Mathlib.Omega.{arith}
 use mathlib.Core.Path.{_≡_, sym, ap, _∙_}
-use mathlib.Core.Bool.{Bool, true, false, cond}
+use mathlib.Core.Bool.{true, false}
 use mathlib.Core.List.{List}
 use lib.ListN.{take, drop, getD}
 use Rattle.d64spec.specs.Lists.{Bytes, equal}
-use Rattle.d64spec.specs.Answers.{Address, address, notFound, writeForbidden, Result, refused, done, first}
-use Rattle.d64spec.specs.Geometry.{layout35, sectorNumber}
+use Rattle.d64spec.specs.Answers.{address, notFound, writeForbidden, refused, done, first}
+use Rattle.d64spec.specs.Geometry.{layout35}
 use Rattle.d64spec.specs.Image.{disk}
-use Rattle.d64spec.specs.Directory.{Slot, File, nameOf, slotIn, fileOf, firstLink, files}
+use Rattle.d64spec.specs.Directory.{Slot, nameOf, slotIn, fileOf, firstLink, files}
 use Rattle.d64spec.specs.Listing.{bytesOfTrack18}
 use Rattle.d64spec.specs.Reply.{validNameArgument, writable, filesNamed}
 use Rattle.d64spec.specs.Scratch.{callScratch, scratchedDisk, scratchChange}
@@ -22,19 +22,11 @@ use Rattle.directory.proofs.SearchLaws.{sector-lt}
 use Rattle.directory.proofs.Track18Laws.{number-18}
 use Rattle.diskcheck.specs.SlotChecks.{imageSlot}
 use Rattle.diskcheck.proofs.TrackLaws.{map-lent, track18-lent}
-use Rattle.finding.specs.FileSlots.{holdsFile, slotNamed, CheckedSlots}
+use Rattle.finding.specs.FileSlots.{slotNamed, CheckedSlots}
+use Rattle.finding.proofs.FindLaws.{slotNamed-le}
 use Rattle.finding.proofs.CheckedSlotLaws.{lentTrack18, found-none, found-some, by-name}
 use Rattle.scratching.specs.Scratches.{slotOn, fileOn, FileThere, MayScratch}
 use Rattle.scratching.proofs.ReplyLaws.{scratch-forbidden, scratch-none, scratch-some}
-
--- a search ends at the latest where the slots end
-named-le : (b ss name : List ℕ) (k n : ℕ) → slotNamed b ss name k n ≤ k + n
-named-le b ss name k zero = omega arith
-named-le b ss name k (suc n) = go (holdsFile b ss name k) (named-le b ss name (suc k) n)
-  where
-    go : (h : Bool) → slotNamed b ss name (suc k) n ≤ suc k + n → cond h k (slotNamed b ss name (suc k) n) ≤ k + suc n
-    go true l = omega arith
-    go false l = omega arith
 
 -- whether writing is allowed, by the map sector as the code lends it
 pub writable-lent : (img : Bytes) → allowsWriting (take 256 (drop 91392 img)) ≡ writable layout35 (disk img)
@@ -62,7 +54,7 @@ module _ {img name ss : List ℕ} {end : ℕ} (may : MayScratch img name ss end)
   -- where the search ends at a slot
   module _ (some : k ≡ end → ⊥) where
     pub slot-below : k < 144
-    slot-below = omega (arith, found, named-le (bytesOfTrack18 layout35 img) ss name 0 end, there .few)
+    slot-below = omega (arith, found, slotNamed-le (bytesOfTrack18 layout35 img) ss name 0 end, there .few)
 
     -- its directory sector
     abbrev holder : ℕ

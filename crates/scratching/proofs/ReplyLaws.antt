@@ -1,5 +1,4 @@
 -- What a scratch of the definitions answers, refusal by refusal, and that the code's report says the same (01, Answer numbers; Scratch).
-use Prim.Native.Nat.{ℕ}
 use mathlib.Core.Path.{_≡_, sym, ap, _∙_}
 use mathlib.Core.Bool.{true, false}
 use mathlib.Core.List.{[]}

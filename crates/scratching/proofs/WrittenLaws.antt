@@ -17,7 +17,7 @@ use Rattle.d64spec.specs.Chain.{chainData}
 use Rattle.d64spec.specs.Directory.{File, Slot, slotIn, fileOf, firstLink}
 use Rattle.d64spec.specs.Owner.{claimCount, isFree}
 use Rattle.d64spec.specs.Map.{rewriteMap}
-use Rattle.d64spec.specs.Reply.{Change, changed, reply}
+use Rattle.d64spec.specs.Reply.{reply}
 use Rattle.d64spec.specs.Store.{overwriteSlot}
 use Rattle.d64spec.specs.Scratch.{clearSectors, scratchedDisk, scratchChange}
 use Rattle.d64spec.proofs.ImageLaws.{Whole, disk-whole, put-same}

@@ -70,7 +70,7 @@ pub record FileCleared (img : Bytes) (at : ℕ) (c : Cleared) (img′ : Bytes) :
   pub chain : ChainCleared img (startAt img at) c before marked
   pub written : img′ ≡ withMap marked (overwritten before at (zeros 30))
 
--- slot `index` of the directory sector 18/holder; its number through the directory plays no part in a scratch (01, The directory)
+-- slot `index` of the directory sector 18/holder, whose first slot has number n; a scratch does not ask that number (01, The directory)
 unfoldable pub slotOn : Bytes → ℕ → ℕ → ℕ → Slot
 slotOn img holder n index = slotIn (disk img (sectorNumber layout35 (address 18 holder))) (address 18 holder) n index
 
@@ -78,7 +78,7 @@ slotOn img holder n index = slotIn (disk img (sectorNumber layout35 (address 18 
 unfoldable pub fileOn : Bytes → ℕ → ℕ → ℕ → File
 fileOn img holder n index = fileOf layout35 (disk img) (slotOn img holder n index)
 
--- an accepted image, and the file of one of its occupied slots, of which n is the sector's first number (01, Scratch)
+-- an accepted image, and the file of one of its occupied slots; `from` is the number of its sector's first slot (01, Scratch)
 pub record FileThere (img : Bytes) (holder index : ℕ) : Type 0 where
   pub accepted : Accepted layout35 img
   pub inside : holder < 19

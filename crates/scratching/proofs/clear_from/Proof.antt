@@ -2,7 +2,7 @@
 -- they were. The sectors that are left fall.
 use Prim.Native.Nat.{_+_, _*_, _≤_}
 use native.Mathlib.Omega.{arith}
-use mathlib.Core.Path.{_≡_, refl, ap}
+use mathlib.Core.Path.{refl, ap}
 use borrow.Author.Needs.{needs}
 use lib.ListN.{length}
 use Rattle.d64spec.specs.Answers.{address}
