@@ -60,8 +60,8 @@ pub record Clearing (img : Bytes) (first at : Address) (img′ : Bytes) (es′ :
   pub track : at .track < 256
   pub sector : at .sector < 256
 
-pub clearing-start : {img : Bytes} {es : Entries} {first : Address} → ChainOwned img es first → first .track < 256 → first .sector < 256 → Clearing img first first img es 0
-clearing-start o t s = record {
+pub clearing-start : {img : Bytes} {es : Entries} {first : Address} {k : ℕ} → ChainOwned img es first → first .track < 256 → first .sector < 256 → k ≡ 0 → Clearing img first first img es k
+clearing-start o t s none = record {
   chain = o .chain;
   cleared = [];
   sectors = refl;
@@ -73,6 +73,19 @@ clearing-start o t s = record {
   track = t;
   sector = s;
 }
+
+-- one sector given back: zeroed, and free in the map
+pub record Freed (img : Bytes) (es : Entries) (r : Address) (n : ℕ) (img′ : Bytes) (es′ : Entries) : Type 0 where
+  pub zeroed : img′ ≡ withSector img n (zeros 256)
+  pub marked : es′ ≡ movedMark true r es
+
+-- as the code gives it back: by its number, and by its address as one number
+pub freed : {img : Bytes} {es : Entries} {r : Address} {n : ℕ} {img′ : Bytes} {es′ : Entries} {i place : ℕ} {v : Bool} → r .sector < 256
+    → es′ ≡ movedMark v (address (place / 256) (place % 256)) es → place ≡ 256 * r .track + r .sector → v ≡ true → img′ ≡ withSector img i (zeros 256) → i ≡ n → Freed img es r n img′ es′
+freed {r = r} {place = place} narrow moved packed free zeroed here =
+    let t : place / 256 ≡ r .track = omega arith in
+    let s : place % 256 ≡ r .sector = omega arith in
+    record { zeroed = rw here at zeroed; marked = rw (t, s, free) at moved }
 
 module _ {img : Bytes} {es : Entries} {first at : Address} {img′ : Bytes} {es′ : Entries} {k : ℕ} (o : ChainOwned img es first) (w : Clearing img first at img′ es′ k) where
   -- ---- the sector at hand is as it was
@@ -116,25 +129,17 @@ module _ {img : Bytes} {es : Entries} {first at : Address} {img′ : Bytes} {es�
 
     -- ---- it is cleared, and its mark moved
 
-    -- the image without it
-    abbrev img″ : Bytes
-    img″ = withSector img′ n (zeros 256)
+    module _ {img″ : Bytes} {es″ : Entries} (step : Freed img′ es′ at n img″ es″) {k′ : ℕ} (more : k′ ≡ k + 1) where
+      sectors″ : disk img″ ≡ clearSectors layout35 (at ∷ w .cleared) (disk img)
+      sectors″ = ap disk (step .zeroed) ∙ disk-withSector img′ n (zeros 256) inside′ refl ∙ ap₂ (λ (d : Disk) (m : ℕ). put d m (zeros 256)) (w .sectors) (v .number)
 
-    sectors″ : disk img″ ≡ clearSectors layout35 (at ∷ w .cleared) (disk img)
-    sectors″ = disk-withSector img′ n (zeros 256) inside′ refl ∙ ap₂ (λ (d : Disk) (m : ℕ). put d m (zeros 256)) (w .sectors) (v .number)
+      size″ : length img″ ≡ length img
+      size″ = ap length (step .zeroed) ∙ length-withSector img′ n (zeros 256) ∙ w .size
 
-    size″ : length img″ ≡ length img
-    size″ = length-withSector img′ n (zeros 256) ∙ w .size
-
-    module _ {place : ℕ} {es″ : Entries} (moved : es″ ≡ movedMark true (address (place / 256) (place % 256)) es′) (packed : place ≡ 256 * at .track + at .sector) where
       marks″ : Expects (freeAfter true (at ∷ w .cleared) (isFree layout35 (disk img))) es″
-      marks″ =
-          let narrow = w .sector in
-          let t : place / 256 ≡ at .track = omega arith in
-          let s : place % 256 ≡ at .sector = omega arith in
-          rw (moved, t, s) (expects-moved (isFree layout35 (disk img)) true (w .cleared) (w .marks) at (w .chain .on) used)
+      marks″ = rw (step .marked) (expects-moved true (w .cleared) (isFree layout35 (disk img)) (w .marks) at (w .chain .on) used)
 
-      pub clearing-moved : Follows img at (linkAt img′ n) → byte img′ (256 * n) < 256 → byte img′ (256 * n + 1) < 256 → Clearing img first (linkAt img′ n) img″ es″ (k + 1)
+      pub clearing-moved : Follows img at (linkAt img′ n) → byte img′ (256 * n) < 256 → byte img′ (256 * n + 1) < 256 → Clearing img first (linkAt img′ n) img″ es″ k′
       clearing-moved f t s = record {
         chain = f .rest;
         cleared = at ∷ w .cleared;
@@ -148,13 +153,13 @@ module _ {img : Bytes} {es : Entries} {first at : Address} {img′ : Bytes} {es�
         sector = s;
       }
 
-      pub clearing-finished : sectorsFrom img at ≡ at ∷ [] → ChainCleared img first (record { count = k + 1; last = byte img′ (256 * n + 1) }) img″ es″
-      clearing-finished e =
+      pub clearing-finished : {last : ℕ} → sectorsFrom img at ≡ at ∷ [] → last ≡ byte img′ (256 * n + 1) → ChainCleared img first (record { count = k′; last = last }) img″ es″
+      clearing-finished e is =
           let all : (m : ℕ) → times m (at ∷ w .cleared) ≡ times m (sectorsFrom img first) = λ m. omega (arith, w .apart m, ap (times m) e) in
           record {
             sectors = sectors″ ∙ clear-same (at ∷ w .cleared) (sectorsFrom img first) all (disk img);
             size = size″;
             marks = expects-agree marks″ (λ r on. free-same (at ∷ w .cleared) (sectorsFrom img first) all true (isFree layout35 (disk img)) r);
             number = omega (arith, w .left, ap length e);
-            last = sector-as-was ∙ v .sector ∙ ending-last (record { chain = w .chain; same = w .same }) e;
+            last = is ∙ sector-as-was ∙ v .sector ∙ ending-last (record { chain = w .chain; same = w .same }) e;
           }

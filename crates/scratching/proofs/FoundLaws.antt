@@ -10,6 +10,7 @@ use Rattle.d64spec.specs.Answers.{Address, address, notFound, writeForbidden, R
 use Rattle.d64spec.specs.Geometry.{layout35, sectorNumber}
 use Rattle.d64spec.specs.Image.{disk}
 use Rattle.d64spec.specs.Directory.{Slot, File, nameOf, slotIn, fileOf, firstLink, files}
+use Rattle.d64spec.specs.Listing.{bytesOfTrack18}
 use Rattle.d64spec.specs.Reply.{validNameArgument, writable, filesNamed}
 use Rattle.d64spec.specs.Scratch.{callScratch, scratchedDisk, scratchChange}
 use Rattle.d64spec.specs.Accepted.{ValidEntry}
@@ -20,7 +21,7 @@ use Rattle.directory.specs.Directories.{slotAt}
 use Rattle.directory.proofs.SearchLaws.{sector-lt}
 use Rattle.directory.proofs.Track18Laws.{number-18}
 use Rattle.diskcheck.specs.SlotChecks.{imageSlot}
-use Rattle.diskcheck.proofs.TrackLaws.{map-lent}
+use Rattle.diskcheck.proofs.TrackLaws.{map-lent, track18-lent}
 use Rattle.finding.specs.FileSlots.{holdsFile, slotNamed, CheckedSlots}
 use Rattle.finding.proofs.CheckedSlotLaws.{lentTrack18, found-none, found-some, by-name}
 use Rattle.scratching.specs.Scratches.{slotOn, fileOn, FileThere, MayScratch}
@@ -36,17 +37,24 @@ named-le b ss name k (suc n) = go (holdsFile b ss name k) (named-le b ss name (s
     go false l = omega arith
 
 -- whether writing is allowed, by the map sector as the code lends it
-pub writable-lent : (img : Bytes) {b c : Bool} → b ≡ allowsWriting (take 256 (drop 91392 img)) → b ≡ c → writable layout35 (disk img) ≡ c
+pub writable-lent : (img : Bytes) → allowsWriting (take 256 (drop 91392 img)) ≡ writable layout35 (disk img)
 unfolding writable allowsWriting
-writable-lent img e is = sym (e ∙ ap allowsWriting (map-lent img)) ∙ is
+writable-lent img = ap allowsWriting (map-lent img)
+
+-- the slot of a name, by track 18 as the code lends it
+pub named-lent : (img ss name : List ℕ) (end : ℕ) {k : ℕ} → k ≡ slotNamed (take 4864 (drop 91392 img)) ss name 0 end → k ≡ slotNamed (bytesOfTrack18 layout35 img) ss name 0 end
+named-lent img ss name end e = e ∙ ap (λ (b : Bytes). slotNamed b ss name 0 end) (track18-lent img)
 
 pub forbidden : {img : Bytes} {ss : List ℕ} {end : ℕ} → CheckedSlots img ss end → (name : Bytes) → validNameArgument name ≡ true → writable layout35 (disk img) ≡ false
     → callScratch layout35 img name ≡ refused writeForbidden
 forbidden {img} there name asked denied = scratch-forbidden img name (there .size) asked (there .contents) denied
 
-module _ {img name ss : List ℕ} {end : ℕ} (may : MayScratch img name ss end) {k : ℕ} (is : k ≡ slotNamed (lentTrack18 img) ss name 0 end) where
+module _ {img name ss : List ℕ} {end : ℕ} (may : MayScratch img name ss end) {k : ℕ} (found : k ≡ slotNamed (bytesOfTrack18 layout35 img) ss name 0 end) where
   abbrev there : CheckedSlots img ss end
   there = may .slots
+
+  is : k ≡ slotNamed (lentTrack18 img) ss name 0 end
+  is = found ∙ ap (λ (b : Bytes). slotNamed b ss name 0 end) (sym (track18-lent img))
 
   pub none-named : k ≡ end → callScratch layout35 img name ≡ refused notFound
   none-named e = scratch-none img name (there .size) (may .asked) (there .contents) (may .allowed) (by-name there name (may .asked) is ∙ found-none there e)
@@ -54,7 +62,7 @@ module _ {img name ss : List ℕ} {end : ℕ} (may : MayScratch img name ss end)
   -- where the search ends at a slot
   module _ (some : k ≡ end → ⊥) where
     pub slot-below : k < 144
-    slot-below = omega (arith, is, named-le (lentTrack18 img) ss name 0 end, there .few)
+    slot-below = omega (arith, found, named-le (bytesOfTrack18 layout35 img) ss name 0 end, there .few)
 
     -- its directory sector
     abbrev holder : ℕ

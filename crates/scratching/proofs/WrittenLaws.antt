@@ -64,10 +64,12 @@ part-put : (a : ℕ) (f : Bytes → Bytes) {img img′ p : Bytes} → img′ ≡
     → take a img′ ++ (p ++ drop 256 (drop a img′)) ≡ splice img a (f (take 256 (drop a img)))
 part-put a f {img} {img′} {p} e is long = lent-back img′ a 256 p long ∙ ap (splice img′ a) is ∙ ap (λ (s : Bytes). splice s a (f (take 256 (drop a s)))) e
 
-pub map-put : (es : Entries) {img img′ p : Bytes} → img′ ≡ img → p ≡ storedEntries es (take 256 (drop 91392 img′)) → length p ≡ 256
-    → take 91392 img′ ++ (p ++ drop 256 (drop 91392 img′)) ≡ withMap es img
+-- over an image whose slot is zeroed
+pub map-put : (es : Entries) (img : Bytes) (at : ℕ) {img′ p bs : Bytes} → img′ ≡ overwritten img at bs → bs ≡ zeros 30 → p ≡ storedEntries es (take 256 (drop 91392 img′)) → length p ≡ 256
+    → take 91392 img′ ++ (p ++ drop 256 (drop 91392 img′)) ≡ withMap es (overwritten img at (zeros 30))
 unfolding withMap
-map-put es {img} {img′} {p} e is long = part-put 91392 (storedEntries es) {img = img} {img′ = img′} {p = p} e is long
+map-put es img at {img′} {p} {bs} e all is long =
+    part-put 91392 (storedEntries es) {img = overwritten img at (zeros 30)} {img′ = img′} {p = p} (e ∙ ap (overwritten img at) all) is long
 
 -- the map's sector
 abbrev m : ℕ
@@ -175,7 +177,7 @@ module _ {img : Bytes} {holder index : ℕ} (t : FileThere img holder index) whe
         chain = entry .chain;
         owned = λ k. omega (arith, claims k, ap (λ (l : List Address). count k (map (sectorNumber layout35) l)) sectors-are);
         once = t .accepted .content .once;
-        marks = rw (map-lent img) (expects-loaded d (t .accepted .content) (whole .full m (omega (arith, number-18 0, sectors35))) (byte-small img small m));
+        marks = expects-loaded d (t .accepted .content) (whole .full m (omega (arith, number-18 0, sectors35))) (byte-small img small m);
       });
     }
 

@@ -7,7 +7,7 @@ use mathlib.Core.List.{List, List·Memᴰ, map}
 use lib.ListN.{length, take, drop}
 use Rattle.d64spec.specs.Lists.{Bytes, byte, count, splice, zeros}
 use Rattle.d64spec.specs.Answers.{Address, address}
-use Rattle.d64spec.specs.Geometry.{layout35, sectorNumber}
+use Rattle.d64spec.specs.Geometry.{layout35, sectorNumber, mapAddress}
 use Rattle.d64spec.specs.Image.{disk}
 use Rattle.d64spec.specs.Directory.{Slot, File, slotIn, fileOf, files}
 use Rattle.d64spec.specs.Owner.{claimCount, isFree}
@@ -61,7 +61,7 @@ startAt img at = address (byte img (at + 1)) (byte img (at + 2))
 pub record EntryOwned (img : Bytes) (at : ℕ) : Type 0 where
   pub size : length img ≡ 174848
   pub inside : at + 30 ≤ length img
-  pub chain : ChainOwned img (mapEntries (take 256 (drop 91392 img))) (startAt img at)
+  pub chain : ChainOwned img (mapEntries (disk img (sectorNumber layout35 mapAddress))) (startAt img at)
 
 -- its chain cleared, its 30 bytes zeroed, and the map as it then is put into its sector (01, Scratch)
 pub record FileCleared (img : Bytes) (at : ℕ) (c : Cleared) (img′ : Bytes) : Type 0 where

@@ -6,14 +6,17 @@ ghost use mathlib.Core.List.{[]};
 ghost use lib.ListN.{length};
 ghost use Rattle.d64spec.specs.Lists.{zeros};
 ghost use Rattle.d64spec.specs.Answers.{done};
-ghost use Rattle.d64spec.specs.Geometry.{layout35};
-ghost use Rattle.d64spec.specs.Reply.{reply, validNameArgument};
+ghost use Rattle.d64spec.specs.Geometry.{layout35, sectorNumber, mapAddress};
+ghost use Rattle.d64spec.specs.Image.{disk};
+ghost use Rattle.d64spec.specs.Listing.{bytesOfTrack18};
+ghost use Rattle.d64spec.specs.Reply.{reply, validNameArgument, writable};
 ghost use Rattle.d64spec.specs.Scratch.{scratchChange};
 ghost use Rattle.d64spec.specs.Call.{scratch, perform};
 ghost use Rattle.geometry.specs.Layout.{addressOf};
 ghost use Rattle.parts.specs.Overwrites.{overwritten};
 ghost use Rattle.answers.specs.Faults.{replyOf};
-ghost use Rattle.finding.specs.FileSlots.{CheckedSlots};
+ghost use Rattle.mapsector.specs.MapSector.{mapEntries};
+ghost use Rattle.finding.specs.FileSlots.{slotNamed, CheckedSlots};
 ghost use Rattle.scratching.specs.Scratches.{ChainOwned, ClearReady, ChainCleared, withMap, EntryOwned, FileCleared, fileOn, FileThere, MayScratch};
 use answers::Fault;
 use answers::Report;
@@ -73,6 +76,14 @@ fn clear_slot(img: &mut [u8], at: usize, map: [[u8; 4]; 35])
     mapsector::store_map(map, &mut img[91392..91648]);
 }
 
+// The image's map by value.
+fn map_of(img: &[u8]) -> [[u8; 4]; 35]
+    requires { ⌜ length (now img) ≡ 174848 ⌝ }
+    ensures { λ r. ⌜ r ≡ mapEntries (disk (now (img .entry)) (sectorNumber layout35 mapAddress)) ⌝ }
+{
+    mapsector::load_map(&img[91392..91648])
+}
+
 // Clears the chain that the slot from byte `at` on starts, and the slot itself; the map follows.
 fn clear_file(img: &mut [u8], at: usize) -> Cleared
     requires { ⌜ EntryOwned (now img) at ⌝ }
@@ -82,7 +93,7 @@ fn clear_file(img: &mut [u8], at: usize) -> Cleared
         track: img[at + 1],
         sector: img[at + 2],
     };
-    let mut map = mapsector::load_map(&img[91392..91648]);
+    let mut map = map_of(img);
     let cleared = clear_chain(img, first, &mut map);
     clear_slot(img, at, map);
     cleared
@@ -102,13 +113,21 @@ fn scratch_slot(img: &mut [u8], holder: u8, index: usize) -> Report
     }
 }
 
+// The first of the slots 0 to end - 1 that holds the name, or `end` where none does.
+fn slot_named(img: &[u8], name: &[u8], sectors: &[u8; 18], end: usize) -> usize
+    requires { ⌜ length (now img) ≡ 174848 ⌝ }
+    ensures { λ r. ⌜ r ≡ slotNamed (bytesOfTrack18 layout35 (now (img .entry))) (now (sectors .entry)) (now (name .entry)) 0 end ⌝ }
+{
+    finding::find_named(&img[91392..96256], sectors, name, end)
+}
+
 // The same for the file of this name on a checked image that may be written, looked for among the slots 0 to end - 1; refused with 13 where no
 // slot has the name.
 fn scratch_named(img: &mut [u8], name: &[u8], sectors: &[u8; 18], end: usize) -> Report
     requires { ⌜ MayScratch (now img) (now name) (now sectors) end ⌝ }
     ensures { λ r. ⌜ replyOf r (now (img .exit)) [] ≡ perform layout35 (now (img .entry)) (scratch (now (name .entry))) ⌝ }
 {
-    let k = finding::find_named(&img[91392..96256], sectors, name, end);
+    let k = slot_named(img, name, sectors, end);
     if k == end {
         return answers::refuse(Fault::NotFound);
     }
@@ -116,12 +135,20 @@ fn scratch_named(img: &mut [u8], name: &[u8], sectors: &[u8; 18], end: usize) ->
     scratch_slot(img, sectors[i], k % 8)
 }
 
+// Whether the DOS version allows writing.
+fn may_write(img: &[u8]) -> bool
+    requires { ⌜ length (now img) ≡ 174848 ⌝ }
+    ensures { λ r. ⌜ r ≡ writable layout35 (disk (now (img .entry))) ⌝ }
+{
+    mapsector::may_write(&img[91392..91648])
+}
+
 // The same on any checked image; refused with 11 where the DOS version forbids writing.
 fn scratch_checked(img: &mut [u8], name: &[u8], sectors: &[u8; 18], end: usize) -> Report
     requires { ⌜ CheckedSlots (now img) (now sectors) end × (validNameArgument (now name) ≡ true) ⌝ }
     ensures { λ r. ⌜ replyOf r (now (img .exit)) [] ≡ perform layout35 (now (img .entry)) (scratch (now (name .entry))) ⌝ }
 {
-    if !mapsector::may_write(&img[91392..91648]) {
+    if !may_write(img) {
         return answers::refuse(Fault::WriteForbidden);
     }
     scratch_named(img, name, sectors, end)

@@ -15,20 +15,11 @@ add-t9 c = search needs
 slice-read-t11 : tie.Need-slice-read-t11
 slice-read-t11 c = search needs
 
-sub-load-map : tie.Need-sub-load-map
-sub-load-map c = search needs
-
-part-load-map-start : tie.Need-part-load-map-start
-part-load-map-start c = search needs
-
-part-load-map-end : tie.Need-part-load-map-end
-part-load-map-end c = search needs
-
-load-map-requires : tie.Need-load-map-requires
-load-map-requires c κs = search needs
+map-of-requires : tie.Need-map-of-requires
+map-of-requires c κs = search needs
 
 clear-chain-requires : tie.Need-clear-chain-requires
-clear-chain-requires c κs = rw (c .before .before .load-map .ensures) (c .before .before .before .before .before .before .before .before .pre .chain)
+clear-chain-requires c κs = rw (c .before .before .map-of .ensures) (c .before .before .before .before .before .before .before .pre .chain)
 
 clear-slot-requires : tie.Need-clear-slot-requires
 clear-slot-requires c κs = search needs
@@ -47,10 +38,7 @@ clear-file-spec =
     slice-read-t8
     add-t9
     slice-read-t11
-    sub-load-map
-    part-load-map-start
-    part-load-map-end
-    load-map-requires
+    map-of-requires
     clear-chain-requires
     clear-slot-requires
     same-length

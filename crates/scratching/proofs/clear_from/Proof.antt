@@ -8,7 +8,7 @@ use lib.ListN.{length}
 use Rattle.d64spec.specs.Answers.{address}
 use Rattle.reading.specs.ChainReads.{sectorsFrom}
 use Rattle.reading.proofs.ChainStepLaws.{sectorsFrom-le, Visited, visited, linkAt, Follows}
-use Rattle.scratching.proofs.ClearingLaws.{Clearing, clearing-start, inside′, next, alone, clearing-moved, clearing-finished}
+use Rattle.scratching.proofs.ClearingLaws.{Clearing, clearing-start, Freed, freed, inside′, next, alone, clearing-moved, clearing-finished}
 use Rattle.scratching.proofs.clear_from.Statement.{statement}
 use Rattle.scratching.proofs.clear_from.Tie as tie
 
@@ -19,7 +19,7 @@ abbrev μ-loop : tie.MeasureT-loop
 μ-loop img₀ map₀ firsts track₀ sector₀ count₀ img map track sector count = length (sectorsFrom img₀ (address track sector))
 
 loop-holds : tie.Need-loop-holds Inv-loop μ-loop
-loop-holds c = clearing-start (c .before .pre .chain) (omega arith) (omega arith)
+loop-holds c = clearing-start (c .before .pre .chain) (omega arith) (omega arith) (omega arith)
 
 number-by-requires : tie.Need-number-by-requires Inv-loop μ-loop
 number-by-requires c κs = search needs
@@ -70,12 +70,17 @@ add-count c =
     let s = c .before .before .before .before .before .before .before .before .before .before .before .args in
     omega (arith, c .before .before .before .before .before .before .before .before .before .loop .inv .left, sectorsFrom-le (s .img .now) (address (s .first .track) (s .first .sector)))
 
+-- the sector cleared, and its mark moved
+given-back : (c : tie.After-clear-sector Inv-loop μ-loop)
+    → Freed (c .before .before .before .before .before .before .before .loop .img) (c .before .before .before .before .before .before .before .loop .map) (address (c .before .before .before .before .before .before .before .loop .track) (c .before .before .before .before .before .before .before .loop .sector)) (c .before .before .before .before .before .before .number-by .result) (c .clear-sector .last .0) (c .before .before .before .before .move-mark .last .0)
+given-back c = freed (c .before .before .before .before .before .before .before .loop .inv .sector) (c .before .before .before .before .move-mark .ensures) refl refl (c .clear-sector .ensures) (omega arith)
+
 returns : tie.Need-returns Inv-loop μ-loop
 returns c =
     let o = c .before .before .before .before .before .before .before .before .before .before .before .before .pre .chain in
     let w = c .before .before .before .before .before .before .before .before .before .before .loop .inv in
     let v = at-hand (c .before .before .before .before .before .before .before .before .before) in
-    rw (c .before .before .before .clear-sector .ensures) (clearing-finished o w v (c .before .before .before .before .before .before .before .move-mark .ensures) refl (alone o w v (omega arith)))
+    clearing-finished o w v (given-back (c .before .before .before)) (omega arith) (alone o w v (omega arith)) refl
 
 same-length : tie.Need-same-length Inv-loop μ-loop
 same-length c = returns c .size
@@ -91,13 +96,10 @@ loop-less c = omega (arith, ap length (next-at c .sectors))
 
 loop-again : tie.Need-loop-again Inv-loop μ-loop
 loop-again c =
-    let o = c .before .before .before .before .before .before .before .before .before .before .before .before .pre .chain in
     let w = c .before .before .before .before .before .before .before .before .before .before .loop .inv in
     let k = c .before .before .before .before .before .before .before .before .before in
-    rw (c .before .before .before .clear-sector .ensures) (
-    clearing-moved o w (at-hand k) (c .before .before .before .before .before .before .before .move-mark .ensures) refl (next-at c)
-    (omega (arith, c .before .before .before .before .before .before .slice-known2 .given (256 * k .number-by .result))) (omega (arith, c .before .before .before .before .before .before .slice-known2 .given (256 * k .number-by .result + 1)))
-    )
+    let known = c .before .before .before .before .before .before .slice-known2 .given in
+    clearing-moved (c .before .before .before .before .before .before .before .before .before .before .before .before .pre .chain) w (at-hand k) (given-back (c .before .before .before)) (omega arith) (next-at c) (omega (arith, known (256 * k .number-by .result))) (omega (arith, known (256 * k .number-by .result + 1)))
 
 pub clear-from-spec : {M : Type 1} → statement M
 clear-from-spec =

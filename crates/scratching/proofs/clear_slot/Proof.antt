@@ -1,6 +1,6 @@
 -- `scratching::clear_slot` meets its contract: what comes back of the loan of the map's sector stands in the image.
 use native.Mathlib.Omega.{arith}
-use lib.ListN.{length-take, length-drop}
+use mathlib.Core.Path.{refl}
 use Rattle.scratching.proofs.WrittenLaws.{map-put}
 use borrow.Author.Needs.{needs}
 use Rattle.scratching.proofs.clear_slot.Statement.{statement}
@@ -28,7 +28,9 @@ same-length : tie.Need-same-length
 same-length c = search needs
 
 returns : tie.Need-returns
-returns c = map-put (c .before .before .before .before .before .before .before .before .before .before .args .map) (c .before .before .before .before .before .before .overwrite .ensures) (c .before .before .store-map .ensures) (omega (arith, c .before .img2 .given, c .before .before .before .before .before .img .given))
+returns c =
+    let a = c .before .before .before .before .before .before .before .before .before .before .args in
+    map-put (a .map) (a .img .now) (a .at) (c .before .before .before .before .before .before .overwrite .ensures) refl (c .before .before .store-map .ensures) (omega (arith, c .before .img2 .given, c .before .before .before .before .before .img .given))
 
 pub clear-slot-spec : {M : Type 1} → statement M
 clear-slot-spec =

@@ -1,21 +1,13 @@
--- `scratching::scratch_checked` meets its contract: the DOS version in the map's sector decides whether the image may be written.
+-- `scratching::scratch_checked` meets its contract: the DOS version decides whether the image may be written.
+use mathlib.Core.Path.{sym, _∙_}
 use borrow.Author.Tests.{not-true, not-false}
 use Rattle.answers.specs.declared.Fault.the-variants.{WriteForbidden}
 use Rattle.answers.specs.Faults.{faultOf}
 use Rattle.scratching.proofs.ReplyLaws.{scratch-refused}
-use Rattle.scratching.proofs.FoundLaws.{writable-lent, forbidden}
+use Rattle.scratching.proofs.FoundLaws.{forbidden}
 use borrow.Author.Needs.{needs}
 use Rattle.scratching.proofs.scratch_checked.Statement.{statement}
 use Rattle.scratching.proofs.scratch_checked.Tie as tie
-
-sub-may-write : tie.Need-sub-may-write
-sub-may-write c = search needs
-
-part-may-write-start : tie.Need-part-may-write-start
-part-may-write-start c = search needs
-
-part-may-write-end : tie.Need-part-may-write-end
-part-may-write-end c = search needs
 
 may-write-requires : tie.Need-may-write-requires
 may-write-requires c κs = search needs
@@ -29,14 +21,14 @@ same-length c = search needs
 returns : tie.Need-returns
 unfolding faultOf
 returns c =
-    let s = c .before .before .before .before .before .before .before in
+    let s = c .before .before .before .before .before .before in
     scratch-refused (s .args .img .now) (s .args .name .now) WriteForbidden (c .refuse .ensures)
-    (forbidden (s .pre .0) (s .args .name .now) (s .pre .1) (writable-lent (s .args .img .now) (c .before .before .may-write .ensures) (not-true _ (c .before .if1 .taken))))
+    (forbidden (s .pre .0) (s .args .name .now) (s .pre .1) (sym (c .before .before .may-write .ensures) ∙ not-true _ (c .before .if1 .taken)))
 
 scratch-named-requires : tie.Need-scratch-named-requires
 scratch-named-requires c κs =
-    let s = c .before .before .before .before .before .before .before in
-    record { slots = s .pre .0; asked = s .pre .1; allowed = writable-lent (s .args .img .now) (c .before .before .may-write .ensures) (not-false _ (c .before .if1 .left)) }
+    let s = c .before .before .before .before .before .before in
+    record { slots = s .pre .0; asked = s .pre .1; allowed = sym (c .before .before .may-write .ensures) ∙ not-false _ (c .before .if1 .left) }
 
 same-length-2 : tie.Need-same-length-2
 same-length-2 c = search needs
@@ -48,9 +40,6 @@ pub scratch-checked-spec : {M : Type 1} → statement M
 scratch-checked-spec =
     tie.close
     (tie.spec
-    sub-may-write
-    part-may-write-start
-    part-may-write-end
     may-write-requires
     refuse-requires
     same-length

@@ -8,17 +8,8 @@ use borrow.Author.Needs.{needs}
 use Rattle.scratching.proofs.scratch_named.Statement.{statement}
 use Rattle.scratching.proofs.scratch_named.Tie as tie
 
-sub-find-named : tie.Need-sub-find-named
-sub-find-named c = search needs
-
-part-find-named-start : tie.Need-part-find-named-start
-part-find-named-start c = search needs
-
-part-find-named-end : tie.Need-part-find-named-end
-part-find-named-end c = search needs
-
-find-named-requires : tie.Need-find-named-requires
-find-named-requires c κs = search needs
+slot-named-requires : tie.Need-slot-named-requires
+slot-named-requires c κs = search needs
 
 refuse-requires : tie.Need-refuse-requires
 refuse-requires c κs = search needs
@@ -29,31 +20,28 @@ same-length c = search needs
 returns : tie.Need-returns
 unfolding faultOf
 returns c =
-    let s = c .before .before .before .before .before .before .before in
-    scratch-refused (s .args .img .now) (s .args .name .now) NotFound (c .refuse .ensures) (none-named (s .pre) (c .before .before .find-named .ensures) (c .before .if1 .taken))
+    let s = c .before .before .before .before .before .before in
+    scratch-refused (s .args .img .now) (s .args .name .now) NotFound (c .refuse .ensures) (none-named (s .pre) (c .before .before .slot-named .ensures) (c .before .if1 .taken))
 
 element-copy-out-scratch-slot : tie.Need-element-copy-out-scratch-slot
-element-copy-out-scratch-slot c = omega (arith, slot-below (c .before .before .before .before .before .before .before .pre) (c .before .before .find-named .ensures) (c .before .if1 .left))
+element-copy-out-scratch-slot c = omega (arith, slot-below (c .before .before .before .before .before .before .pre) (c .before .before .slot-named .ensures) (c .before .if1 .left))
 
 scratch-slot-requires : tie.Need-scratch-slot-requires
-scratch-slot-requires c κs = file-there (c .before .before .before .before .before .before .before .before .pre) (c .before .before .before .find-named .ensures) (c .before .before .if1 .left)
+scratch-slot-requires c κs = file-there (c .before .before .before .before .before .before .before .pre) (c .before .before .before .slot-named .ensures) (c .before .before .if1 .left)
 
 same-length-2 : tie.Need-same-length-2
 same-length-2 c = search needs
 
 returns-2 : tie.Need-returns-2
 returns-2 c =
-    let s = c .before .before .before .before .before .before .before .before .before .before .before in
-    scratch-done (s .args .img .now) (s .args .name .now) _ (some-named (s .pre) (c .before .before .before .before .before .before .find-named .ensures) (c .before .before .before .before .before .if1 .left)) (c .before .before .scratch-slot .ensures)
+    let s = c .before .before .before .before .before .before .before .before .before .before in
+    scratch-done (s .args .img .now) (s .args .name .now) _ (some-named (s .pre) (c .before .before .before .before .before .before .slot-named .ensures) (c .before .before .before .before .before .if1 .left)) (c .before .before .scratch-slot .ensures)
 
 pub scratch-named-spec : {M : Type 1} → statement M
 scratch-named-spec =
     tie.close
     (tie.spec
-    sub-find-named
-    part-find-named-start
-    part-find-named-end
-    find-named-requires
+    slot-named-requires
     refuse-requires
     same-length
     returns

@@ -1,7 +1,6 @@
 -- `scratching::scratch_slot` meets its contract: the chain that the slot's entry starts is cleared with the slot, and reported by its sectors and its last byte.
 use Prim.Native.Nat.{ℕ, _<_}
 use native.Mathlib.Omega.{arith}
-use mathlib.Core.Path.{refl}
 use lib.ListN.{length}
 use Rattle.d64spec.specs.Lists.{byte}
 use Rattle.d64spec.specs.Geometry.{layout35}
@@ -33,12 +32,12 @@ add-at-3 : tie.Need-add-at-3
 add-at-3 c = search needs
 
 clear-file-requires : tie.Need-clear-file-requires
-clear-file-requires c κs = entry-owned (c .before .before .pre) (small (c .before)) refl
+clear-file-requires c κs = entry-owned (c .before .before .pre) (small (c .before)) (omega arith)
 
 -- the chain cleared, as the report counts it
 counted : (c : tie.After-clear-file)
     → LengthTold (c .clear-file .result) (length (chainData layout35 (disk (c .before .before .before .args .img .now)) (fileOn (c .before .before .before .args .img .now) (c .before .before .before .args .holder) (c .before .before .before .pre .from) (c .before .before .before .args .index) .sectors)))
-counted c = told (c .before .before .before .pre) (c .clear-file .ensures) refl (small (c .before .before))
+counted c = told (c .before .before .before .pre) (c .clear-file .ensures) (omega arith) (small (c .before .before))
 
 cast-t14 : tie.Need-cast-t14
 cast-t14 c = omega (arith, counted (c .before .before .before) .few)
@@ -67,7 +66,7 @@ same-length c = search needs
 returns : tie.Need-returns
 returns c =
     let k = c .before .before .before .before .before in
-    scratch-replied (k .before .before .before .pre) (k .clear-file .ensures) refl (small (k .before .before))
+    scratch-replied (k .before .before .before .pre) (k .clear-file .ensures) (omega arith) (small (k .before .before))
 
 pub scratch-slot-spec : {M : Type 1} → statement M
 scratch-slot-spec =
