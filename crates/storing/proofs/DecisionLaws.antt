@@ -125,7 +125,7 @@ module _ {img name : Bytes} {kind : ℕ} {ss : List ℕ} {count : ℕ} (n : Stor
           asked = k .asked;
           kindAsked = k .kindAsked;
           absent = n .absent;
-          lastSector = last-sector img ss count (d .sectors) (d .whole);
+          lastSector = last-sector d;
           entries = entries;
         };
         may = n .may;

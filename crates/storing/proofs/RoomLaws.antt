@@ -5,18 +5,18 @@ use native.Mathlib.Omega.{arith}
 use mathlib.Core.Path.{_≡_, refl, sym, ap, _∙_}
 use mathlib.Core.Bool.{Bool, true, false, cond}
 use mathlib.Core.List.{List, [], _∷_, map}
-use lib.ListN.{length, take, drop, getD, length-take, length-drop}
+use lib.ListN.{length, take, drop, getD, length-take, length-drop, length-map}
 use lib.Dec.{eqb, ltb}
 use borrow.Author.Tests.{eq-eqb, ne-eqb, eqb-true, eqb-false, lt-ltb, le-ltb, ltb-true, ltb-false}
 use Rattle.d64spec.specs.Lists.{Bytes, byte}
 use Rattle.d64spec.specs.Answers.{Address, address, refused, done, directoryFull, first}
 use Rattle.d64spec.specs.Geometry.{layout35, sectorNumber, mapAddress, directoryStart}
 use Rattle.d64spec.specs.Image.{Disk, disk}
-use Rattle.d64spec.specs.Chain.{follow}
 use Rattle.d64spec.specs.Directory.{Slot, isEmpty, slotIn, directorySectors}
 use Rattle.d64spec.specs.Owner.{freeForFiles, freeForDirectory}
 use Rattle.d64spec.specs.Accepted.{Accepted}
 use Rattle.d64spec.specs.Store.{inEmptySlot, inNewSector, emptySlots, slotPlaceFor, sectorsNeeded, placement, lastOf}
+use Rattle.d64spec.proofs.BoundLaws.{directory-some}
 use Rattle.d64spec.proofs.OtherBytes.{byte-small}
 use Rattle.d64spec.proofs.RunTheorem.{sectors35}
 use Rattle.geometry.specs.Layout.{unpacked}
@@ -34,7 +34,7 @@ use Rattle.placement.proofs.PlaceLaws.{MarksFree, few-places, places-count, pla
 use Rattle.storing.specs.declared.room.Room.{Room}
 use Rattle.storing.specs.declared.room.Room.the-variants.{At, Full}
 use Rattle.storing.specs.Plans.{PlaceReady}
-use Rattle.storing.specs.Decisions.{Needed, slotPlace, newPlace, roomAt, roomFor, RoomIs, RoomAsked}
+use Rattle.storing.specs.Decisions.{Needed, slotPlace, newPlace, roomAt, roomFor, RoomIs, DirectoryChecked, RoomAsked}
 
 -- ---- the sectors needed
 
@@ -59,25 +59,18 @@ lastOf-sectors r [] n h = absurd (omega arith)
 lastOf-sectors r (s ∷ ss) zero h = refl
 lastOf-sectors r (s ∷ ss) (suc n) h = lastOf-sectors (address 18 s) ss n (omega arith)
 
-directory-length : (img : Bytes) → 1 ≤ length (directorySectors layout35 (disk img))
-unfolding directorySectors
-directory-length img = omega arith
-
-module _ (img : Bytes) (ss : List ℕ) (count : ℕ) (sectors : sectorsOf ss count ≡ directorySectors layout35 (disk img)) where
+module _ {img ss : List ℕ} {count : ℕ} (c : DirectoryChecked img ss count) where
   -- the directory starts at 18/1: there is a sector of it
   pub count-some : 1 ≤ count
-  count-some = go count sectors
-    where
-      go : (n : ℕ) → sectorsOf ss n ≡ directorySectors layout35 (disk img) → 1 ≤ n
-      go zero e = let z : 0 ≡ length (directorySectors layout35 (disk img)) = ap length e in absurd (omega (arith, directory-length img))
-      go (suc n) e = omega arith
+  count-some =
+      omega (arith, ap length (c .sectors), length-map (take count ss) (λ s. address 18 s), length-take count ss, directory-some layout35 (disk img) (directorySectors layout35 (disk img)) (c .slots .accepted .content .directory))
 
-  pub last-sector : count ≤ length ss → address 18 (getD ss (count - 1) 0) ≡ lastOf directoryStart (directorySectors layout35 (disk img))
-  last-sector h =
+  pub last-sector : address 18 (getD ss (count - 1) 0) ≡ lastOf directoryStart (directorySectors layout35 (disk img))
+  last-sector =
       let e : count ≡ suc (count - 1) = omega (arith, count-some) in
-      sym (lastOf-sectors directoryStart ss (count - 1) (omega (arith, count-some)))
+      sym (lastOf-sectors directoryStart ss (count - 1) (omega (arith, count-some, c .whole)))
       ∙ ap (λ (n : ℕ). lastOf directoryStart (sectorsOf ss n)) (sym e)
-      ∙ ap (lastOf directoryStart) sectors
+      ∙ ap (lastOf directoryStart) (c .sectors)
 
 -- ---- the map's marks
 
@@ -130,7 +123,7 @@ module _ {img : Bytes} {ss : List ℕ} (count : ℕ) (there : CheckedSlots img s
   slot-ready : (k : ℕ) → k ≡ slotEmpty (lentTrack18 img) ss 0 (8 * count) → k < 8 * count → PlaceReady img (slotPlace ss k)
   unfolding slotAt slotIn
   slot-ready k is h =
-      let e = empty-some img ss count (there .inside) whole sectors is h in
+      let e = empty-some count there sectors whole is h in
       record { place = inEmptySlot (imageSlot img ss k); found = place-slot (disk img) (imageSlot img ss k) (e .0) (e .1); is = (refl, refl, refl) }
 
   -- no empty slot: a new sector, or none
@@ -158,7 +151,7 @@ module _ {img : Bytes} {ss : List ℕ} (count : ℕ) (there : CheckedSlots img s
 
       slot : (t : Bool) → ltb k (8 * count) ≡ t → RoomIs img (cond t (At (slotPlace ss k)) (cond (eqb n 0) Full (At (newPlace n))))
       slot true e = slot-ready k is (ltb-true k (8 * count) e)
-      slot false e = sector (eqb n 0) refl (empty-none img ss count (there .inside) whole sectors is (ltb-false k (8 * count) e))
+      slot false e = sector (eqb n 0) refl (empty-none count there sectors whole is (ltb-false k (8 * count) e))
 
 -- ROOM FOR THE ENTRY is where the definitions have it
 pub room-is : {img ss : List ℕ} {count : ℕ} {es : Entries} {room : Room} → RoomAsked img ss count es → room ≡ roomFor (lentTrack18 img) ss (8 * count) es → RoomIs img room

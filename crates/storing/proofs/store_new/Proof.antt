@@ -22,9 +22,7 @@ enum-known-room : tie.Need-enum-known-room
 enum-known-room c = search needs
 
 sub-store-placed : tie.Need-sub-store-placed
-sub-store-placed c =
-    let s = c .before .before .before .before .before .before .before .before .before .before .before .before in
-    omega (arith, count-some (s .args .img .now) (s .args .sectors .now) (s .args .count) (s .pre .checked .directory .sectors))
+sub-store-placed c = omega (arith, count-some (c .before .before .before .before .before .before .before .before .before .before .before .before .pre .checked .directory))
 
 element-copy-out-store-placed : tie.Need-element-copy-out-store-placed
 element-copy-out-store-placed c = search needs
