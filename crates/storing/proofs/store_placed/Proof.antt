@@ -15,7 +15,7 @@ returns c =
     long-reply (s .pre) (s .args .content .now) (omega arith) (c .refuse .ensures)
 
 sectors-needed-requires : tie.Need-sectors-needed-requires
-sectors-needed-requires c κs = search needs
+sectors-needed-requires c κs = omega arith
 
 slice-aggregate-place-sectors : tie.Need-slice-aggregate-place-sectors
 slice-aggregate-place-sectors c = search needs
