@@ -28,11 +28,6 @@ use Rattle.finding.proofs.CheckedSlotLaws.{lentTrack18, found-none, found-some,
 use Rattle.scratching.specs.Scratches.{slotOn, fileOn, FileThere, MayScratch}
 use Rattle.scratching.proofs.ReplyLaws.{scratch-forbidden, scratch-none, scratch-some}
 
--- whether writing is allowed, by the map sector as the code lends it
-pub writable-lent : (img : Bytes) → allowsWriting (take 256 (drop 91392 img)) ≡ writable layout35 (disk img)
-unfolding writable allowsWriting
-writable-lent img = ap allowsWriting (map-lent img)
-
 -- the slot of a name, by track 18 as the code lends it
 pub named-lent : (img ss name : List ℕ) (end : ℕ) {k : ℕ} → k ≡ slotNamed (take 4864 (drop 91392 img)) ss name 0 end → k ≡ slotNamed (bytesOfTrack18 layout35 img) ss name 0 end
 named-lent img ss name end e = e ∙ ap (λ (b : Bytes). slotNamed b ss name 0 end) (track18-lent img)

@@ -2,7 +2,7 @@
 -- In order: the map put into its sector; the slot's bytes; the file; its chain is owned; the image after; the report.
 use Prim.Native.Nat.{ℕ, zero, suc, _+_, _-_, _*_, _≤_, _<_}
 use native.Mathlib.Omega.{arith}
-use mathlib.Core.Path.{_≡_, refl, sym, ap, ap₂, _∙_}
+use mathlib.Core.Path.{_≡_, refl, sym, ap, ap₂, _∙_, subst}
 use mathlib.Core.Bool.{true, cond}
 use mathlib.Core.List.{List, [], _++_, map}
 use lib.ListN.{length, take, drop, length-take, length-drop}
@@ -47,7 +47,8 @@ use Rattle.reading.specs.FileSlots.{firstOf, FileEntry}
 use Rattle.reading.proofs.ChainStepLaws.{sectorsFrom-le}
 use Rattle.reading.proofs.FileLaws.{sectors-of, entry-of}
 use Rattle.scratching.specs.declared.Cleared.{Cleared}
-use Rattle.scratching.specs.Scratches.{ChainCleared, withMap, startAt, EntryOwned, FileCleared, slotOn, fileOn, FileThere}
+use Rattle.imagemap.specs.ImageMaps.{MapWritten}
+use Rattle.scratching.specs.Scratches.{ChainCleared, startAt, EntryOwned, FileCleared, slotOn, fileOn, FileThere}
 
 -- what a scratch counts of a chain cleared: at least one sector, a last byte as a file's has it, and so the file's length (01, Chains)
 pub record LengthTold (c : Cleared) (n : ℕ) : Type 0 where
@@ -57,36 +58,13 @@ pub record LengthTold (c : Cleared) (n : ℕ) : Type 0 where
   pub high : c .last ≤ 255
   pub bytes : 254 * (c .count - 1) + c .last - 1 ≡ n
 
--- ---- the map put into its sector
-
--- what comes back of a loan of 256 bytes when f of them is written over them
-part-put : (a : ℕ) (f : Bytes → Bytes) {img img′ p : Bytes} → img′ ≡ img → p ≡ f (take 256 (drop a img′)) → length p ≡ 256
-    → take a img′ ++ (p ++ drop 256 (drop a img′)) ≡ splice img a (f (take 256 (drop a img)))
-part-put a f {img} {img′} {p} e is long = lent-back img′ a 256 p long ∙ ap (splice img′ a) is ∙ ap (λ (s : Bytes). splice s a (f (take 256 (drop a s)))) e
-
--- over an image whose slot is zeroed
-pub map-put : (es : Entries) (img : Bytes) (at : ℕ) {img′ p bs : Bytes} → img′ ≡ overwritten img at bs → bs ≡ zeros 30 → p ≡ storedEntries es (take 256 (drop 91392 img′)) → length p ≡ 256
-    → take 91392 img′ ++ (p ++ drop 256 (drop 91392 img′)) ≡ withMap es (overwritten img at (zeros 30))
-unfolding withMap
-map-put es img at {img′} {p} {bs} e all is long =
-    part-put 91392 (storedEntries es) {img = overwritten img at (zeros 30)} {img′ = img′} {p = p} (e ∙ ap (overwritten img at) all) is long
+-- the map put into an image whose slot is zeroed
+pub slot-cleared : (es : Entries) (img : Bytes) (at : ℕ) {img′ img″ bs : Bytes} → img′ ≡ overwritten img at bs → bs ≡ zeros 30 → MapWritten img′ es img″ → MapWritten (overwritten img at (zeros 30)) es img″
+slot-cleared es img at {img″ = img″} e all w = subst (λ (x : Bytes). MapWritten x es img″) (e ∙ ap (overwritten img at) all) w
 
 -- the map's sector
 abbrev m : ℕ
 m = sectorNumber layout35 mapAddress
-
-module _ (es : Entries) (img : Bytes) (size : length img ≡ 174848) (full : length (storedEntries es (disk img m)) ≡ 256) where
-  stored : withMap es img ≡ splice img (256 * 357) (storedEntries es (disk img m))
-  unfolding withMap
-  stored = ap (λ (s : Bytes). splice img 91392 (storedEntries es s)) (map-lent img)
-
-  disk-withMap : disk (withMap es img) ≡ put (disk img) m (storedEntries es (disk img m))
-  disk-withMap =
-      ap disk stored ∙ splice-disk img 357 (storedEntries es (disk img m)) (omega arith) full
-      ∙ ap (λ (n : ℕ). put (disk img) n (storedEntries es (disk img m))) (sym (number-18 0))
-
-  length-withMap : length (withMap es img) ≡ length img
-  length-withMap = ap length stored ∙ length-splice img (256 * 357) (storedEntries es (disk img m)) (omega arith)
 
 -- ---- the slot's bytes
 
@@ -224,21 +202,14 @@ module _ {img : Bytes} {holder index : ℕ} (t : FileThere img holder index) whe
     follows : put d2 m (storedEntries es′ (d2 m)) ≡ rewriteMap layout35 d2
     follows = map-follows d2 marks (prepared .whole .full m (omega (arith, number-18 0, sectors35)))
 
-    stored-long : length (storedEntries es′ (d2 m)) ≡ 256
-    stored-long =
-        ap length (sym (put-same d2 m (storedEntries es′ (d2 m))) ∙ ap (λ (x : Disk). x m) follows)
-        ∙ rewrite-whole layout35 valid35 d2 (prepared .whole) (prepared .sound) .full m (omega (arith, number-18 0, sectors35))
-
     -- THE IMAGE AFTER A SCRATCH is that of document 01's disk
-    image-scratched : withMap es′ (overwritten img′ at (zeros 30)) ≡ image layout35 (scratchedDisk layout35 d f)
+    image-scratched : img″ ≡ image layout35 (scratchedDisk layout35 d f)
     unfolding scratchedDisk fileOn fileOf slotOn slotIn
     image-scratched =
-        let img2 : Bytes = overwritten img′ at (zeros 30) in
-        let size2 : length img2 ≡ 174848 = length-overwritten img′ at (zeros 30) ∙ cleared .size ∙ size-there in
-        let long2 : length (storedEntries es′ (disk img2 m)) ≡ 256 = ap (λ (x : Disk). length (storedEntries es′ (x m))) second-disk ∙ stored-long in
-        let same : disk (withMap es′ img2) ≡ rewriteMap layout35 d2
-        = disk-withMap es′ img2 size2 long2 ∙ ap (λ (x : Disk). put x m (storedEntries es′ (x m))) second-disk ∙ follows in
-        sym (disk-image layout35 (withMap es′ img2) (omega (arith, length-withMap es′ img2 size2 long2, size2, sectors35))) ∙ ap (image layout35) same
+        let size2 : length (overwritten img′ at (zeros 30)) ≡ 174848 = length-overwritten img′ at (zeros 30) ∙ cleared .size ∙ size-there in
+        let same : disk img″ ≡ rewriteMap layout35 d2
+        = scratched .written .laid (omega arith) ∙ ap (λ (x : Disk). put x m (storedEntries es′ (x m))) second-disk ∙ follows in
+        sym (disk-image layout35 img″ (omega (arith, scratched .written .size, size2, sectors35))) ∙ ap (image layout35) same
 
     -- ---- the report
 
@@ -264,4 +235,4 @@ module _ {img : Bytes} {holder index : ℕ} (t : FileThere img holder index) whe
     pub scratch-replied : ((i : ℕ) → byte img i < 256)
         → replyOf (record { verdict = Fine; length = 254 * (c .count - 1) + c .last - 1; sectors = c .count }) img″ [] ≡ reply img [] (done (scratchChange layout35 img (fileOn img holder 0 index)))
     unfolding reply verdictOf answerTo fileOn slotOn slotIn fileOf firstLink scratchedDisk
-    scratch-replied small = rw (scratched .written ∙ image-scratched, told small .bytes, number-is)
+    scratch-replied small = rw (image-scratched, told small .bytes, number-is)

@@ -1,5 +1,5 @@
 -- What the parts of a scratch rely on and what they leave (01, Scratch; The map; Chains).
--- In order: a chain cleared; the map put into the image; a slot and its file; the file of a name. Laws: proofs/ClearingLaws, WrittenLaws, FoundLaws.
+-- In order: a chain cleared; a slot and its file; the file of a name. Laws: proofs/ClearingLaws, WrittenLaws, FoundLaws.
 use Prim.Native.Nat.{ℕ, _+_, _≤_, _<_}
 use mathlib.Core.Path.{_≡_}
 use mathlib.Core.Bool.{true}
@@ -21,6 +21,7 @@ use Rattle.mapsector.specs.MapSector.{mapEntries, storedEntries}
 use Rattle.bamlaws.specs.Expected.{Expects, freeAfter}
 use Rattle.finding.specs.FileSlots.{CheckedSlots}
 use Rattle.reading.specs.ChainReads.{sectorsFrom, lastByteFrom, ChainFrom}
+use Rattle.imagemap.specs.ImageMaps.{MapWritten}
 use Rattle.scratching.specs.declared.Cleared.{Cleared}
 
 -- ---- a chain
@@ -45,12 +46,6 @@ pub record ChainCleared (img : Bytes) (r : Address) (c : Cleared) (img′ : Byte
   pub number : c .count ≡ length (sectorsFrom img r)
   pub last : c .last ≡ lastByteFrom img r
 
--- ---- the map
-
--- the image with these entries in its map sector, 18/0 (01, The map)
-unfoldable pub withMap : Entries → Bytes → Bytes
-withMap es img = splice img 91392 (storedEntries es (take 256 (drop 91392 img)))
-
 -- ---- a slot
 
 -- the first sector that the entry from byte `at` of the image on names: its bytes 03-04, the second and the third of its 30 (01, The directory)
@@ -68,7 +63,7 @@ pub record FileCleared (img : Bytes) (at : ℕ) (c : Cleared) (img′ : Bytes) :
   pub before : Bytes
   pub marked : Entries
   pub chain : ChainCleared img (startAt img at) c before marked
-  pub written : img′ ≡ withMap marked (overwritten before at (zeros 30))
+  pub written : MapWritten (overwritten before at (zeros 30)) marked img′
 
 -- slot `index` of the directory sector 18/holder, whose first slot has number n; a scratch does not ask that number (01, The directory)
 unfoldable pub slotOn : Bytes → ℕ → ℕ → ℕ → Slot

@@ -17,7 +17,8 @@ ghost use Rattle.parts.specs.Overwrites.{overwritten};
 ghost use Rattle.answers.specs.Faults.{replyOf};
 ghost use Rattle.mapsector.specs.MapSector.{mapEntries};
 ghost use Rattle.finding.specs.FileSlots.{slotNamed, CheckedSlots};
-ghost use Rattle.scratching.specs.Scratches.{ChainOwned, ClearReady, ChainCleared, withMap, EntryOwned, FileCleared, fileOn, FileThere, MayScratch};
+ghost use Rattle.imagemap.specs.ImageMaps.{MapWritten};
+ghost use Rattle.scratching.specs.Scratches.{ChainOwned, ClearReady, ChainCleared, EntryOwned, FileCleared, fileOn, FileThere, MayScratch};
 use answers::Fault;
 use answers::Report;
 use answers::Verdict;
@@ -68,20 +69,11 @@ fn clear_chain(img: &mut [u8], first: Address, map: &mut [[u8; 4]; 35]) -> Clear
 
 // Zeroes the 30 bytes of a slot from byte `at` on, and puts the map into its sector.
 fn clear_slot(img: &mut [u8], at: usize, map: [[u8; 4]; 35])
-    requires { ⌜ length (now img) ≡ 174848 ⌝ }
-    ensures { λ _. ⌜ now (img .exit) ≡ withMap map (overwritten (now (img .entry)) at (zeros 30)) ⌝ }
+    ensures { λ _. ⌜ MapWritten (overwritten (now (img .entry)) at (zeros 30)) map (now (img .exit)) ⌝ }
 {
     let blank = [0u8; 30];
     parts::overwrite(img, at, &blank);
-    mapsector::store_map(map, &mut img[91392..91648]);
-}
-
-// The image's map by value.
-fn map_of(img: &[u8]) -> [[u8; 4]; 35]
-    requires { ⌜ length (now img) ≡ 174848 ⌝ }
-    ensures { λ r. ⌜ r ≡ mapEntries (disk (now (img .entry)) (sectorNumber layout35 mapAddress)) ⌝ }
-{
-    mapsector::load_map(&img[91392..91648])
+    imagemap::write_map(img, map);
 }
 
 // Clears the chain that the slot from byte `at` on starts, and the slot itself; the map follows.
@@ -93,7 +85,7 @@ fn clear_file(img: &mut [u8], at: usize) -> Cleared
         track: img[at + 1],
         sector: img[at + 2],
     };
-    let mut map = map_of(img);
+    let mut map = imagemap::map_of(img);
     let cleared = clear_chain(img, first, &mut map);
     clear_slot(img, at, map);
     cleared
@@ -135,20 +127,12 @@ fn scratch_named(img: &mut [u8], name: &[u8], sectors: &[u8; 18], end: usize) ->
     scratch_slot(img, sectors[i], k % 8)
 }
 
-// Whether the DOS version allows writing.
-fn may_write(img: &[u8]) -> bool
-    requires { ⌜ length (now img) ≡ 174848 ⌝ }
-    ensures { λ r. ⌜ r ≡ writable layout35 (disk (now (img .entry))) ⌝ }
-{
-    mapsector::may_write(&img[91392..91648])
-}
-
 // The same on any checked image; refused with 11 where the DOS version forbids writing.
 fn scratch_checked(img: &mut [u8], name: &[u8], sectors: &[u8; 18], end: usize) -> Report
     requires { ⌜ CheckedSlots (now img) (now sectors) end × (validNameArgument (now name) ≡ true) ⌝ }
     ensures { λ r. ⌜ replyOf r (now (img .exit)) [] ≡ perform layout35 (now (img .entry)) (scratch (now (name .entry))) ⌝ }
 {
-    if !may_write(img) {
+    if !imagemap::may_write(img) {
         return answers::refuse(Fault::WriteForbidden);
     }
     scratch_named(img, name, sectors, end)
