@@ -1,11 +1,11 @@
 -- The decisions of a store (01, Store; Answer numbers: 11, 12, 14, 15): what is known at each step gives the next step's, or the reply of a refusal.
 -- In order: the image checked; the name; room for the entry; room for the content.
-use Prim.Native.Nat.{ℕ, _*_, _-_, _≤_, _<_}
+use Prim.Native.Nat.{ℕ, _-_, _≤_, _<_}
 use native.Mathlib.Omega.{arith}
 use native.Mathlib.Decide.{ℕ-discrete}
 use mathlib.Core.Path.{_≡_, refl, sym, ap, subst, _∙_}
 use mathlib.Core.Bool.{Bool, true, false}
-use mathlib.Core.List.{List, [], _∷_, map}
+use mathlib.Core.List.{List, []}
 use lib.ListN.{length, take, drop, getD}
 use lib.Dec.{eqb}
 use borrow.Author.Tests.{eq-eqb, ne-eqb, eqb-true}
@@ -13,7 +13,7 @@ use Rattle.d64spec.specs.Lists.{Bytes, byte}
 use Rattle.d64spec.specs.Answers.{refused, done, directoryFull}
 use Rattle.d64spec.specs.Geometry.{layout35, sectorNumber, mapAddress}
 use Rattle.d64spec.specs.Image.{disk}
-use Rattle.d64spec.specs.Directory.{File, files}
+use Rattle.d64spec.specs.Directory.{files}
 use Rattle.d64spec.specs.Owner.{freeForFiles}
 use Rattle.d64spec.specs.Accepted.{Accepted}
 use Rattle.d64spec.specs.Check.{checkImage}
@@ -26,7 +26,6 @@ use Rattle.answers.specs.declared.Fault.the-variants.{WriteForbidden, NameExist
 use Rattle.answers.specs.declared.Verdict.the-variants.{Fine, Refused}
 use Rattle.answers.specs.declared.Report.{Report}
 use Rattle.answers.specs.Faults.{faultOf, replyOf}
-use Rattle.geometry.specs.Layout.{unpacked}
 use Rattle.mapentry.specs.MapEntry.{Entries}
 use Rattle.mapsector.specs.MapSector.{mapEntries, allowsWriting}
 use Rattle.diskcheck.specs.declared.Checked.{Checked}
@@ -39,7 +38,7 @@ use Rattle.placement.specs.Placements.{Placed}
 use Rattle.storing.specs.declared.room.EntryPlace.{EntryPlace}
 use Rattle.storing.specs.declared.room.Room.{Room}
 use Rattle.storing.specs.declared.room.Room.the-variants.{At, Full}
-use Rattle.storing.specs.Plans.{PlaceReady, StoreReady, WriteReady, FileWritten}
+use Rattle.storing.specs.Plans.{PlaceReady, WriteReady, FileWritten}
 use Rattle.storing.specs.Decisions.{Needed, RoomIs, StoreChecked, StoreNew, StorePlaced}
 use Rattle.storing.proofs.ReplyLaws.{size-true, store-forbidden, store-exists, store-full, store-no-room, store-done, store-refused, store-replied}
 use Rattle.storing.proofs.RoomLaws.{last-sector, sectors-few, sectors-enough, sectors-taken, sectors-never}

@@ -5,14 +5,14 @@ use native.Mathlib.Omega.{arith}
 use mathlib.Core.Path.{_≡_, refl, sym, ap, _∙_}
 use mathlib.Core.Bool.{Bool, true, false, cond}
 use mathlib.Core.List.{List, [], _∷_, map}
-use lib.ListN.{length, take, drop, getD, length-take, length-drop, length-map}
+use lib.ListN.{length, take, getD, length-take, length-drop, length-map}
 use lib.Dec.{eqb, ltb}
 use borrow.Author.Tests.{eq-eqb, ne-eqb, eqb-true, eqb-false, lt-ltb, le-ltb, ltb-true, ltb-false}
 use Rattle.d64spec.specs.Lists.{Bytes, byte}
 use Rattle.d64spec.specs.Answers.{Address, address, refused, done, directoryFull, first}
 use Rattle.d64spec.specs.Geometry.{layout35, sectorNumber, mapAddress, directoryStart}
 use Rattle.d64spec.specs.Image.{Disk, disk}
-use Rattle.d64spec.specs.Directory.{Slot, isEmpty, slotIn, directorySectors}
+use Rattle.d64spec.specs.Directory.{Slot, slotIn, directorySectors}
 use Rattle.d64spec.specs.Owner.{freeForFiles, freeForDirectory}
 use Rattle.d64spec.specs.Accepted.{Accepted}
 use Rattle.d64spec.specs.Store.{inEmptySlot, inNewSector, emptySlots, slotPlaceFor, sectorsNeeded, placement, lastOf}
@@ -20,7 +20,7 @@ use Rattle.d64spec.proofs.BoundLaws.{directory-some}
 use Rattle.d64spec.proofs.OtherBytes.{byte-small}
 use Rattle.d64spec.proofs.RunTheorem.{sectors35}
 use Rattle.geometry.specs.Layout.{unpacked}
-use Rattle.directory.specs.Directories.{sectorsOf, slotAt, slotBytes}
+use Rattle.directory.specs.Directories.{sectorsOf, slotAt}
 use Rattle.directory.proofs.Track18Laws.{number-18}
 use Rattle.diskcheck.specs.SlotChecks.{imageSlot}
 use Rattle.finding.specs.FileSlots.{slotEmpty, CheckedSlots}

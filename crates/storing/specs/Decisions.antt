@@ -1,5 +1,5 @@
 -- What a store decides before it writes (01, Store; Answer numbers: 11, 12, 14, 15), as the code holds it.
--- In order: the sectors needed; room for the entry; what is known at each step. Laws: proofs/RoomLaws, ReplyLaws.
+-- In order: the sectors needed; room for the entry; what is known at each step. Laws: proofs/RoomLaws, DecisionLaws, ReplyLaws.
 use Prim.Native.Nat.{ℕ, _*_, _/_, _%_, _≤_, _<_}
 use mathlib.Core.Path.{_≡_}
 use mathlib.Core.Bool.{true, false, cond}

@@ -1,5 +1,4 @@
 -- `storing::room::room_in` meets its contract: the room found on track 18 is where the definitions put the entry.
-use native.Mathlib.Omega.{arith}
 use Rattle.storing.proofs.RoomLaws.{room-is}
 use borrow.Author.Needs.{needs}
 use Rattle.storing.proofs.room.room_in.Statement.{statement}
