@@ -1,6 +1,6 @@
 -- A chain written from its last sector to its first (01, Store): what the loop keeps, from the last sector on.
 -- In order: the invariant (`Writing`); its start, its step, its end.
-use Prim.Native.Nat.{ℕ, zero, suc, _+_, _-_, _*_, _≤_, _<_}
+use Prim.Native.Nat.{ℕ, suc, _+_, _-_, _*_, _≤_, _<_}
 use native.Mathlib.Omega.{arith}
 use native.Mathlib.Numerals.{add-one}
 use mathlib.Core.Path.{_≡_, refl, sym, ap, ap₂, _∙_}
@@ -8,8 +8,7 @@ use mathlib.Core.Bool.{true, false}
 use mathlib.Core.List.{List, [], _∷_, map}
 use lib.ListN.{length, take, drop, getD, length-take, length-drop, drop-of-length-le}
 use lib.Seq.{drop-cons, drop-drop}
-use Rattle.d64spec.specs.Lists.{Bytes, All}
-use Rattle.d64spec.specs.Answers.{Address}
+use Rattle.d64spec.specs.Lists.{Bytes}
 use Rattle.d64spec.specs.Geometry.{layout35, onDisk, sectorNumber}
 use Rattle.d64spec.specs.Image.{Disk, disk, put}
 use Rattle.d64spec.specs.Store.{writeChain}
@@ -48,9 +47,6 @@ module _ {img : Bytes} {places : List ℕ} {bs : Bytes} {firsts : List ℕ} (r :
   pub length-lastBytes : i + 1 ≡ length places → length (lastBytes bs i) ≤ 254
   length-lastBytes h = let room = r .room in simp (length-take, length-drop) (omega arith)
 
-  pub length-linkedBytes : i + 1 < length places → length (linkedBytes bs i) ≡ 254
-  length-linkedBytes h = let full = r .full in simp (length-take, length-drop) (omega arith)
-
 module _ {img : Bytes} {places : List ℕ} {bs : Bytes} {es : Entries} where
   -- the last sector
   pub writing-last : {i : ℕ} {img′ : Bytes} {es′ : Entries} → i + 1 ≡ length places → SectorWritten img (getD places i 0) (lastSector (lastBytes bs i)) es img′ es′
@@ -68,7 +64,7 @@ module _ {img : Bytes} {places : List ℕ} {bs : Bytes} {es : Entries} where
 
   -- the one before place i
   module _ {i : ℕ} (j : ℕ) {img′ img″ : Bytes} {es′ es″ : Entries} (k : Writing img places bs es i img′ es′) (next : j + 1 ≡ i)
-      (w : SectorWritten img′ (getD places j 0) (linkedSector (unpacked (getD places i 0)) (linkedBytes bs j)) es′ img″ es″) where
+      {s : Bytes} (w : SectorWritten img′ (getD places j 0) (linkedSector (unpacked (getD places i 0)) s) es′ img″ es″) (lent : s ≡ linkedBytes bs j) where
     from-i : drop i places ≡ getD places i 0 ∷ drop (suc i) places
     from-i = drop-cons places i 0 (k .below)
 
@@ -80,8 +76,8 @@ module _ {img : Bytes} {places : List ℕ} {bs : Bytes} {es : Entries} where
     bytes-i : drop (254 * i) bs ≡ drop 254 (drop (254 * j) bs)
     bytes-i = let e : 254 * i ≡ 254 * j + 254 = omega arith in ap (λ (n : ℕ). drop n bs) e ∙ sym (drop-drop 254 (254 * j) bs)
 
-    width : linkedBytes bs j ≡ take 254 (drop (254 * j) bs)
-    width = let e : 254 * j + 254 - 254 * j ≡ 254 = omega arith in ap (λ (n : ℕ). take n (drop (254 * j) bs)) e
+    content : s ≡ take 254 (drop (254 * j) bs)
+    content = let e : 254 * j + 254 - 254 * j ≡ 254 = omega arith in lent ∙ ap (λ (n : ℕ). take n (drop (254 * j) bs)) e
 
     pub writing-more : Writing img places bs es j img″ es″
     writing-more = record {
@@ -89,7 +85,7 @@ module _ {img : Bytes} {places : List ℕ} {bs : Bytes} {es : Entries} where
       size = w .size ∙ k .size;
       laid = w .laid
           ∙ ap₂ (λ (d : Disk) (x : Bytes). put d (sectorNumber layout35 (unpacked (getD places j 0))) (linkedSector (unpacked (getD places i 0)) x))
-          (k .laid ∙ ap₂ (λ (l : List ℕ) (x : Bytes). writeChain layout35 (map unpacked l) x (disk img)) from-i bytes-i) width
+          (k .laid ∙ ap₂ (λ (l : List ℕ) (x : Bytes). writeChain layout35 (map unpacked l) x (disk img)) from-i bytes-i) content
           ∙ ap (λ (l : List ℕ). writeChain layout35 (map unpacked l) (drop (254 * j) bs) (disk img)) (sym from-j);
       marks = w .marks ∙ ap (movedMark false (unpacked (getD places j 0))) (k .marks ∙ ap (λ (l : List ℕ). movedMarks false (map unpacked l) es) from-i)
           ∙ ap (λ (l : List ℕ). movedMarks false (map unpacked l) es) (sym from-j);
@@ -109,6 +105,6 @@ module _ {places : List ℕ} {bs : Bytes} {img : Bytes} {es : Entries} where
   pub advancing-start : (i : ℕ) → Advancing places bs i img es i img es
   advancing-start i = record { below = omega arith; size = refl; writing = λ d m w. w }
 
-  pub advancing-more : {i j : ℕ} {img′ : Bytes} {es′ : Entries} → Advancing places bs i img es j img′ es′ → (k : ℕ) → k + 1 ≡ j → {img″ : Bytes} {es″ : Entries}
-      → SectorWritten img′ (getD places k 0) (linkedSector (unpacked (getD places j 0)) (linkedBytes bs k)) es′ img″ es″ → Advancing places bs i img es k img″ es″
-  advancing-more a k next w = record { below = omega (arith, a .below); size = w .size ∙ a .size; writing = λ d m x. writing-more k (a .writing d m x) next w }
+  pub advancing-more : {i j : ℕ} {img′ : Bytes} {es′ : Entries} → Advancing places bs i img es j img′ es′ → (k : ℕ) → k + 1 ≡ j → {s img″ : Bytes} {es″ : Entries}
+      → SectorWritten img′ (getD places k 0) (linkedSector (unpacked (getD places j 0)) s) es′ img″ es″ → s ≡ linkedBytes bs k → Advancing places bs i img es k img″ es″
+  advancing-more a k next w e = record { below = omega (arith, a .below); size = w .size ∙ a .size; writing = λ d m x. writing-more k (a .writing d m x) next w e }

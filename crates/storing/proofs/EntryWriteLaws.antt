@@ -1,16 +1,16 @@
 -- The entry, and its place in the directory (01, Store).
 -- In order: the entry's bytes; the directory grown by a sector; the entry at its place; the map in its sector; the place of the definitions.
-use Prim.Native.Nat.{ℕ, _+_, _-_, _*_, _/_, _%_, _≤_, _<_}
+use Prim.Native.Nat.{ℕ, _+_, _-_, _*_, _/_, _%_, _≤_}
 use native.Mathlib.Omega.{arith}
-use mathlib.Core.Path.{_≡_, refl, sym, ap, ap₂, _∙_, subst}
+use mathlib.Core.Path.{_≡_, sym, ap, ap₂, _∙_}
 use mathlib.Core.Bool.{Bool, true, false, cond}
 use mathlib.Core.Logic.{_⊎_, inl, inr}
-use mathlib.Core.List.{List, [], _∷_, _++_, append-assoc, append-nil}
+use mathlib.Core.List.{[], _∷_, _++_, append-assoc, append-nil}
 use lib.ListN.{length, take, drop, set, length-append, length-replicate}
 use lib.Seq.{take-all, take-length, set-at}
 use Rattle.d64spec.specs.Lists.{Bytes, splice, zeros}
 use Rattle.d64spec.specs.Answers.{Address, address}
-use Rattle.d64spec.specs.Geometry.{layout35, sectorNumber, mapAddress, directoryStart}
+use Rattle.d64spec.specs.Geometry.{layout35, sectorNumber, directoryStart}
 use Rattle.d64spec.specs.Image.{Disk, disk, put}
 use Rattle.d64spec.specs.Directory.{directorySectors, padded}
 use Rattle.d64spec.specs.Format.{emptyDirectorySector}
@@ -58,10 +58,10 @@ entry-made name kind first k {f} {p} h e c =
 -- ---- the directory grown
 
 module _ {img : Bytes} {last s : ℕ} (r : GrowReady img last s) where
-  pub directory-grown : {e img′ img″ : Bytes} → e ≡ emptyDirectorySector → img′ ≡ withSector img (357 + s) e → img″ ≡ overwritten img′ (91392 + 256 * last) (18 ∷ s ∷ [])
+  pub directory-grown : {e img′ img″ : Bytes} → e ≡ emptyDirectorySector → img′ ≡ withSector img (357 + s) e → {at : ℕ} → img″ ≡ overwritten img′ at (18 ∷ s ∷ []) → at ≡ 91392 + 256 * last
       → Grown img last s img″
   unfolding grownDisk
-  directory-grown {e} {img′} {img″} empty new linked =
+  directory-grown {e} {img′} {img″} empty new {at} linked is =
       let size = r .size in
       let low = r .lastInside in
       let high = r .sectorInside in
@@ -69,13 +69,13 @@ module _ {img : Bytes} {last s : ℕ} (r : GrowReady img last s) where
       let kept : length img′ ≡ length img = ap length new ∙ length-withSector img (357 + s) e in
       let first : disk img′ ≡ put (disk img) (357 + s) emptyDirectorySector
       = ap disk new ∙ disk-withSector img (357 + s) e (omega arith) full ∙ ap (put (disk img) (357 + s)) empty in
-      let at : 91392 + 256 * last ≡ 256 * (357 + last) + 0 = omega arith in
+      let place : at ≡ 256 * (357 + last) + 0 = omega arith in
       let apart : 357 + last ≡ 357 + s → ⊥ = λ z. r .other (omega arith) in
       let old : disk img′ (357 + last) ≡ disk img (357 + last)
       = ap (λ (d : Disk). d (357 + last)) first ∙ put-other (disk img) (357 + s) emptyDirectorySector (357 + last) apart in
       record {
-        size = ap length linked ∙ length-overwritten img′ (91392 + 256 * last) (18 ∷ s ∷ []) ∙ kept;
-        laid = ap disk linked ∙ ap (λ (n : ℕ). disk (overwritten img′ n (18 ∷ s ∷ []))) at
+        size = ap length linked ∙ length-overwritten img′ at (18 ∷ s ∷ []) ∙ kept;
+        laid = ap disk linked ∙ ap (λ (n : ℕ). disk (overwritten img′ n (18 ∷ s ∷ []))) place
             ∙ disk-overwritten img′ (357 + last) 0 (18 ∷ s ∷ []) (omega arith) (omega arith)
             ∙ ap₂ (λ (d : Disk) (b : Bytes). put d (357 + last) (splice b 0 (18 ∷ s ∷ []))) first old
             ∙ ap₂ (λ (n m : ℕ). put (put (disk img) n emptyDirectorySector) m (splice (disk img m) 0 (18 ∷ s ∷ []))) (sym (number-18 s)) (sym (number-18 last));
@@ -96,14 +96,14 @@ module _ {img e : Bytes} {p : EntryPlace} {last : ℕ} (r : EntryReady img e p l
   disk-before (inl g) = ap disk (g .3) ∙ g .2 .laid ∙ ap (λ (b : Bool). cond b (grownDisk (disk img) last (p .sector)) (disk img)) (sym (g .0))
   disk-before (inr g) = ap disk (g .1) ∙ ap (λ (b : Bool). cond b (grownDisk (disk img) last (p .sector)) (disk img)) (sym (g .0))
 
-  pub entry-laid : {img′ img″ : Bytes} → Before img′ → img″ ≡ overwritten img′ (91392 + 256 * p .sector + 32 * p .index + 2) e → EntryLaid img e p last img″
+  pub entry-laid : {img′ img″ : Bytes} → Before img′ → {at : ℕ} → img″ ≡ overwritten img′ at e → at ≡ 91392 + 256 * p .sector + 32 * p .index + 2 → EntryLaid img e p last img″
   unfolding entryDisk overwriteSlot
-  entry-laid {img′} {img″} b w =
+  entry-laid {img′} {img″} b {at} w is =
       let kept : length img′ ≡ length img = length-before b in
-      let at : 91392 + 256 * p .sector + 32 * p .index + 2 ≡ 256 * (357 + p .sector) + (32 * p .index + 2) = omega arith in
+      let place : at ≡ 256 * (357 + p .sector) + (32 * p .index + 2) = omega arith in
       record {
-        size = ap length w ∙ length-overwritten img′ (91392 + 256 * p .sector + 32 * p .index + 2) e ∙ kept;
-        laid = ap disk w ∙ ap (λ (n : ℕ). disk (overwritten img′ n e)) at
+        size = ap length w ∙ length-overwritten img′ at e ∙ kept;
+        laid = ap disk w ∙ ap (λ (n : ℕ). disk (overwritten img′ n e)) place
             ∙ disk-overwritten img′ (357 + p .sector) (32 * p .index + 2) e (omega (arith, r .size, r .sectorInside)) (omega (arith, r .whole, r .indexInside))
             ∙ ap₂ (λ (d : Disk) (n : ℕ). put d n (splice (d n) (32 * p .index + 2) e)) (disk-before b) (sym (number-18 (p .sector)));
       }
@@ -111,14 +111,13 @@ module _ {img e : Bytes} {p : EntryPlace} {last : ℕ} (r : EntryReady img e p l
 -- ---- the map in its sector
 
 -- what comes back of a loan of 18/0 when the map is put into it
-pub map-written : (es : Entries) (img : Bytes) {q : Bytes} → length img ≡ 174848 → q ≡ storedEntries es (take 256 (drop 91392 img)) → length q ≡ 256
+pub map-written : (es : Entries) (img : Bytes) {m q : Bytes} → length img ≡ 174848 → q ≡ storedEntries es m → m ≡ take 256 (drop 91392 img) → length q ≡ 256
     → MapWritten img es (take 91392 img ++ (q ++ drop 256 (drop 91392 img)))
-map-written es img {q} size is full =
-    let m : ℕ = sectorNumber layout35 mapAddress in
+map-written es img {q = q} size is lent full =
     let back : take 91392 img ++ (q ++ drop 256 (drop 91392 img)) ≡ splice img (256 * 357) q = lent-back img 91392 256 q full in
     record {
       size = ap length back ∙ length-splice img (256 * 357) q (omega arith);
-      laid = ap disk back ∙ splice-disk img 357 q (omega arith) full ∙ ap₂ (put (disk img)) (sym (number-18 0)) (is ∙ ap (storedEntries es) (map-lent img));
+      laid = ap disk back ∙ splice-disk img 357 q (omega arith) full ∙ ap₂ (put (disk img)) (sym (number-18 0)) (is ∙ ap (storedEntries es) (lent ∙ map-lent img));
     }
 
 -- ---- the place of the definitions

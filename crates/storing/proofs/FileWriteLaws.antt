@@ -1,13 +1,13 @@
 -- A file written (01, Store): the image after its data, its entry and the map is the one that the definitions describe.
 -- In order: the mark of a new directory sector; the disk after the data and the entry; who is free on it; the marks; the map; the whole.
-use Prim.Native.Nat.{ℕ, suc, _+_, _*_, _/_, _%_, _≤_, _<_}
+use Prim.Native.Nat.{ℕ, _+_, _*_, _/_, _%_, _≤_, _<_}
 use native.Mathlib.Omega.{arith}
 use native.Mathlib.Decide.{decLe}
-use mathlib.Core.Path.{_≡_, refl, sym, ap, ap₂, _∙_, subst}
-use mathlib.Core.Bool.{Bool, true, false, cond, not}
+use mathlib.Core.Path.{_≡_, sym, ap, ap₂, _∙_, subst}
+use mathlib.Core.Bool.{Bool, true, false, cond}
 use mathlib.Core.Logic.{_⊎_, inl, inr}
 use mathlib.Core.List.{List, [], _∷_, _++_, map}
-use lib.ListN.{length, getD}
+use lib.ListN.{length, getD, length-map}
 use lib.Dec.{eqb}
 use borrow.Author.Tests.{eq-eqb, ne-eqb, lt-ltb, le-ltb}
 use Rattle.d64spec.specs.Lists.{Bytes, All, byte, count, nameCount}
@@ -21,7 +21,6 @@ use Rattle.d64spec.specs.Map.{rewriteMap}
 use Rattle.d64spec.specs.Store.{SlotPlace, inEmptySlot, inNewSector, newEntry, writeChain, writeSlot, storedDisk, lastOf, storeChange, slotPlaceFor}
 use Rattle.d64spec.specs.Changes.{addedSectors}
 use Rattle.d64spec.proofs.BoundLaws.{sectorNumber-lt, map-on}
-use Rattle.d64spec.proofs.EntryLaws.{entry-length}
 use Rattle.d64spec.proofs.FrameLaws.{all-map, all-of-count, same-directory}
 use Rattle.d64spec.proofs.ImageLaws.{disk-whole}
 use Rattle.d64spec.proofs.InPlaceLaws.{disk-image}
@@ -32,11 +31,11 @@ use Rattle.d64spec.proofs.ResultLaws.{done-inj}
 use Rattle.d64spec.proofs.RunTheorem.{valid35, sectors35}
 use Rattle.d64spec.proofs.SplitLaws.{map-append}
 use Rattle.d64spec.proofs.StoreLaws.{StoreLeaves}
-use Rattle.d64spec.proofs.StoreStep.{Taken, PlaceCase, directory-stay, stored}
+use Rattle.d64spec.proofs.StoreStep.{PlaceCase, directory-stay, stored}
 use Rattle.d64spec.proofs.WriteChainLaws.{Fits, sectors-fit}
 use Rattle.geometry.specs.Layout.{unpacked}
 use Rattle.mapentry.specs.MapEntry.{Entries}
-use Rattle.mapsector.specs.MapSector.{mapEntries, storedEntries}
+use Rattle.mapsector.specs.MapSector.{storedEntries}
 use Rattle.bam.specs.Bam.{movedMark, movedMarks}
 use Rattle.bamlaws.specs.Expected.{Expects, freeAfter}
 use Rattle.bamlaws.proofs.FollowLaws.{expects-loaded, expects-agree, expects-marks, map-follows}
@@ -44,12 +43,12 @@ use Rattle.storing.specs.declared.room.EntryPlace.{EntryPlace}
 use Rattle.storing.specs.Plans.{PlaceIs, WriteReady, FileWritten}
 use Rattle.storing.specs.Writes.{entryDisk, ChainWritten, EntryLaid, MapWritten}
 use Rattle.storing.proofs.EntryWriteLaws.{writeSlot-place}
-use Rattle.storing.proofs.WriteReadyLaws.{length-map, places-taken, length-refs, places-some, place-found, size35, new-free}
+use Rattle.storing.proofs.WriteReadyLaws.{places-taken, length-refs, places-some, place-found, size35, new-free}
 
 -- what the code does with the mark of a directory sector: it moves it where the sector is new
 abbrev pub Marked : EntryPlace → Entries → Entries → Type 0
 Marked p es es′ =
-    ((p .grown ≡ true) × (p .sector < 256) × (m : Entries) × (m ≡ movedMark false (unpacked (18 * 256 + p .sector)) es) × (es′ ≡ m))
+    ((p .grown ≡ true) × (p .sector < 256) × (b : Bool) × (n : ℕ) × (m : Entries) × (m ≡ movedMark b (unpacked n) es) × (b ≡ false) × (n ≡ 18 * 256 + p .sector) × (es′ ≡ m))
     ⊎ ((p .grown ≡ false) × (es′ ≡ es))
 
 -- a place of track 18
@@ -61,7 +60,8 @@ marks-added : (place : SlotPlace) (p : EntryPlace) → PlaceIs place p → (l : 
     → es″ ≡ movedMarks false (addedSectors place ++ l) es
 marks-added (inEmptySlot s) p k l es e (inl t) = absurd (let z : true ≡ false = sym (t .0) ∙ k .0 in let y : _≡_ {A = ℕ} 0 1 = cc in omega arith)
 marks-added (inEmptySlot s) p k l es e (inr t) = t .1 ∙ e
-marks-added (inNewSector r) p k l es e (inl t) = t .4 ∙ t .3 ∙ ap₂ (movedMark false) (unpacked-18 (p .sector) (t .1) ∙ sym (k .1)) e
+marks-added (inNewSector r) p k l es e (inl t) =
+    t .8 ∙ t .5 ∙ ap₂ (λ (b : Bool) (n : ℕ). movedMark b (unpacked n) _) (t .6) (t .7) ∙ ap₂ (movedMark false) (unpacked-18 (p .sector) (t .1) ∙ sym (k .1)) e
 marks-added (inNewSector r) p k l es e (inr t) = absurd (let z : true ≡ false = sym (k .0) ∙ t .0 in let y : _≡_ {A = ℕ} 0 1 = cc in omega arith)
 
 module _ (img name : Bytes) (kind : ℕ) (bs : Bytes) (x : ℕ) (xs : List ℕ) (p : EntryPlace) (last : ℕ) (es : Entries) (w : WriteReady img name kind bs (x ∷ xs) p last es) where
@@ -182,6 +182,6 @@ pub file-written : {img name : Bytes} {kind : ℕ} {bs : Bytes} (places : List �
     → {img″ : Bytes} → EntryLaid img′ e p last img″ → {es″ : Entries} → Marked p es′ es″ → {img‴ : Bytes} → MapWritten img″ es″ img‴ → FileWritten img name kind bs img‴
 file-written [] w c made l m k = absurd (omega (arith, places-some w))
 file-written {img} {name} {kind} {bs} (x ∷ xs) {p} {last} {es} w c {e} made l m k =
-    let entry-is : e ≡ newEntry name kind (unpacked x) (length (map unpacked (x ∷ xs))) = made ∙ ap (newEntry name kind (unpacked x)) (sym (length-map unpacked (x ∷ xs))) in
+    let entry-is : e ≡ newEntry name kind (unpacked x) (length (map unpacked (x ∷ xs))) = made ∙ ap (newEntry name kind (unpacked x)) (sym (length-map (x ∷ xs) unpacked)) in
     let marks = marks-added (w .place .place) p (w .place .is) (map unpacked (x ∷ xs)) es (c .marks) m in
     record { written = image-after img name kind bs x xs p last es w (disk-entered img name kind bs x xs p last es w c entry-is l) (l .size ∙ c .size) marks k }

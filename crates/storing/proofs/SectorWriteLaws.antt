@@ -3,14 +3,14 @@
 use Prim.Native.Nat.{ℕ, suc, _+_, _-_, _*_, _≤_, _<_}
 use native.Mathlib.Omega.{arith}
 use native.Mathlib.Numerals.{add-one}
-use mathlib.Core.Path.{_≡_, refl, sym, ap, ap₂, _∙_}
-use mathlib.Core.Bool.{true, false}
+use mathlib.Core.Path.{_≡_, ap, ap₂, _∙_}
+use mathlib.Core.Bool.{Bool, true, false}
 use mathlib.Core.List.{List, [], _∷_, _++_, append-nil}
-use lib.ListN.{length, take, drop, set, length-append, length-drop, length-replicate, length-set, drop-of-length-le}
+use lib.ListN.{length, take, drop, set, length-append, length-drop, length-replicate, drop-of-length-le}
 use lib.Seq.{take-all, take-length, drop-drop}
 use Rattle.d64spec.specs.Lists.{Bytes, splice, zeros}
-use Rattle.d64spec.specs.Geometry.{layout35, onDisk, sectorNumber, total}
-use Rattle.d64spec.specs.Image.{disk, put}
+use Rattle.d64spec.specs.Geometry.{layout35, onDisk, sectorNumber}
+use Rattle.d64spec.specs.Image.{disk}
 use Rattle.d64spec.proofs.SpliceLaws.{length-splice}
 use Rattle.d64spec.proofs.BoundLaws.{sectorNumber-lt}
 use Rattle.d64spec.proofs.InPlaceLaws.{splice-disk}
@@ -19,7 +19,7 @@ use Rattle.geometry.specs.Layout.{unpacked, numberBy, IsFirsts}
 use Rattle.mapentry.specs.MapEntry.{Entries}
 use Rattle.bam.specs.Bam.{movedMark}
 use Rattle.parts.proofs.PartLaws.{drop-replicate}
-use Rattle.storing.specs.Writes.{linkedSector, lastSector, StartsAt, SectorReady, SectorWritten}
+use Rattle.storing.specs.Writes.{lastSector, StartsAt, SectorReady, SectorWritten}
 use Rattle.parts.proofs.OverwriteLaws.{lent-back}
 
 -- what comes back of a loan of the bytes of t from a on when c is copied over the first of them
@@ -45,9 +45,6 @@ linked-filled (a ∷ b ∷ s) c x y h k =
 -- zeros over a whole sector
 pub cleared : (s : Bytes) {p : Bytes} → length s ≡ 256 → p ≡ take 256 (zeros 256) ++ drop 256 s → p ≡ zeros 256
 cleared s h e = e ∙ ap (λ (z : Bytes). zeros 256 ++ z) (drop-of-length-le s {i = 256} (omega arith)) ∙ append-nil (zeros 256)
-
-pub length-cleared : (s : Bytes) {p : Bytes} → length s ≡ 256 → p ≡ take 256 (zeros 256) ++ drop 256 s → length p ≡ 256
-length-cleared s h e = ap length (cleared s h e) ∙ length-replicate {A = ℕ} 256 0
 
 -- 00 and the last used byte, and at most 254 bytes behind them
 pub last-filled : (t c : Bytes) → t ≡ zeros 256 → length c ≤ 254 → splice (set t 1 (length c + 1)) 2 c ≡ lastSector c
@@ -78,9 +75,9 @@ module _ {img : Bytes} {place start : ℕ} {firsts : List ℕ} (r : SectorReady 
   abbrev width : ℕ
   width = start + 256 - start
 
-  pub sector-written : {s p : Bytes} {es es′ : Entries} → p ≡ s → length s ≡ 256 → es′ ≡ movedMark false (unpacked place) es
+  pub sector-written : {s p : Bytes} {es es′ : Entries} {mark : Bool} → p ≡ s → length s ≡ 256 → es′ ≡ movedMark mark (unpacked place) es → mark ≡ false
       → SectorWritten img place s es (take start img ++ (p ++ drop width (drop start img))) es′
-  sector-written {s} {p} e size marks =
+  sector-written {s} {p} {es} e size marks used =
       let n : ℕ = sectorNumber layout35 (unpacked place) in
       let fits : 256 * n + 256 ≤ length img = omega (arith, r .size, at .start, at .inside) in
       let back : take start img ++ (p ++ drop width (drop start img)) ≡ splice img (256 * n) s
@@ -88,5 +85,5 @@ module _ {img : Bytes} {place start : ℕ} {firsts : List ℕ} (r : SectorReady 
       record {
         size = ap length back ∙ length-splice img (256 * n) s (omega arith);
         laid = ap disk back ∙ splice-disk img n s fits size;
-        marks = marks;
+        marks = marks ∙ ap (λ (b : Bool). movedMark b (unpacked place) es) used;
       }

@@ -1,19 +1,19 @@
 -- What a store whose every refusal is decided may rely on (01, Store): its sectors, the chain along them, and the place of its entry.
--- In order: the sectors taken; the chain; the place; the entry.
-use Prim.Native.Nat.{ℕ, zero, suc, _+_, _-_, _*_, _/_, _≤_, _<_}
+-- In order: lists; the sectors taken, and the chain along them; the place of the entry, and the entry there.
+use Prim.Native.Nat.{ℕ, zero, suc, _+_, _-_, _*_, _≤_, _<_}
 use native.Mathlib.Omega.{arith}
-use mathlib.Core.Path.{_≡_, refl, sym, ap, _∙_, subst}
-use mathlib.Core.Bool.{Bool, true, false, cond}
+use mathlib.Core.Path.{_≡_, sym, ap, _∙_, subst}
+use mathlib.Core.Bool.{true, false}
 use mathlib.Core.List.{List, [], _∷_, map, List·Memᴰ}
-use lib.ListN.{length}
+use lib.ListN.{length, length-map}
 use borrow.Author.Tests.{ne-eqb, eqb-true}
-use Rattle.d64spec.specs.Lists.{Bytes, All, count, range}
-use Rattle.d64spec.specs.Answers.{Address, address, Result, done}
-use Rattle.d64spec.specs.Geometry.{layout35, onDisk, sectorNumber, total, directoryStart, sectorsOfTrack, sectorsOn}
+use Rattle.d64spec.specs.Lists.{Bytes, All, count}
+use Rattle.d64spec.specs.Answers.{Address, address}
+use Rattle.d64spec.specs.Geometry.{layout35, onDisk, sectorNumber, total, directoryStart, sectorsOfTrack}
 use Rattle.d64spec.specs.Image.{Disk, disk}
 use Rattle.d64spec.specs.Directory.{directorySectors}
 use Rattle.d64spec.specs.Owner.{claimCount, freeForDirectory, isFree}
-use Rattle.d64spec.specs.Store.{SlotPlace, inEmptySlot, inNewSector, slotPlaceFor, sectorsNeeded, placement, lastOf}
+use Rattle.d64spec.specs.Store.{SlotPlace, inEmptySlot, inNewSector, sectorsNeeded, lastOf}
 use Rattle.d64spec.specs.Accepted.{AcceptedDisk}
 use Rattle.d64spec.proofs.BoundLaws.{sectorNumber-lt, directory-some}
 use Rattle.d64spec.proofs.FrameLaws.{all-map}
@@ -26,17 +26,13 @@ use Rattle.d64spec.proofs.AllocationLaws.{sectors-on}
 use Rattle.d64spec.proofs.StoreStep.{Taken, placement-taken, placement-length, some-sector, slot-place, PlaceCase, place-case}
 use Rattle.geometry.specs.Layout.{unpacked, IsFirsts}
 use Rattle.storing.specs.declared.room.EntryPlace.{EntryPlace}
-use Rattle.storing.specs.Plans.{PlaceIs, PlaceReady, WriteReady}
-use Rattle.storing.specs.Writes.{ChainReady, GrowReady, EntryReady}
+use Rattle.storing.specs.Plans.{PlaceIs, WriteReady}
+use Rattle.storing.specs.Writes.{ChainReady, EntryReady}
 use Rattle.directory.proofs.Track18Laws.{number-18}
 
 -- ---- lists
 
 module _ {A B : Type 0} (f : A → B) where
-  pub length-map : (l : List A) → length (map f l) ≡ length l
-  length-map [] = refl
-  length-map (x ∷ l) = ap suc (length-map l)
-
   -- what holds of every image holds at every element
   all-images : (P : B → Type 0) (l : List A) → All P (map f l) → All (λ x. P (f x)) l
   all-images P [] a = tt
@@ -64,7 +60,7 @@ taken-few : {d : Disk} {l : List Address} → Taken layout35 d l → length l �
 taken-few {d} {l} t =
     let on : All (λ n. n < 683) (map (sectorNumber layout35) l)
     = of-all (sectorNumber layout35) (λ n. n < 683) l (all-map (λ r h. let z = sectorNumber-lt layout35 r h in omega (arith, sectors35)) l (t .on)) in
-    omega (arith, pigeon 683 (map (sectorNumber layout35) l) on (t .few), length-map (sectorNumber layout35) l)
+    omega (arith, pigeon 683 (map (sectorNumber layout35) l) on (t .few), length-map l (sectorNumber layout35))
 
 module _ {img name : Bytes} {kind : ℕ} {bs places : List ℕ} {p : EntryPlace} {last : ℕ} {es : List Bytes} (w : WriteReady img name kind bs places p last es) where
   pub places-taken : Taken layout35 (disk img) (map unpacked places)
@@ -74,13 +70,13 @@ module _ {img name : Bytes} {kind : ℕ} {bs places : List ℕ} {p : EntryPlace}
   length-refs = ap length (w .taken) ∙ placement-length layout35 (disk img) (sectorsNeeded (length bs)) (w .room)
 
   pub length-places : length places ≡ sectorsNeeded (length bs)
-  length-places = sym (length-map unpacked places) ∙ length-refs
+  length-places = sym (length-map places unpacked) ∙ length-refs
 
   pub places-some : 1 ≤ length places
   places-some = omega (arith, some-sector (length bs), length-places)
 
   pub places-few : length places < 65536
-  places-few = omega (arith, taken-few places-taken, length-map unpacked places)
+  places-few = omega (arith, taken-few places-taken, length-map places unpacked)
 
   pub size35 : length img ≡ 174848
   size35 = omega (arith, w .ready .accepted .size, sectors35)
@@ -96,6 +92,13 @@ module _ {img name : Bytes} {kind : ℕ} {bs places : List ℕ} {p : EntryPlace}
   }
 
 -- ---- the place of the entry
+
+-- what the place of an entry is known for: slots of sectors in the image, and a new sector that is not the directory's last
+pub record PlaceFits (p : EntryPlace) (last : ℕ) : Type 0 where
+  pub sectorInside : p .sector < 326
+  pub indexInside : p .index < 8
+  pub lastInside : last < 326
+  pub other : p .grown ≡ true → p .sector ≡ last → ⊥
 
 module _ (d : Disk) (a : AcceptedDisk layout35 d) where
   -- the directory's last sector is one of its sectors
@@ -115,13 +118,6 @@ module _ (d : Disk) (a : AcceptedDisk layout35 d) where
   new-free r m =
       let k = mem-filter (isFree layout35 d) (sectorsOfTrack layout35 18) m in
       (all-mem (λ x. onDisk layout35 x ≡ true) (k .0) (sectors-on layout35 18), eqb-true (claimCount layout35 d (sectorNumber layout35 r)) 0 (k .1))
-
-  -- what the place of an entry is known for
-  pub record PlaceFits (p : EntryPlace) (last : ℕ) : Type 0 where
-    pub sectorInside : p .sector < 326
-    pub indexInside : p .index < 8
-    pub lastInside : last < 326
-    pub other : p .grown ≡ true → p .sector ≡ last → ⊥
 
   pub place-fits : (place : SlotPlace) (p : EntryPlace) (last : ℕ) → PlaceCase layout35 d place → PlaceIs place p → address 18 last ≡ lastOf directoryStart (directorySectors layout35 d) → PlaceFits p last
   place-fits (inEmptySlot s) p last c (grown, holder, index) l =

@@ -1,5 +1,6 @@
 -- What a store writes, part by part (01, Store): each part's bytes, what it may rely on, and what it leaves.
--- In order: the two kinds of sector of a chain; one sector; a chain; the directory grown; an entry at its place; the map. Laws: proofs/WriteLaws, EntryWriteLaws, FileWriteLaws.
+-- In order: the two kinds of sector of a chain; one sector; a chain; the directory grown; an entry at its place; the map.
+-- Laws: proofs/SectorWriteLaws, ChainWriteLaws, EntryWriteLaws; WriteReadyLaws and FileWriteLaws for the whole.
 use Prim.Native.Nat.{ℕ, suc, _+_, _-_, _*_, _≤_, _<_}
 use mathlib.Core.Path.{_≡_}
 use mathlib.Core.Bool.{true, false, cond}
@@ -67,7 +68,7 @@ grownDisk d last s =
 unfoldable pub entryDisk : Disk → Bytes → EntryPlace → ℕ → Disk
 entryDisk d e p last = overwriteSlot layout35 (address 18 (p .sector)) (p .index) e (cond (p .grown) (grownDisk d last (p .sector)) d)
 
--- two sectors of track 18, both in the image, and not the same
+-- two sectors by their place on track 18, not the same, and both in the image: 357 + 326 is 683
 pub record GrowReady (img : Bytes) (last s : ℕ) : Type 0 where
   pub size : length img ≡ 174848
   pub lastInside : last < 326

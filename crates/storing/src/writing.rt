@@ -13,6 +13,9 @@ ghost use Rattle.storing.specs.Writes.{linkedSector, lastSector, StartsA
 use crate::room::EntryPlace;
 use geometry::Address;
 
+// How the map marks a sector that is taken: not free.
+const USED: bool = false;
+
 // A sector of a chain: the link to the next one, and 254 bytes.
 fn fill_linked(sector: &mut [u8], next: u16, content: &[u8])
     requires { ⌜ (length (now sector) ≡ 256) × (length (now content) ≡ 254) ⌝ }
@@ -59,7 +62,7 @@ fn write_last(
 {
     let start = start_of(place, firsts);
     fill_last(&mut img[start..start + 256], content);
-    bam::move_mark(map, place, false);
+    bam::move_mark(map, place, USED);
 }
 
 // Writes a sector of a chain that goes on at `next`, and marks it used in the map.
@@ -76,7 +79,7 @@ fn write_linked(
 {
     let start = start_of(place, firsts);
     fill_linked(&mut img[start..start + 256], next, content);
-    bam::move_mark(map, place, false);
+    bam::move_mark(map, place, USED);
 }
 
 // Lays the data along the sectors at these places, and marks them used in the map.
@@ -173,7 +176,7 @@ pub(crate) fn write_file(
     let entry = new_entry(name, kind, places[0], places.len());
     write_entry(img, &entry, place, last);
     if place.grown {
-        bam::move_mark(&mut marks, 18 * 256 + place.sector as u16, false);
+        bam::move_mark(&mut marks, 18 * 256 + place.sector as u16, USED);
     }
     write_map(img, marks);
 }

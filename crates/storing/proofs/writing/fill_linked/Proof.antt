@@ -5,21 +5,20 @@ use mathlib.Core.Path.{_≡_, ap, _∙_}
 use lib.ListN.{length, set, length-set, length-take, length-drop}
 use Rattle.d64spec.specs.Lists.{Bytes}
 use Rattle.storing.proofs.SectorWriteLaws.{rest-copied, linked-filled}
-use borrow.Author.Needs.{needs}
 use Rattle.storing.proofs.writing.fill_linked.Statement.{statement}
 use Rattle.storing.proofs.writing.fill_linked.Tie as tie
 
 cast-sector : tie.Need-cast-sector
-cast-sector c = search needs
+cast-sector c = omega arith
 
 slice-write-sector : tie.Need-slice-write-sector
-slice-write-sector c = search needs
+slice-write-sector c = omega arith
 
 cast-sector-2 : tie.Need-cast-sector-2
-cast-sector-2 c = search needs
+cast-sector-2 c = omega arith
 
 slice-write-sector-2 : tie.Need-slice-write-sector-2
-slice-write-sector-2 c = search needs
+slice-write-sector-2 c = simp length-set (omega arith)
 
 sub-copy : tie.Need-sub-copy
 sub-copy c = simp length-set (omega arith)
@@ -28,7 +27,7 @@ part-copy-start : tie.Need-part-copy-start
 part-copy-start c = simp length-set (omega arith)
 
 part-copy-end : tie.Need-part-copy-end
-part-copy-end c = search needs
+part-copy-end c = omega arith
 
 copy-requires : tie.Need-copy-requires
 copy-requires c κs = simp (length-take, length-drop, length-set) (omega arith)

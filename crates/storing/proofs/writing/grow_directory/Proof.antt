@@ -1,40 +1,41 @@
 -- `storing::writing::grow_directory` meets its contract: the new sector is written whole, and two bytes of the last one are overwritten. Assumes nothing.
+use native.Mathlib.Omega.{arith}
 use Rattle.storing.proofs.EntryWriteLaws.{directory-grown}
 use borrow.Author.Needs.{needs}
 use Rattle.storing.proofs.writing.grow_directory.Statement.{statement}
 use Rattle.storing.proofs.writing.grow_directory.Tie as tie
 
 add-write-sector : tie.Need-add-write-sector
-add-write-sector c = search needs
+add-write-sector c = omega arith
 
 empty-directory-sector-requires : tie.Need-empty-directory-sector-requires
 empty-directory-sector-requires c κs = search needs
 
 slice-aggregate-write-sector : tie.Need-slice-aggregate-write-sector
-slice-aggregate-write-sector c = search needs
+slice-aggregate-write-sector c = omega arith
 
 write-sector-requires : tie.Need-write-sector-requires
 write-sector-requires c κs = search needs
 
 mul-overwrite : tie.Need-mul-overwrite
-mul-overwrite c = search needs
+mul-overwrite c = omega arith
 
 add-overwrite : tie.Need-add-overwrite
-add-overwrite c = search needs
+add-overwrite c = omega arith
 
 slice-aggregate-overwrite : tie.Need-slice-aggregate-overwrite
-slice-aggregate-overwrite c = search needs
+slice-aggregate-overwrite c = omega arith
 
 overwrite-requires : tie.Need-overwrite-requires
 overwrite-requires c κs = search needs
 
 same-length : tie.Need-same-length
-same-length c = search needs
+same-length c = omega arith
 
 returns : tie.Need-returns
 returns c =
     let b = c .before .before .before .before .before .before .before .before .before .before .before .before in
-    directory-grown (b .pre) (c .before .before .before .before .before .before .before .before .before .empty-directory-sector .ensures) (c .before .before .before .before .before .before .before .write-sector .ensures) (c .before .before .overwrite .ensures)
+    directory-grown (b .pre) (c .before .before .before .before .before .before .before .before .before .empty-directory-sector .ensures) (c .before .before .before .before .before .before .before .write-sector .ensures) (c .before .before .overwrite .ensures) (omega arith)
 
 pub grow-directory-spec : {M : Type 1} → statement M
 grow-directory-spec =

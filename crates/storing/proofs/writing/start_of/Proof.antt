@@ -6,10 +6,10 @@ use Rattle.storing.proofs.writing.start_of.Statement.{statement}
 use Rattle.storing.proofs.writing.start_of.Tie as tie
 
 cast-t5 : tie.Need-cast-t5
-cast-t5 c = search needs
+cast-t5 c = omega arith
 
 cast-t7 : tie.Need-cast-t7
-cast-t7 c = search needs
+cast-t7 c = omega arith
 
 number-by-requires : tie.Need-number-by-requires
 number-by-requires c κs = search needs

@@ -1,6 +1,6 @@
 -- `storing::writing::write_file` meets its contract: the data, the entry, the marks and the map together are the disk that the definitions describe (proofs/FileWriteLaws). Assumes nothing.
 use native.Mathlib.Omega.{arith}
-use mathlib.Core.Path.{ap, _∙_}
+use mathlib.Core.Path.{refl, ap, _∙_}
 use mathlib.Core.Logic.{inl, inr, ⊎-elim}
 use lib.ListN.{length}
 use Rattle.d64spec.proofs.EntryLaws.{kind-small, entry-length}
@@ -29,13 +29,13 @@ write-entry-requires c κs =
     entry-ready w (c .before .before .before .before .before .before .write-chain .ensures .size) (ap length (c .before .before .new-entry .ensures) ∙ entry-length _ _ _ _ (w .ready .asked) (w .ready .kindAsked))
 
 mul-move-mark : tie.Need-mul-move-mark
-mul-move-mark c = search needs
+mul-move-mark c = omega arith
 
 cast-move-mark : tie.Need-cast-move-mark
-cast-move-mark c = search needs
+cast-move-mark c = omega arith
 
 add-move-mark : tie.Need-add-move-mark
-add-move-mark c = search needs
+add-move-mark c = omega arith
 
 move-mark-requires : tie.Need-move-mark-requires
 move-mark-requires c κs = search needs
@@ -44,14 +44,14 @@ write-map-requires : tie.Need-write-map-requires
 write-map-requires c κs = c .before .before .before .before .write-entry .ensures .size ∙ c .before .before .before .before .before .before .before .before .before .before .before .write-chain .ensures .size ∙ size35 (c .before .before .before .before .before .before .before .before .before .before .before .before .before .before .before .before .before .before .before .before .pre)
 
 same-length : tie.Need-same-length
-same-length c = search needs
+same-length c = omega arith
 
 returns : tie.Need-returns
 returns c =
     let k = c .before .before .before .before in
     let b = k .before .before .before .before .before .before .before .before .before .before .before .before .before .before .before .before .before .before .before in
     file-written (b .args .places .now) (b .pre) (k .before .before .before .before .before .before .before .before .before .before .write-chain .ensures) (k .before .before .before .before .before .before .new-entry .ensures) (k .before .before .before .write-entry .ensures)
-    (⊎-elim (λ w. inl (w .0 .taken, omega (arith, w .2 .given), _, w .3 .ensures, w .4)) (λ w. inr (w .0 .left, w .1)) (k .if1 .came)) (c .before .before .write-map .ensures)
+    (⊎-elim (λ w. inl (w .0 .taken, omega (arith, w .2 .given), _, _, _, w .3 .ensures, refl, omega arith, w .4)) (λ w. inr (w .0 .left, w .1)) (k .if1 .came)) (c .before .before .write-map .ensures)
 
 pub write-file-spec : {M : Type 1} → statement M
 write-file-spec =

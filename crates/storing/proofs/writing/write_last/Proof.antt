@@ -1,5 +1,6 @@
 -- `storing::writing::write_last` meets its contract: what comes back of the loan of the sector is the sector written, and its mark is moved. Assumes nothing.
 use native.Mathlib.Omega.{arith}
+use mathlib.Core.Path.{refl}
 use Rattle.storing.proofs.SectorWriteLaws.{sector-written, length-lastSector}
 use borrow.Author.Needs.{needs}
 use Rattle.storing.proofs.writing.write_last.Statement.{statement}
@@ -12,10 +13,10 @@ add-fill-last : tie.Need-add-fill-last
 add-fill-last c = omega (arith, c .start-of .ensures .inside)
 
 sub-fill-last : tie.Need-sub-fill-last
-sub-fill-last c = search needs
+sub-fill-last c = omega arith
 
 part-fill-last-start : tie.Need-part-fill-last-start
-part-fill-last-start c = search needs
+part-fill-last-start c = omega arith
 
 part-fill-last-end : tie.Need-part-fill-last-end
 part-fill-last-end c = omega (arith, c .start-of .ensures .inside, c .before .before .before .pre .0 .size)
@@ -27,13 +28,13 @@ move-mark-requires : tie.Need-move-mark-requires
 move-mark-requires c κs = search needs
 
 same-length : tie.Need-same-length
-same-length c = search needs
+same-length c = omega arith
 
 returns : tie.Need-returns
 returns c =
     let b = c .before .before .before .before .before .before .before .before .before in
     let a = b .args in
-    sector-written (b .pre .0) (c .before .before .before .before .before .before .start-of .ensures) (c .before .before .before .before .fill-last .ensures) (length-lastSector (a .content .now) (b .pre .1)) (c .move-mark .ensures)
+    sector-written (b .pre .0) (c .before .before .before .before .before .before .start-of .ensures) (c .before .before .before .before .fill-last .ensures) (length-lastSector (a .content .now) (b .pre .1)) (c .move-mark .ensures) refl
 
 pub write-last-spec : {M : Type 1} → statement M
 write-last-spec =
