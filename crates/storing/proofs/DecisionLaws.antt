@@ -56,11 +56,6 @@ checked-store name kind checked e bytes asked kindAsked =
       kindAsked = kindAsked;
     }
 
--- the DOS version in the map sector, as the code lends it
-pub writable-lent : (img : Bytes) {may : Bool} → may ≡ allowsWriting (take 256 (drop 91392 img)) → may ≡ writable layout35 (disk img)
-unfolding writable allowsWriting
-writable-lent img e = rw (map-lent img) at e
-
 -- ---- the name
 
 -- the search for the name says whether a file has it
@@ -94,10 +89,6 @@ module _ {img name : Bytes} {kind : ℕ} {ss : List ℕ} {count : ℕ} (c : Stor
     new-store new = record { checked = c; may = allows; absent = eqb-true (length (filesNamed name (files layout35 (disk img)))) 0 new }
 
 -- ---- room for the entry
-
--- the map, as the code lends it
-pub map-loaded : (img : Bytes) {es : Entries} → es ≡ mapEntries (take 256 (drop 91392 img)) → es ≡ mapEntries (disk img (sectorNumber layout35 mapAddress))
-map-loaded img e = e ∙ ap mapEntries (map-lent img)
 
 module _ {img name : Bytes} {kind : ℕ} {ss : List ℕ} {count : ℕ} (n : StoreNew img name kind ss count) where
   -- NO ROOM FOR THE ENTRY

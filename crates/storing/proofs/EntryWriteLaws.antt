@@ -25,7 +25,7 @@ use Rattle.sectors.proofs.SectorLaws.{disk-withSector, length-withSector}
 use Rattle.parts.specs.Overwrites.{overwritten}
 use Rattle.storing.specs.declared.room.EntryPlace.{EntryPlace}
 use Rattle.storing.specs.Plans.{PlaceIs}
-use Rattle.storing.specs.Writes.{grownDisk, entryDisk, GrowReady, Grown, EntryReady, EntryLaid, MapWritten}
+use Rattle.storing.specs.Writes.{grownDisk, entryDisk, GrowReady, Grown, EntryReady, EntryLaid}
 use Rattle.parts.proofs.OverwriteLaws.{lent-back, length-overwritten, disk-overwritten}
 use Rattle.mapentry.specs.MapEntry.{Entries}
 use Rattle.mapsector.specs.MapSector.{storedEntries}
@@ -107,18 +107,6 @@ module _ {img e : Bytes} {p : EntryPlace} {last : ℕ} (r : EntryReady img e p l
             ∙ disk-overwritten img′ (357 + p .sector) (32 * p .index + 2) e (omega (arith, r .size, r .sectorInside)) (omega (arith, r .whole, r .indexInside))
             ∙ ap₂ (λ (d : Disk) (n : ℕ). put d n (splice (d n) (32 * p .index + 2) e)) (disk-before b) (sym (number-18 (p .sector)));
       }
-
--- ---- the map in its sector
-
--- what comes back of a loan of 18/0 when the map is put into it
-pub map-written : (es : Entries) (img : Bytes) {m q : Bytes} → length img ≡ 174848 → q ≡ storedEntries es m → m ≡ take 256 (drop 91392 img) → length q ≡ 256
-    → MapWritten img es (take 91392 img ++ (q ++ drop 256 (drop 91392 img)))
-map-written es img {q = q} size is lent full =
-    let back : take 91392 img ++ (q ++ drop 256 (drop 91392 img)) ≡ splice img (256 * 357) q = lent-back img 91392 256 q full in
-    record {
-      size = ap length back ∙ length-splice img (256 * 357) q (omega arith);
-      laid = ap disk back ∙ splice-disk img 357 q (omega arith) full ∙ ap₂ (put (disk img)) (sym (number-18 0)) (is ∙ ap (storedEntries es) (lent ∙ map-lent img));
-    }
 
 -- ---- the place of the definitions
 

@@ -41,7 +41,8 @@ use Rattle.bamlaws.specs.Expected.{Expects, freeAfter}
 use Rattle.bamlaws.proofs.FollowLaws.{expects-loaded, expects-agree, expects-marks, map-follows}
 use Rattle.storing.specs.declared.room.EntryPlace.{EntryPlace}
 use Rattle.storing.specs.Plans.{PlaceIs, WriteReady, FileWritten}
-use Rattle.storing.specs.Writes.{entryDisk, ChainWritten, EntryLaid, MapWritten}
+use Rattle.imagemap.specs.ImageMaps.{MapWritten}
+use Rattle.storing.specs.Writes.{entryDisk, ChainWritten, EntryLaid}
 use Rattle.storing.proofs.EntryWriteLaws.{writeSlot-place}
 use Rattle.storing.proofs.WriteReadyLaws.{places-taken, length-refs, places-some, place-found, size35, new-free}
 
@@ -166,7 +167,7 @@ module _ (img name : Bytes) (kind : ℕ) (bs : Bytes) (x : ℕ) (xs : List ℕ) 
 
     disk-after : disk img‴ ≡ rewriteMap layout35 d2
     disk-after =
-        k .laid ∙ ap (λ (y : Disk). put y (sectorNumber layout35 mapAddress) (storedEntries es″ (y (sectorNumber layout35 mapAddress)))) entered
+        k .laid (omega (arith, kept, size35 w)) ∙ ap (λ (y : Disk). put y (sectorNumber layout35 mapAddress) (storedEntries es″ (y (sectorNumber layout35 mapAddress)))) entered
         ∙ map-follows d2 (expects-after m) map-full
 
     image-after : (q : SlotPlace) → slotPlaceFor layout35 d ≡ done q → img‴ ≡ storeChange layout35 img q name kind bs .imageAfter

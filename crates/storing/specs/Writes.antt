@@ -92,8 +92,3 @@ pub record EntryReady (img e : Bytes) (p : EntryPlace) (last : ℕ) : Type 0 whe
 pub record EntryLaid (img e : Bytes) (p : EntryPlace) (last : ℕ) (img′ : Bytes) : Type 0 where
   pub size : length img′ ≡ length img
   pub laid : disk img′ ≡ entryDisk (disk img) e p last
-
--- the map stands in its sector, 18/0; no other byte of it changes (01, Store: the map follows)
-pub record MapWritten (img : Bytes) (es : Entries) (img′ : Bytes) : Type 0 where
-  pub size : length img′ ≡ length img
-  pub laid : disk img′ ≡ put (disk img) (sectorNumber layout35 mapAddress) (storedEntries es (disk img (sectorNumber layout35 mapAddress)))

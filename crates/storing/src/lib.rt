@@ -10,7 +10,7 @@ ghost use lib.Dec.{eqb};
 ghost use Rattle.d64spec.specs.Geometry.{layout35};
 ghost use Rattle.d64spec.specs.Image.{disk};
 ghost use Rattle.d64spec.specs.Directory.{files};
-ghost use Rattle.d64spec.specs.Reply.{validNameArgument, writable, filesNamed};
+ghost use Rattle.d64spec.specs.Reply.{validNameArgument, filesNamed};
 ghost use Rattle.d64spec.specs.Call.{store, perform};
 ghost use Rattle.answers.specs.Faults.{replyOf};
 ghost use Rattle.finding.specs.FileSlots.{CheckedSlots};
@@ -20,14 +20,6 @@ use answers::Report;
 use answers::Verdict;
 use room::EntryPlace;
 use room::Room;
-
-// Whether the DOS version of an image allows writing.
-fn may_write(img: &[u8]) -> bool
-    requires { ⌜ length (now img) ≡ 174848 ⌝ }
-    ensures { λ r. ⌜ r ≡ writable layout35 (disk (now (img .entry))) ⌝ }
-{
-    mapsector::may_write(&img[91392..91648])
-}
 
 // Whether no file of a checked image has this name; its slots are 0 to end - 1.
 fn is_new(img: &[u8], name: &[u8], sectors: &[u8; 18], end: usize) -> bool
@@ -79,7 +71,7 @@ fn store_new(
     requires { ⌜ StoreNew (now img) (now name) kind (now sectors) count ⌝ }
     ensures { λ r. ⌜ replyOf r (now (img .exit)) [] ≡ perform layout35 (now (img .entry)) (store (now (name .entry)) kind (now (content .entry))) ⌝ }
 {
-    let map = room::map_of(img);
+    let map = imagemap::map_of(img);
     let room = room::room_in(img, sectors, count, &map);
     match room {
         Room::Full => answers::refuse(Fault::DirectoryFull),
@@ -99,7 +91,7 @@ fn store_checked(
     requires { ⌜ StoreChecked (now img) (now name) kind (now sectors) count ⌝ }
     ensures { λ r. ⌜ replyOf r (now (img .exit)) [] ≡ perform layout35 (now (img .entry)) (store (now (name .entry)) kind (now (content .entry))) ⌝ }
 {
-    if !may_write(img) {
+    if !imagemap::may_write(img) {
         return answers::refuse(Fault::WriteForbidden);
     }
     if !is_new(img, name, sectors, 8 * count) {

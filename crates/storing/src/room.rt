@@ -1,10 +1,6 @@
 // Room for a file: the sectors that its data need, and where its entry goes (01, Store).
 ghost use mathlib.Core.Path.{_≡_};
 ghost use Prim.Native.Nat.{_≤_};
-ghost use lib.ListN.{length};
-ghost use Rattle.d64spec.specs.Geometry.{layout35, sectorNumber, mapAddress};
-ghost use Rattle.d64spec.specs.Image.{disk};
-ghost use Rattle.mapsector.specs.MapSector.{mapEntries};
 ghost use Rattle.storing.specs.Decisions.{Needed, roomFor, RoomAsked, RoomIs};
 
 // Where the entry goes: slot `index` of 18/sector, which is new to the directory where it is `grown`.
@@ -59,14 +55,6 @@ pub(crate) fn entry_room(
         index: 0,
         grown: true,
     })
-}
-
-// The map of an image.
-pub(crate) fn map_of(img: &[u8]) -> [[u8; 4]; 35]
-    requires { ⌜ length (now img) ≡ 174848 ⌝ }
-    ensures { λ r. ⌜ r ≡ mapEntries (disk (now (img .entry)) (sectorNumber layout35 mapAddress)) ⌝ }
-{
-    mapsector::load_map(&img[91392..91648])
 }
 
 // Room for the entry on a checked image whose directory has `count` sectors.

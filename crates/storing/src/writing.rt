@@ -9,7 +9,7 @@ ghost use Rattle.d64spec.specs.Geometry.{layout35, onDisk};
 ghost use Rattle.d64spec.specs.Store.{newEntry};
 ghost use Rattle.geometry.specs.Layout.{unpacked, IsFirsts};
 ghost use Rattle.storing.specs.Plans.{WriteReady, FileWritten};
-ghost use Rattle.storing.specs.Writes.{linkedSector, lastSector, StartsAt, SectorReady, SectorWritten, ChainReady, ChainWritten, GrowReady, Grown, EntryReady, EntryLaid, MapWritten};
+ghost use Rattle.storing.specs.Writes.{linkedSector, lastSector, StartsAt, SectorReady, SectorWritten, ChainReady, ChainWritten, GrowReady, Grown, EntryReady, EntryLaid};
 use crate::room::EntryPlace;
 use geometry::Address;
 
@@ -149,14 +149,6 @@ fn write_entry(img: &mut [u8], entry: &[u8; 30], place: EntryPlace, last: u8)
     parts::overwrite(img, start + 2, entry);
 }
 
-// Puts the map into its sector, 18/0.
-fn write_map(img: &mut [u8], map: [[u8; 4]; 35])
-    requires { ⌜ length (now img) ≡ 174848 ⌝ }
-    ensures { λ _. ⌜ MapWritten (now (img .entry)) map (now (img .exit)) ⌝ }
-{
-    mapsector::store_map(map, &mut img[91392..91648]);
-}
-
 // Writes a file: its data in the sectors at these places, its entry, and the map, which was loaded from the image.
 pub(crate) fn write_file(
     img: &mut [u8],
@@ -178,5 +170,5 @@ pub(crate) fn write_file(
     if place.grown {
         bam::move_mark(&mut marks, 18 * 256 + place.sector as u16, USED);
     }
-    write_map(img, marks);
+    imagemap::write_map(img, marks);
 }

@@ -41,7 +41,7 @@ move-mark-requires : tie.Need-move-mark-requires
 move-mark-requires c κs = search needs
 
 write-map-requires : tie.Need-write-map-requires
-write-map-requires c κs = c .before .before .before .before .write-entry .ensures .size ∙ c .before .before .before .before .before .before .before .before .before .before .before .write-chain .ensures .size ∙ size35 (c .before .before .before .before .before .before .before .before .before .before .before .before .before .before .before .before .before .before .before .before .pre)
+write-map-requires c κs = search needs
 
 same-length : tie.Need-same-length
 same-length c = omega arith
