@@ -17,25 +17,21 @@ use Rattle.d64spec.proofs.ListLaws.{eq-of-equal}
 use Rattle.d64spec.proofs.SpliceLaws.{length-splice}
 use Rattle.d64spec.proofs.FormatLaws.{header, header-same, padded-length}
 use Rattle.parts.specs.Overwrites.{overwritten}
+use Rattle.parts.proofs.OverwriteLaws.{overwritten-inside}
 use Rattle.mapentry.specs.MapEntry.{Entries}
 use Rattle.mapsector.specs.MapSector.{storedEntries}
 
 -- ---- the runs of bytes
 
--- bytes written where they all lie in the list
-written : (s : Bytes) (k : ℕ) (bs : Bytes) → k + length bs ≤ length s → overwritten s k bs ≡ splice s k bs
-unfolding overwritten
-written s k bs h = simp (le-leb (k + length bs) (length s) h)
-
 -- three runs, one after the other
 runs-written : (s a b c : Bytes) {s₁ s₂ s₃ : Bytes} → length s ≡ 256 → length a ≡ 4 → length b ≡ 16 → length c ≡ 11
     → s₁ ≡ overwritten s 0x00 a → s₂ ≡ overwritten s₁ 0x90 b → s₃ ≡ overwritten s₂ 0xA0 c → s₃ ≡ splice (splice (splice s 0x00 a) 0x90 b) 0xA0 c
 runs-written s a b c {s₁} {s₂} {s₃} size la lb lc e₁ e₂ e₃ =
-    let w₁ : s₁ ≡ splice s 0x00 a = e₁ ∙ written s 0x00 a (omega arith) in
+    let w₁ : s₁ ≡ splice s 0x00 a = e₁ ∙ overwritten-inside s 0x00 a (omega arith) in
     let size₁ : length s₁ ≡ 256 = ap length w₁ ∙ length-splice s 0x00 a (omega arith) ∙ size in
-    let w₂ : s₂ ≡ splice s₁ 0x90 b = e₂ ∙ written s₁ 0x90 b (omega arith) in
+    let w₂ : s₂ ≡ splice s₁ 0x90 b = e₂ ∙ overwritten-inside s₁ 0x90 b (omega arith) in
     let size₂ : length s₂ ≡ 256 = ap length w₂ ∙ length-splice s₁ 0x90 b (omega arith) ∙ size₁ in
-    e₃ ∙ written s₂ 0xA0 c (omega arith) ∙ ap (λ (x : Bytes). splice x 0xA0 c) (w₂ ∙ ap (λ (x : Bytes). splice x 0x90 b) w₁)
+    e₃ ∙ overwritten-inside s₂ 0xA0 c (omega arith) ∙ ap (λ (x : Bytes). splice x 0xA0 c) (w₂ ∙ ap (λ (x : Bytes). splice x 0x90 b) w₁)
 
 module _ (name : Bytes) (i j : ℕ) (short : length name ≤ 16) where
   -- 18/0 BUT FOR THE MAP: document 01's runs of bytes, with the name filled up

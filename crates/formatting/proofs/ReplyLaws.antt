@@ -19,29 +19,26 @@ use Rattle.answers.specs.declared.Fault as code
 use Rattle.answers.specs.declared.Verdict.the-variants.{Fine, Refused}
 use Rattle.answers.specs.declared.Report.{Report}
 use Rattle.answers.specs.Faults.{faultOf, verdictOf, answerTo, replyOf}
+use Rattle.answers.proofs.RefusedLaws.{call-refused, size-true, size-false}
 
 module _ (img name : Bytes) (i j : ℕ) where
   -- THE REPLY TO A FORMAT that is refused
   pub format-refused : {rep : Report} (f : code.Fault) → rep ≡ record { verdict = Refused f; length = 0; sectors = 0 } → callFormat layout35 img name i j ≡ refused (faultOf f)
       → replyOf rep img [] ≡ perform layout35 img (format name i j)
-  unfolding perform attempt outputBuffer reply verdictOf answerTo
-  format-refused f e r = rw (e, r)
+  unfolding attempt outputBuffer
+  format-refused f e r = call-refused img (format name i j) f e r
 
   pub format-size : (length img ≡ 174848 → ⊥) → callFormat layout35 img name i j ≡ refused wrongSize
-  unfolding callFormat rightSize
-  format-size other = rw (ne-eqb (length img) (256 * total layout35) (λ e. other (omega (arith, sectors35))))
+  unfolding callFormat
+  format-size other = rw (size-false img other)
 
   module _ (size : length img ≡ 174848) where
-    sized : rightSize layout35 img ≡ true
-    unfolding rightSize
-    sized = eq-eqb (length img) (256 * total layout35) (omega (arith, sectors35))
-
     pub format-name : validNameArgument name ≡ false → callFormat layout35 img name i j ≡ refused badNameArgument
     unfolding callFormat
-    format-name asked = rw (sized, asked)
+    format-name asked = rw (size-true img size, asked)
 
     -- THE REPLY TO A FORMAT that is done
     pub format-done : {rep : Report} {img′ : Bytes} → validNameArgument name ≡ true → img′ ≡ image layout35 (formattedDisk layout35 name i j)
         → rep ≡ record { verdict = Fine; length = 0; sectors = 0 } → replyOf rep img′ [] ≡ perform layout35 img (format name i j)
     unfolding perform attempt outputBuffer callFormat reply verdictOf answerTo
-    format-done asked e r = rw (r, e, sized, asked)
+    format-done asked e r = rw (r, e, size-true img size, asked)

@@ -1,5 +1,5 @@
 -- Replies (01, Answer numbers; Read; Tell): what each call of the definitions answers, refusal by refusal, and that the code's report says the same.
--- In order: reports; the reading of a chain; read; tell.
+-- In order: the reading of a chain; read; tell. What all calls share: answers RefusedLaws.
 use Prim.Native.Nat.{ℕ, _*_, _≤_, _<_}
 use native.Mathlib.Omega.{arith}
 use mathlib.Core.Path.{_≡_, refl, sym, ap, ap₂, _∙_}
@@ -23,20 +23,13 @@ use Rattle.answers.specs.declared.Fault as code
 use Rattle.answers.specs.declared.Verdict.the-variants.{Fine, Refused}
 use Rattle.answers.specs.declared.Report.{Report}
 use Rattle.answers.specs.Faults.{faultOf, verdictOf, answerTo, replyOf}
+use Rattle.answers.proofs.RefusedLaws.{refused-reply, call-refused, size-true, size-false, check-sized}
 use Rattle.reading.specs.declared.copying.Copied.{Copied}
 use Rattle.reading.specs.declared.FileInformation.{FileInformation}
 use Rattle.reading.specs.declared.Told.{Told}
 use Rattle.reading.specs.FileSlots.{firstOf}
 use Rattle.reading.specs.ChainReads.{sectorsFrom, dataFrom, ChainCopied}
 use Rattle.reading.specs.Replies.{readFrom, toldOf, nothingTold, informationOf, tellReplyOf}
-
--- ---- reports
-
--- a report of a refusal says that refusal
-pub refused-reply : {img out : Bytes} {rep : Report} {x : Result Change} (f : code.Fault) → rep ≡ record { verdict = Refused f; length = 0; sectors = 0 } → x ≡ refused (faultOf f)
-    → replyOf rep img out ≡ reply img out x
-unfolding reply verdictOf answerTo
-refused-reply f e r = rw (e, r)
 
 -- ---- the reading of a chain
 
@@ -71,21 +64,6 @@ module _ (img b : Bytes) where
   unfolding toldOf
   told-of named counted long = rw (named, counted, long)
 
--- ---- the size and the check
-
-pub size-true : (img : Bytes) → length img ≡ 174848 → rightSize layout35 img ≡ true
-unfolding rightSize
-size-true img h = eq-eqb (length img) (256 * total layout35) (omega (arith, sectors35))
-
-pub size-false : (img : Bytes) → (length img ≡ 174848 → ⊥) → rightSize layout35 img ≡ false
-unfolding rightSize
-size-false img h = ne-eqb (length img) (256 * total layout35) (λ e. h (omega (arith, sectors35)))
-
--- the check of an image of the right size is that of its sectors
-pub check-sized : (img : Bytes) {x : Result DirectoryContents} → rightSize layout35 img ≡ true → checkImage layout35 img ≡ x → checkDisk layout35 (disk img) ≡ x
-unfolding checkImage
-check-sized img size e = rw size at e
-
 -- ---- read
 
 module _ (img name out : Bytes) where
@@ -116,8 +94,8 @@ module _ (img name out : Bytes) where
   -- THE REPLY TO A READ that is refused
   pub read-refused : {rep : Report} (f : code.Fault) → rep ≡ record { verdict = Refused f; length = 0; sectors = 0 } → callRead layout35 img name out ≡ refused (faultOf f)
       → replyOf rep img out ≡ perform layout35 img (read name out)
-  unfolding perform attempt outputBuffer
-  read-refused f e r = refused-reply f e r
+  unfolding attempt outputBuffer
+  read-refused f e r = call-refused img (read name out) f e r
 
   -- THE REPLY TO A READ of the chain that starts at r
   pub read-replied : {x : Reply} (r : Address) → callRead layout35 img name out ≡ readFrom img out r → x ≡ reply img out (readFrom img out r) → x ≡ perform layout35 img (read name out)

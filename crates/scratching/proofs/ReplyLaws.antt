@@ -16,7 +16,7 @@ use Rattle.answers.specs.declared.Fault as code
 use Rattle.answers.specs.declared.Verdict.the-variants.{Refused}
 use Rattle.answers.specs.declared.Report.{Report}
 use Rattle.answers.specs.Faults.{faultOf, replyOf}
-use Rattle.reading.proofs.ReplyLaws.{refused-reply, size-true, size-false, check-sized}
+use Rattle.answers.proofs.RefusedLaws.{call-refused, size-true, size-false, check-sized}
 
 module _ (img name : Bytes) where
   pub scratch-size : (length img ≡ 174848 → ⊥) → callScratch layout35 img name ≡ refused wrongSize
@@ -50,8 +50,8 @@ module _ (img name : Bytes) where
   -- THE REPLY TO A SCRATCH that is refused
   pub scratch-refused : {rep : Report} (f : code.Fault) → rep ≡ record { verdict = Refused f; length = 0; sectors = 0 } → callScratch layout35 img name ≡ refused (faultOf f)
       → replyOf rep img [] ≡ perform layout35 img (scratch name)
-  unfolding perform attempt outputBuffer
-  scratch-refused f e r = refused-reply f e r
+  unfolding attempt outputBuffer
+  scratch-refused f e r = call-refused img (scratch name) f e r
 
   -- THE REPLY TO A SCRATCH that is done
   pub scratch-done : {x : Reply} (c : Change) → callScratch layout35 img name ≡ done c → x ≡ reply img [] (done c) → x ≡ perform layout35 img (scratch name)

@@ -40,7 +40,8 @@ use Rattle.storing.specs.declared.room.Room.{Room}
 use Rattle.storing.specs.declared.room.Room.the-variants.{At, Full}
 use Rattle.storing.specs.Plans.{PlaceReady, WriteReady, FileWritten}
 use Rattle.storing.specs.Decisions.{Needed, RoomIs, StoreChecked, StoreNew, StorePlaced}
-use Rattle.storing.proofs.ReplyLaws.{size-true, store-forbidden, store-exists, store-full, store-no-room, store-done, store-refused, store-replied}
+use Rattle.answers.proofs.RefusedLaws.{size-true}
+use Rattle.storing.proofs.ReplyLaws.{store-forbidden, store-exists, store-full, store-no-room, store-done, store-refused, store-replied}
 use Rattle.storing.proofs.RoomLaws.{last-sector, sectors-few, sectors-enough, sectors-taken, sectors-never}
 
 -- ---- the image checked

@@ -1,5 +1,5 @@
 -- Replies to a store (01, Answer numbers; Store): what the definitions answer, refusal by refusal, and that the code's report says the same.
--- In order: the size and the check; refusals in document 01's order; a store that is done; reports.
+-- In order: refusals in document 01's order; a store that is done; reports.
 use Prim.Native.Nat.{ℕ, _*_, _≤_, _<_}
 use native.Mathlib.Omega.{arith}
 use mathlib.Core.Path.{_≡_}
@@ -23,21 +23,7 @@ use Rattle.answers.specs.declared.Fault as code
 use Rattle.answers.specs.declared.Verdict.the-variants.{Fine, Refused}
 use Rattle.answers.specs.declared.Report.{Report}
 use Rattle.answers.specs.Faults.{faultOf, verdictOf, answerTo, replyOf}
-
--- ---- the size and the check
-
-pub size-true : (img : Bytes) → length img ≡ 174848 → rightSize layout35 img ≡ true
-unfolding rightSize
-size-true img h = eq-eqb (length img) (256 * total layout35) (omega (arith, sectors35))
-
-size-false : (img : Bytes) → (length img ≡ 174848 → ⊥) → rightSize layout35 img ≡ false
-unfolding rightSize
-size-false img h = ne-eqb (length img) (256 * total layout35) (λ e. h (omega (arith, sectors35)))
-
--- the check of an image of the right size is that of its sectors
-check-sized : (img : Bytes) {x : Result DirectoryContents} → rightSize layout35 img ≡ true → checkImage layout35 img ≡ x → checkDisk layout35 (disk img) ≡ x
-unfolding checkImage
-check-sized img size e = rw size at e
+use Rattle.answers.proofs.RefusedLaws.{call-refused, size-true, size-false, check-sized}
 
 -- ---- refusals
 
@@ -95,8 +81,8 @@ module _ (img name : Bytes) (kind : ℕ) (bs : Bytes) where
   -- THE REPLY TO A STORE that is refused
   pub store-refused : {rep : Report} (f : code.Fault) → rep ≡ record { verdict = Refused f; length = 0; sectors = 0 } → callStore layout35 img name kind bs ≡ refused (faultOf f)
       → replyOf rep img [] ≡ perform layout35 img (store name kind bs)
-  unfolding perform attempt outputBuffer reply verdictOf answerTo
-  store-refused f e r = rw (e, r)
+  unfolding attempt outputBuffer
+  store-refused f e r = call-refused img (store name kind bs) f e r
 
   -- THE REPLY TO A STORE that is done
   pub store-replied : {img′ : Bytes} {n k : ℕ} (place : SlotPlace) → callStore layout35 img name kind bs ≡ done (storeChange layout35 img place name kind bs)
