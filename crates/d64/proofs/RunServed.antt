@@ -1,6 +1,6 @@
 -- Demand 3 of running code (01, What demand 3 compares): a list of calls that each met its contract is the run that demand 3 is stated over.
 -- Assumes nothing.
-use mathlib.Core.Path.{_≡_, refl, sym, ap, ap₂, _∙_}
+use mathlib.Core.Path.{_≡_, refl, ap, ap₂, _∙_}
 use mathlib.Core.List.{List, [], _∷_}
 use Rattle.d64spec.specs.Lists.{Bytes}
 use Rattle.d64spec.specs.Geometry.{layout35}

@@ -2,10 +2,9 @@
 use Prim.Native.Nat.{ℕ, zero, suc, _+_, _*_, _-_, _≤_, _<_}
 use native.Mathlib.Omega.{arith}
 use mathlib.Core.Path.{_≡_, refl, sym, ap, _∙_, subst}
-use mathlib.Core.Bool.{Bool, true, false, cond, not}
+use mathlib.Core.Bool.{Bool, true, false, cond}
 use mathlib.Core.List.{List, [], _∷_, _++_, map, List·Memᴰ, List·Memᴰ·head, List·Memᴰ·tail}
 use lib.ListN.{length, drop}
-use lib.Dec.{eqb}
 use Rattle.d64spec.specs.Lists.{All, Bytes, byte, equal}
 use Rattle.d64spec.specs.Answers.{Address, Fault, address, done, first, notFound, wrongSize}
 use Rattle.d64spec.specs.Geometry.{Geometry, Valid, onDisk, sectorNumber, total}

@@ -5,7 +5,6 @@ use mathlib.Core.Bool.{true}
 use mathlib.Core.List.{List, _∷_, _++_, List·Memᴰ}
 use lib.ListN.{length}
 use Rattle.d64spec.proofs.CallLaws.{store-done}
-use Rattle.d64spec.proofs.StoreLaws.{StoreLeaves}
 use Rattle.d64spec.proofs.StoreStep.{store-step, store-enough}
 use Rattle.d64spec.proofs.OtherBytes.{after-disk}
 use Rattle.d64spec.proofs.ChangesTheorem.{Takes, store-takes, store-change, leaves}

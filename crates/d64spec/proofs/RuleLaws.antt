@@ -1,17 +1,15 @@
 -- The tests of the calls agree with document 01's facts (specs/Rules), each stated apart from the tests' own text.
-use Prim.Native.Nat.{ℕ, zero, suc, _+_, _*_, _-_, _/_, _%_, _≤_, _<_}
+use Prim.Native.Nat.{ℕ, zero, suc, _-_, _≤_, _<_}
 use native.Mathlib.Omega.{arith}
-use mathlib.Core.Path.{_≡_, refl, sym, ap, ap₂, _∙_}
+use mathlib.Core.Path.{_≡_, refl, sym, ap}
 use mathlib.Core.Bool.{Bool, true, false, not, _&&_, _||_}
 use mathlib.Core.Logic.{_⊎_, inl, inr, ⊎-elim, _↔_}
 use mathlib.Core.List.{[], _∷_, map}
-use lib.ListN.{length, take, drop, replicate, length-append, length-replicate, length-take}
-use lib.Seq.{take-at, drop-at}
+use lib.ListN.{length, drop, replicate, length-append, length-take}
 use lib.Dec.{eqb, ltb}
 use borrow.Author.Tests.{eq-eqb, ne-eqb, eqb-true, ltb-true, lt-ltb}
 use Rattle.d64spec.proofs.ListLaws.{equal-refl, eq-of-equal}
 use Rattle.d64spec.proofs.MapLaws.{and-true, both-true}
-use Rattle.d64spec.proofs.FormatLaws.{padded-length}
 use Rattle.d64spec.specs.Lists.{Bytes, byte, count, equal, filter, indicator, range}
 use Rattle.d64spec.specs.Geometry.{Geometry, mapAddress, sectorNumber}
 use Rattle.d64spec.specs.Image.{Disk}

@@ -2,7 +2,7 @@
 -- The directory and the files are both chains, with a decoder each; all else is said once, over the decoder.
 -- In order: links; the two decoders; a chain, with no order and no bound; the sectors met; the walk of the check; the data.
 -- Laws: proofs/ChainLaws, WalkLaws, LengthLaws.
-use Prim.Native.Nat.{ℕ, zero, suc, _+_, _-_}
+use Prim.Native.Nat.{ℕ, zero, suc, _+_}
 use mathlib.Core.Path.{_≡_}
 use mathlib.Core.Bool.{true, false, cond, _&&_}
 use mathlib.Core.List.{List, [], _∷_, _++_}

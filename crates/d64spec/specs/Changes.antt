@@ -9,7 +9,7 @@ use Rattle.d64spec.specs.Lists.{Bytes, byte, part, zeros}
 use Rattle.d64spec.specs.Answers.{Address, address}
 use Rattle.d64spec.specs.Geometry.{Geometry, sectorNumber, sectorsOn, tracks, mapAddress, directoryStart}
 use Rattle.d64spec.specs.Image.{Disk, disk}
-use Rattle.d64spec.specs.Directory.{Slot, File, directorySectors}
+use Rattle.d64spec.specs.Directory.{File, directorySectors}
 use Rattle.d64spec.specs.Owner.{Among, isFree}
 use Rattle.d64spec.specs.Map.{expectedEntry}
 use Rattle.d64spec.specs.Store.{SlotPlace, inEmptySlot, inNewSector, newEntry, lastOf}

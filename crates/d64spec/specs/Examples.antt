@@ -7,7 +7,7 @@ use mathlib.Core.List.{List, [], _∷_, _++_, map}
 use lib.ListN.{length, take, drop, replicate}
 use lib.Dec.{eqb}
 use Rattle.d64spec.specs.Lists.{Bytes, byte, part, zeros, filter, equal, range, ascending, sum, join}
-use Rattle.d64spec.specs.Answers.{Address, address, answerOf, Result, refused, done}
+use Rattle.d64spec.specs.Answers.{Address, address, Result, refused, done}
 use Rattle.d64spec.specs.Geometry.{layout35, sectorNumber, onDisk, sectorsOn, firstOn, total, allocationOrder, directoryStart}
 use Rattle.d64spec.specs.Image.{Disk, put}
 use Rattle.d64spec.specs.Chain.{chainData}
@@ -16,7 +16,7 @@ use Rattle.d64spec.specs.Owner.{freeForFiles}
 use Rattle.d64spec.specs.Map.{mapBit, mapOnes}
 use Rattle.d64spec.specs.Check.{checkDisk}
 use Rattle.d64spec.specs.Format.{formattedDisk}
-use Rattle.d64spec.specs.Store.{SlotPlace, inEmptySlot, inNewSector, sectorsNeeded, writeChain, placement, slotPlaceFor, storedDisk, lastOf}
+use Rattle.d64spec.specs.Store.{SlotPlace, sectorsNeeded, writeChain, placement, slotPlaceFor, storedDisk, lastOf}
 use Rattle.d64spec.specs.Scratch.{scratchedDisk}
 use Rattle.d64spec.specs.Listing.{callListing, listingOutput}
 

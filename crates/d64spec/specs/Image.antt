@@ -2,7 +2,7 @@
 -- (specs/Listing), the modules after this one read an image by `disk` only, so that chains, owners and room never speak of offsets.
 use Prim.Native.Nat.{ℕ, _*_}
 use mathlib.Core.Bool.{cond}
-use mathlib.Core.List.{List, map}
+use mathlib.Core.List.{map}
 use lib.ListN.{take, drop}
 use lib.Dec.{eqb}
 use Rattle.d64spec.specs.Lists.{Bytes, range, join}

@@ -2,7 +2,7 @@
 -- The layout has three sectors on track 18, ten on track 19 and no other: an image of 3,328 bytes, small enough to compute on. The definitions are those of every layout.
 -- In order: the layout; the images; rows; the table. The statement: proofs/ExampleTables, `calls-hold`.
 use Prim.Native.Nat.{ℕ, zero, suc, _+_, _*_}
-use mathlib.Core.Bool.{Bool, cond, _&&_, not}
+use mathlib.Core.Bool.{Bool, _&&_, not}
 use mathlib.Core.List.{List, [], _∷_, _++_, map}
 use lib.ListN.{length, take, drop, replicate}
 use lib.Dec.{eqb}

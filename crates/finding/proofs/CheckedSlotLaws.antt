@@ -1,6 +1,6 @@
 -- The slots of a checked image (01, Order of the check; Read; Tell): where the search for a slot ends, the definitions find this file.
 -- In order: track 18; the checked image; its files; the file of a name; the file at a position.
-use Prim.Native.Nat.{ℕ, _*_, _<_}
+use Prim.Native.Nat.{ℕ, _*_}
 use native.Mathlib.Omega.{arith}
 use mathlib.Core.Path.{_≡_, refl, sym, ap, _∙_}
 use mathlib.Core.Bool.{true, false}

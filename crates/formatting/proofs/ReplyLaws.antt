@@ -1,20 +1,16 @@
 -- The reply to a format (01, Answer numbers; Format): refused with 1 or 9, or done; and that the code's report says the same.
-use Prim.Native.Nat.{ℕ, _*_}
-use native.Mathlib.Omega.{arith}
+use Prim.Native.Nat.{ℕ}
 use mathlib.Core.Path.{_≡_}
 use mathlib.Core.Bool.{true, false}
 use mathlib.Core.List.{[]}
 use lib.ListN.{length}
-use borrow.Author.Tests.{eq-eqb, ne-eqb}
 use Rattle.d64spec.specs.Lists.{Bytes}
 use Rattle.d64spec.specs.Answers.{refused, wrongSize, badNameArgument}
-use Rattle.d64spec.specs.Geometry.{layout35, total}
+use Rattle.d64spec.specs.Geometry.{layout35}
 use Rattle.d64spec.specs.Image.{image}
-use Rattle.d64spec.specs.Check.{rightSize}
 use Rattle.d64spec.specs.Reply.{reply, validNameArgument}
 use Rattle.d64spec.specs.Format.{callFormat, formattedDisk}
 use Rattle.d64spec.specs.Call.{attempt, format, outputBuffer, perform}
-use Rattle.d64spec.proofs.RunTheorem.{sectors35}
 use Rattle.answers.specs.declared.Fault as code
 use Rattle.answers.specs.declared.Verdict.the-variants.{Fine, Refused}
 use Rattle.answers.specs.declared.Report.{Report}

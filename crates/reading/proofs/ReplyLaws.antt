@@ -1,24 +1,23 @@
 -- Replies (01, Answer numbers; Read; Tell): what each call of the definitions answers, refusal by refusal, and that the code's report says the same.
 -- In order: the reading of a chain; read; tell. What all calls share: answers RefusedLaws.
-use Prim.Native.Nat.{ℕ, _*_, _≤_, _<_}
+use Prim.Native.Nat.{ℕ, _≤_, _<_}
 use native.Mathlib.Omega.{arith}
 use mathlib.Core.Path.{_≡_, refl, sym, ap, ap₂, _∙_}
 use mathlib.Core.Bool.{Bool, true, false}
 use mathlib.Core.List.{_++_, append-nil}
 use lib.ListN.{length, take, drop, length-take, length-drop}
 use lib.Seq.{take-length}
-use borrow.Author.Tests.{eq-eqb, ne-eqb, le-leb, lt-leb}
+use borrow.Author.Tests.{le-leb, lt-leb}
 use Rattle.d64spec.specs.Lists.{Bytes, byte, zeros}
-use Rattle.d64spec.specs.Answers.{Address, Fault, Result, refused, done, wrongSize, badNameArgument, notFound, wrongBuffer, unplaced, _>>_, need, first}
-use Rattle.d64spec.specs.Geometry.{layout35, total}
+use Rattle.d64spec.specs.Answers.{Address, Fault, refused, done, wrongSize, badNameArgument, notFound, wrongBuffer, unplaced, _>>_, need, first}
+use Rattle.d64spec.specs.Geometry.{layout35}
 use Rattle.d64spec.specs.Image.{disk}
 use Rattle.d64spec.specs.Directory.{File, files, nameField, countOf}
 use Rattle.d64spec.specs.Check.{DirectoryContents, rightSize, checkDisk, checkImage}
-use Rattle.d64spec.specs.Reply.{Change, Reply, reply, validNameArgument, filesNamed}
+use Rattle.d64spec.specs.Reply.{Reply, reply, validNameArgument, filesNamed}
 use Rattle.d64spec.specs.Read.{callRead, FileInformation as Information, callTell, tellReply, noInformation}
 use Rattle.d64spec.specs.Call.{read, perform, attempt, outputBuffer}
 use Rattle.d64spec.proofs.ResultLaws.{need-done}
-use Rattle.d64spec.proofs.RunTheorem.{sectors35}
 use Rattle.answers.specs.declared.Fault as code
 use Rattle.answers.specs.declared.Verdict.the-variants.{Fine, Refused}
 use Rattle.answers.specs.declared.Report.{Report}

@@ -16,12 +16,11 @@ use Rattle.d64spec.specs.Scratch.{callScratch, scratchedDisk, scratchChange}
 use Rattle.d64spec.specs.Accepted.{ValidEntry}
 use Rattle.d64spec.proofs.ReadLaws.{first-kept}
 use Rattle.d64spec.proofs.ListingTheorem.{track18-sectors}
-use Rattle.mapsector.specs.MapSector.{allowsWriting}
 use Rattle.directory.specs.Directories.{slotAt}
 use Rattle.directory.proofs.SearchLaws.{sector-lt}
 use Rattle.directory.proofs.Track18Laws.{number-18}
 use Rattle.diskcheck.specs.SlotChecks.{imageSlot}
-use Rattle.diskcheck.proofs.TrackLaws.{map-lent, track18-lent}
+use Rattle.diskcheck.proofs.TrackLaws.{track18-lent}
 use Rattle.finding.specs.FileSlots.{slotNamed, CheckedSlots}
 use Rattle.finding.proofs.FindLaws.{slotNamed-le}
 use Rattle.finding.proofs.CheckedSlotLaws.{lentTrack18, found-none, found-some, by-name}

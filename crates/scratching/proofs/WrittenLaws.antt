@@ -4,7 +4,7 @@ use Prim.Native.Nat.{ℕ, zero, suc, _+_, _-_, _*_, _≤_, _<_}
 use native.Mathlib.Omega.{arith}
 use mathlib.Core.Path.{_≡_, refl, sym, ap, ap₂, _∙_, subst}
 use mathlib.Core.Bool.{true, cond}
-use mathlib.Core.List.{List, [], _++_, map}
+use mathlib.Core.List.{List, [], map}
 use lib.ListN.{length, take, drop, length-take, length-drop}
 use lib.Seq.{getD-take, getD-drop}
 use lib.Dec.{eqb, ltb}
@@ -20,12 +20,10 @@ use Rattle.d64spec.specs.Map.{rewriteMap}
 use Rattle.d64spec.specs.Reply.{reply}
 use Rattle.d64spec.specs.Store.{overwriteSlot}
 use Rattle.d64spec.specs.Scratch.{clearSectors, scratchedDisk, scratchChange}
-use Rattle.d64spec.proofs.ImageLaws.{Whole, disk-whole, put-same}
-use Rattle.d64spec.proofs.InPlaceLaws.{disk-image, splice-disk}
-use Rattle.d64spec.proofs.SpliceLaws.{length-splice}
+use Rattle.d64spec.proofs.ImageLaws.{Whole, disk-whole}
+use Rattle.d64spec.proofs.InPlaceLaws.{disk-image}
 use Rattle.d64spec.proofs.FrameLaws.{Sound}
 use Rattle.d64spec.proofs.MapBytes.{Prepared}
-use Rattle.d64spec.proofs.MapWriteLaws.{rewrite-whole}
 use Rattle.d64spec.proofs.OtherBytes.{byte-small}
 use Rattle.d64spec.proofs.SlotLaws.{slot-bytes-at}
 use Rattle.d64spec.proofs.ScratchLaws
@@ -33,7 +31,7 @@ use Rattle.d64spec.proofs.ScratchStep.{sound-of, Found, found}
 use Rattle.d64spec.proofs.RunTheorem.{valid35, sectors35}
 use Rattle.sectors.proofs.SectorLaws.{byte-disk}
 use Rattle.parts.specs.Overwrites.{overwritten}
-use Rattle.parts.proofs.OverwriteLaws.{disk-overwritten, length-overwritten, lent-back}
+use Rattle.parts.proofs.OverwriteLaws.{disk-overwritten, length-overwritten}
 use Rattle.answers.specs.declared.Verdict.the-variants.{Fine}
 use Rattle.answers.specs.Faults.{verdictOf, answerTo, replyOf}
 use Rattle.mapentry.specs.MapEntry.{Entries}
@@ -41,7 +39,6 @@ use Rattle.mapsector.specs.MapSector.{storedEntries}
 use Rattle.bamlaws.specs.Expected.{Expects, freeAfter}
 use Rattle.bamlaws.proofs.FollowLaws.{expects-loaded, expects-agree, map-follows}
 use Rattle.directory.proofs.Track18Laws.{number-18}
-use Rattle.diskcheck.proofs.TrackLaws.{map-lent}
 use Rattle.reading.specs.ChainReads.{sectorsFrom, dataFrom}
 use Rattle.reading.specs.FileSlots.{firstOf, FileEntry}
 use Rattle.reading.proofs.ChainStepLaws.{sectorsFrom-le}

@@ -4,8 +4,8 @@ use Prim.Native.Nat.{ℕ, _+_, _≤_, _<_}
 use mathlib.Core.Path.{_≡_}
 use mathlib.Core.Bool.{true}
 use mathlib.Core.List.{List, List·Memᴰ, map}
-use lib.ListN.{length, take, drop}
-use Rattle.d64spec.specs.Lists.{Bytes, byte, count, splice, zeros}
+use lib.ListN.{length}
+use Rattle.d64spec.specs.Lists.{Bytes, byte, count, zeros}
 use Rattle.d64spec.specs.Answers.{Address, address}
 use Rattle.d64spec.specs.Geometry.{layout35, sectorNumber, mapAddress}
 use Rattle.d64spec.specs.Image.{disk}
@@ -17,7 +17,7 @@ use Rattle.d64spec.specs.Scratch.{clearSectors}
 use Rattle.geometry.specs.Layout.{IsFirsts}
 use Rattle.parts.specs.Overwrites.{overwritten}
 use Rattle.mapentry.specs.MapEntry.{Entries}
-use Rattle.mapsector.specs.MapSector.{mapEntries, storedEntries}
+use Rattle.mapsector.specs.MapSector.{mapEntries}
 use Rattle.bamlaws.specs.Expected.{Expects, freeAfter}
 use Rattle.finding.specs.FileSlots.{CheckedSlots}
 use Rattle.reading.specs.ChainReads.{sectorsFrom, lastByteFrom, ChainFrom}

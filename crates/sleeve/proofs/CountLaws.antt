@@ -1,26 +1,26 @@
 -- The occupied slots, asked one by one and counted (01, Order of the check, 3; Sleeve listing).
 -- In order: the names below a slot; the invariant; one slot; the end. Assumes nothing.
-use Prim.Native.Nat.{ℕ, suc, _+_, _*_, _-_, _/_, _≤_, _<_}
+use Prim.Native.Nat.{ℕ, _+_, _-_, _/_, _≤_, _<_}
 use native.Mathlib.Omega.{arith}
 use native.Mathlib.Numerals.{add-one}
 use native.Mathlib.Decide.{ℕ-discrete}
-use mathlib.Core.Path.{_≡_, refl, sym, ap, ap₂, _∙_, subst}
+use mathlib.Core.Path.{_≡_, sym, ap, ap₂, _∙_, subst}
 use mathlib.Core.Bool.{Bool, true, false, not}
 use mathlib.Core.List.{List, [], _∷_}
 use lib.ListN.{length, getD}
 use lib.Dec.{eqb}
 use borrow.Author.Tests.{eqb-false, not-true}
 use Rattle.d64spec.specs.Lists.{Bytes}
-use Rattle.d64spec.specs.Answers.{address, Result, refused, done, _>>_, need, badType, badName, duplicateName}
-use Rattle.d64spec.specs.Directory.{Slot, isEmpty, entryByte, nameOf, validType, validName}
+use Rattle.d64spec.specs.Answers.{address, Result, done, _>>_, need, badType, badName, duplicateName}
+use Rattle.d64spec.specs.Directory.{isEmpty, entryByte, nameOf, validType, validName}
 use Rattle.d64spec.specs.Check.{checkEntry}
 use Rattle.d64spec.specs.Listing.{listSlots}
 use Rattle.d64spec.proofs.ResultLaws.{need-done, need-true}
-use Rattle.answers.specs.Faults.{faultOf, verdictOf, whereFine}
+use Rattle.answers.specs.Faults.{verdictOf, whereFine}
 use Rattle.answers.specs.declared.Fault.{Fault}
 use Rattle.answers.specs.declared.Verdict.the-variants.{Fine, Refused}
 use Rattle.directory.specs.Directories.{IsSlot, slotAt, slotBytes, namesBelow, firstRepeated, entryVerdict, occupiedFrom}
-use Rattle.directory.proofs.RepeatLaws.{ValidBelow, firstRepeated-le, past-empty}
+use Rattle.directory.proofs.RepeatLaws.{ValidBelow, past-empty}
 use Rattle.directory.proofs.EntryLaws.{entry-at}
 use Rattle.sleeve.specs.Texts.{SlotsCounted, countSlots}
 use Rattle.sleeve.proofs.OccupiedLaws.{occupied-empty, occupied-here, occupied-none}

@@ -4,12 +4,12 @@ use Prim.Native.Nat.{ℕ, _+_, _*_, _-_, _≤_, _<_}
 use native.Mathlib.Omega.{arith}
 use mathlib.Core.Path.{_≡_, refl, sym, ap, _∙_}
 use mathlib.Core.Bool.{Bool, true, false}
-use mathlib.Core.List.{List, [], _∷_, _++_}
+use mathlib.Core.List.{List, [], _++_}
 use lib.ListN.{length, take, drop, length-map, length-take}
-use lib.Dec.{eqb, leb}
+use lib.Dec.{eqb}
 use borrow.Author.Tests.{eqb-true, le-leb, lt-leb}
-use Rattle.d64spec.specs.Lists.{Bytes, All, splice}
-use Rattle.d64spec.specs.Answers.{Address, address, Result, refused, done, wrongSize, wrongBuffer, unplaced, answerOf, _>>=_, _>>_, need}
+use Rattle.d64spec.specs.Lists.{Bytes}
+use Rattle.d64spec.specs.Answers.{address, Result, refused, done, wrongSize, _>>=_, _>>_, need}
 use Rattle.d64spec.specs.Answers as answer
 use Rattle.d64spec.specs.Geometry.{layout35, sectorsOn}
 use Rattle.d64spec.specs.Directory.{Slot, occupiedIn}

@@ -1,12 +1,12 @@
 -- The lines of the occupied slots, written one behind the other. Assumes nothing.
-use Prim.Native.Nat.{ℕ, _+_, _*_, _-_, _≤_, _<_}
+use Prim.Native.Nat.{ℕ, _+_, _-_, _≤_, _<_}
 use native.Mathlib.Omega.{arith}
-use mathlib.Core.Path.{_≡_, refl, sym, ap, _∙_}
+use mathlib.Core.Path.{_≡_, sym, ap, _∙_}
 use mathlib.Core.Bool.{true, false}
-use mathlib.Core.List.{List, [], _∷_, _++_}
+use mathlib.Core.List.{List, _++_}
 use lib.ListN.{length, take, drop, length-append}
 use Rattle.d64spec.specs.Lists.{Bytes}
-use Rattle.d64spec.specs.Directory.{Slot, isEmpty}
+use Rattle.d64spec.specs.Directory.{isEmpty}
 use Rattle.d64spec.specs.Listing.{line, slotFrame}
 use Rattle.directory.specs.Directories.{IsSlot, slotAt, occupiedFrom}
 use Rattle.sleeve.specs.Texts.{RoomFor, linesOf}

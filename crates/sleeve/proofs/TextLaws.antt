@@ -1,11 +1,11 @@
 -- The whole text: how long it is, and its three pieces written one behind the other (01, Sleeve listing). Assumes nothing.
-use Prim.Native.Nat.{ℕ, _+_, _*_, _-_, _/_, _%_, _≤_, _<_}
+use Prim.Native.Nat.{ℕ, _+_, _*_, _-_, _/_, _%_}
 use native.Mathlib.Omega.{arith}
 use mathlib.Core.Path.{_≡_, refl, sym, ap, _∙_}
 use mathlib.Core.List.{List, [], _∷_, _++_, append-nil}
 use lib.ListN.{length, take, drop, length-append, length-take, length-drop}
 use Rattle.d64spec.specs.Lists.{Bytes}
-use Rattle.d64spec.specs.Geometry.{layout35, sectorNumber, mapAddress}
+use Rattle.d64spec.specs.Geometry.{layout35}
 use Rattle.d64spec.specs.Image.{disk}
 use Rattle.d64spec.specs.Directory.{Slot}
 use Rattle.d64spec.specs.Listing.{diskOfTrack18, freeTotal, headFrame, line, listingText}

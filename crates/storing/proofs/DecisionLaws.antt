@@ -3,10 +3,10 @@
 use Prim.Native.Nat.{ℕ, _-_, _≤_, _<_}
 use native.Mathlib.Omega.{arith}
 use native.Mathlib.Decide.{ℕ-discrete}
-use mathlib.Core.Path.{_≡_, refl, sym, ap, subst, _∙_}
-use mathlib.Core.Bool.{Bool, true, false}
+use mathlib.Core.Path.{_≡_, refl, sym, subst, _∙_}
+use mathlib.Core.Bool.{true, false}
 use mathlib.Core.List.{List, []}
-use lib.ListN.{length, take, drop, getD}
+use lib.ListN.{length, take, getD}
 use lib.Dec.{eqb}
 use borrow.Author.Tests.{eq-eqb, ne-eqb, eqb-true}
 use Rattle.d64spec.specs.Lists.{Bytes, byte}
@@ -27,10 +27,9 @@ use Rattle.answers.specs.declared.Verdict.the-variants.{Fine, Refused}
 use Rattle.answers.specs.declared.Report.{Report}
 use Rattle.answers.specs.Faults.{faultOf, replyOf}
 use Rattle.mapentry.specs.MapEntry.{Entries}
-use Rattle.mapsector.specs.MapSector.{mapEntries, allowsWriting}
+use Rattle.mapsector.specs.MapSector.{mapEntries}
 use Rattle.diskcheck.specs.declared.Checked.{Checked}
 use Rattle.diskcheck.specs.ImageChecks.{ImageChecked}
-use Rattle.diskcheck.proofs.TrackLaws.{map-lent}
 use Rattle.diskcheck.proofs.CheckedLaws.{fine-image}
 use Rattle.finding.specs.FileSlots.{slotNamed, CheckedSlots}
 use Rattle.finding.proofs.CheckedSlotLaws.{lentTrack18, checked-slots, name-free, name-used}

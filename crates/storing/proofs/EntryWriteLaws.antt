@@ -17,8 +17,6 @@ use Rattle.d64spec.specs.Format.{emptyDirectorySector}
 use Rattle.d64spec.specs.Store.{SlotPlace, inEmptySlot, inNewSector, newEntry, overwriteSlot, lastOf, growDirectory, writeSlot}
 use Rattle.d64spec.proofs.FormatLaws.{padded-length}
 use Rattle.d64spec.proofs.ImageLaws.{put-other}
-use Rattle.d64spec.proofs.InPlaceLaws.{splice-disk}
-use Rattle.d64spec.proofs.SpliceLaws.{length-splice}
 use Rattle.geometry.specs.Layout.{unpacked}
 use Rattle.sectors.specs.Sectors.{withSector}
 use Rattle.sectors.proofs.SectorLaws.{disk-withSector, length-withSector}
@@ -26,11 +24,8 @@ use Rattle.parts.specs.Overwrites.{overwritten}
 use Rattle.storing.specs.declared.room.EntryPlace.{EntryPlace}
 use Rattle.storing.specs.Plans.{PlaceIs}
 use Rattle.storing.specs.Writes.{grownDisk, entryDisk, GrowReady, Grown, EntryReady, EntryLaid}
-use Rattle.parts.proofs.OverwriteLaws.{lent-back, length-overwritten, disk-overwritten}
-use Rattle.mapentry.specs.MapEntry.{Entries}
-use Rattle.mapsector.specs.MapSector.{storedEntries}
+use Rattle.parts.proofs.OverwriteLaws.{length-overwritten, disk-overwritten}
 use Rattle.directory.proofs.Track18Laws.{number-18}
-use Rattle.diskcheck.proofs.TrackLaws.{map-lent}
 
 -- ---- the entry's bytes
 

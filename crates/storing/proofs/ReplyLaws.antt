@@ -1,24 +1,22 @@
 -- Replies to a store (01, Answer numbers; Store): what the definitions answer, refusal by refusal, and that the code's report says the same.
 -- In order: refusals in document 01's order; a store that is done; reports.
-use Prim.Native.Nat.{ℕ, _*_, _≤_, _<_}
-use native.Mathlib.Omega.{arith}
+use Prim.Native.Nat.{ℕ, _≤_, _<_}
 use mathlib.Core.Path.{_≡_}
 use mathlib.Core.Bool.{true, false}
 use mathlib.Core.List.{[]}
 use lib.ListN.{length}
 use lib.Dec.{eqb}
-use borrow.Author.Tests.{eq-eqb, ne-eqb, le-leb, lt-leb}
+use borrow.Author.Tests.{eq-eqb, le-leb, lt-leb}
 use Rattle.d64spec.specs.Lists.{Bytes}
-use Rattle.d64spec.specs.Answers.{Fault, Result, refused, done, wrongSize, badNameArgument, badKindArgument, writeForbidden, nameExists, directoryFull, diskFull}
-use Rattle.d64spec.specs.Geometry.{layout35, total}
+use Rattle.d64spec.specs.Answers.{Fault, refused, done, wrongSize, badNameArgument, badKindArgument, writeForbidden, nameExists, directoryFull, diskFull}
+use Rattle.d64spec.specs.Geometry.{layout35}
 use Rattle.d64spec.specs.Image.{disk}
 use Rattle.d64spec.specs.Directory.{files}
 use Rattle.d64spec.specs.Owner.{freeForFiles}
-use Rattle.d64spec.specs.Check.{DirectoryContents, rightSize, checkDisk, checkImage}
+use Rattle.d64spec.specs.Check.{DirectoryContents, checkImage}
 use Rattle.d64spec.specs.Reply.{reply, validNameArgument, validKind, writable, filesNamed}
 use Rattle.d64spec.specs.Store.{SlotPlace, slotPlaceFor, sectorsNeeded, storeChange, callStore}
 use Rattle.d64spec.specs.Call.{store, perform, attempt, outputBuffer}
-use Rattle.d64spec.proofs.RunTheorem.{sectors35}
 use Rattle.answers.specs.declared.Fault as code
 use Rattle.answers.specs.declared.Verdict.the-variants.{Fine, Refused}
 use Rattle.answers.specs.declared.Report.{Report}

@@ -8,13 +8,12 @@ use mathlib.Core.List.{List, [], _∷_, _++_, map}
 use lib.ListN.{length}
 use Rattle.d64spec.specs.Lists.{Bytes, All, splice, zeros}
 use Rattle.d64spec.specs.Answers.{Address, address}
-use Rattle.d64spec.specs.Geometry.{layout35, onDisk, sectorNumber, mapAddress}
+use Rattle.d64spec.specs.Geometry.{layout35, onDisk, sectorNumber}
 use Rattle.d64spec.specs.Image.{Disk, disk, put}
 use Rattle.d64spec.specs.Format.{emptyDirectorySector}
 use Rattle.d64spec.specs.Store.{writeChain, overwriteSlot}
 use Rattle.geometry.specs.Layout.{unpacked, IsFirsts}
 use Rattle.mapentry.specs.MapEntry.{Entries}
-use Rattle.mapsector.specs.MapSector.{storedEntries}
 use Rattle.bam.specs.Bam.{movedMark, movedMarks}
 use Rattle.storing.specs.declared.room.EntryPlace.{EntryPlace}
 

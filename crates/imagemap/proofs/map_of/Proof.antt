@@ -1,5 +1,4 @@
 -- `imagemap::map_of` meets its contract: the part lent is 18/0. Assumes nothing.
-use Prim.Native.Nat.{ℕ}
 use mathlib.Core.Path.{ap, sym, _∙_}
 use Rattle.d64spec.specs.Image.{disk}
 use Rattle.mapsector.specs.MapSector.{mapEntries}

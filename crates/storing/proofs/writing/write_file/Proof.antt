@@ -6,7 +6,7 @@ use lib.ListN.{length}
 use Rattle.d64spec.proofs.EntryLaws.{kind-small, entry-length}
 use Rattle.d64spec.proofs.FormatLaws.{name-short}
 use Rattle.geometry.proofs.LentTableLaws.{firsts35}
-use Rattle.storing.proofs.WriteReadyLaws.{places-some, places-few, size35, chain-ready, entry-ready}
+use Rattle.storing.proofs.WriteReadyLaws.{places-some, places-few, chain-ready, entry-ready}
 use Rattle.storing.proofs.FileWriteLaws.{file-written}
 use borrow.Author.Needs.{needs}
 use Rattle.storing.proofs.writing.write_file.Statement.{statement}
