@@ -1,4 +1,4 @@
--- The search for the first repeated name field, in one pass over the slots (src/repeats.rt, `first_repeated`): its invariant and what each turn keeps.
+-- The search for the first repeated name field, in one pass over the slots (src/repeats.rt): its invariant and what each turn keeps.
 -- In order: the hash's bound; sectors of track 18; what the loop keeps; at the start; at slot k; at the end. Assumes nothing.
 use mathlib.Core.Path.{_≡_, refl, sym, ap, ap₂, _∙_}
 use mathlib.Core.Bool.{Bool, true, false, _&&_, _||_, or-true, or-false}
@@ -29,27 +29,30 @@ sector-lt [] all i = omega arith
 sector-lt (s ∷ ss) all zero = all .0
 sector-lt (s ∷ ss) all (suc i) = sector-lt ss (all .1) i
 
--- The first n pairs are the words of the name fields of the occupied slots below k; their hashes are seen; and none of these slots repeats one.
-pub record Searching (b : Bytes) (ss : List ℕ) (end : ℕ) (seen xs ys : List ℕ) (n k : ℕ) : Type 0 where
+-- The first n pairs are the words of the name fields of the occupied slots below k; their hashes are seen, where the table has a place for them; and
+-- none of these slots repeats one.
+pub record Searching (b : Bytes) (ss : List ℕ) (end size room : ℕ) (seen xs ys : List ℕ) (n k : ℕ) : Type 0 where
   pub within : k ≤ end
   pub few : n ≤ k
-  pub table : length seen ≡ 4096
-  pub firsts : length xs ≡ 144
-  pub seconds : length ys ≡ 144
+  pub table : length seen ≡ size
+  pub fits : end ≤ room
+  pub firsts : length xs ≡ room
+  pub seconds : length ys ≡ room
   pub held : (s : Bytes) → Thirty s → holdsPair xs ys n (wordOf s 3) (wordOf s 11) ≡ ltb 0 (nameCount (nameField s) (fieldsBelow b ss k))
-  pub noted : (x y : ℕ) → holdsPair xs ys n x y ≡ true → 1 ≤ getD seen (hashOf x y) 0
+  pub noted : (x y : ℕ) → holdsPair xs ys n x y ≡ true → hashOf x y < size → 1 ≤ getD seen (hashOf x y) 0
   pub first : firstRepeated b ss k (end - k) ≡ firstRepeated b ss 0 end
 
 -- before the first slot
-pub searching-start : (b : Bytes) (ss : List ℕ) (end : ℕ) → Searching b ss end (zeros 4096) (zeros 144) (zeros 144) 0 0
-searching-start b ss end = record {
+pub searching-start : (b : Bytes) (ss : List ℕ) (end : ℕ) {size room : ℕ} (seen xs ys : List ℕ) → length seen ≡ size → end ≤ room → length xs ≡ room → length ys ≡ room → Searching b ss end size room seen xs ys 0 0
+searching-start b ss end seen xs ys table fits hx hy = record {
   within = omega arith;
   few = omega arith;
-  table = length-replicate {A = ℕ} 4096 0;
-  firsts = length-replicate {A = ℕ} 144 0;
-  seconds = length-replicate {A = ℕ} 144 0;
+  table = table;
+  fits = fits;
+  firsts = hx;
+  seconds = hy;
   held = λ s thirty. refl;
-  noted = λ x y h. absurd (let z : _≡_ {A = ℕ} 0 1 = cc in omega arith);
+  noted = λ x y h l. absurd (let z : _≡_ {A = ℕ} 0 1 = cc in omega arith);
   first = let z : end - 0 ≡ end = omega arith in rw z;
 }
 
@@ -66,20 +69,21 @@ one-more true c = or-true (ltb 0 c) ∙ sym (lt-ltb 0 (1 + c) (omega arith))
 one-more false c = let z : 0 + c ≡ c = omega arith in or-false (ltb 0 c) ∙ ap (ltb 0) (sym z)
 
 -- the hash of a pair that is held, or is the one noted now, is seen
-seen-noted : (seen : List ℕ) (a c x y : ℕ) (t : Bool) → length seen ≡ 4096 → (t ≡ true → 1 ≤ getD seen (hashOf x y) 0)
+seen-noted : (seen : List ℕ) (a c x y : ℕ) (t : Bool) → hashOf x y < length seen → (t ≡ true → 1 ≤ getD seen (hashOf x y) 0)
     → (t || (eqb x a && eqb y c)) ≡ true → 1 ≤ getD (set seen (hashOf a c) 1) (hashOf x y) 0
-seen-noted seen a c x y true table noted h = elim (ℕ-discrete (hashOf x y) (hashOf a c)) [
-  | yes same ↦ rw same (rw (getD-set-same seen (hashOf a c) 1 0 (omega (arith, hash-lt a c))) (omega arith))
+seen-noted seen a c x y true inside noted h = elim (ℕ-discrete (hashOf x y) (hashOf a c)) [
+  | yes same ↦ rw same (rw (getD-set-same seen (hashOf a c) 1 0 (omega (arith, same))) (omega arith))
   | no other ↦ rw (getD-set-other seen (hashOf a c) (hashOf x y) 1 0 other) (noted refl)
 ]
-seen-noted seen a c x y false table noted h =
+seen-noted seen a c x y false inside noted h =
     let same = and-true (eqb x a) (eqb y c) h in
-    rw (eqb-true x a (same .0), eqb-true y c (same .1), getD-set-same seen (hashOf a c) 1 0 (omega (arith, hash-lt a c))) (omega arith)
+    let there : hashOf a c < length seen = rw (eqb-true x a (same .0), eqb-true y c (same .1)) at inside in
+    rw (eqb-true x a (same .0), eqb-true y c (same .1), getD-set-same seen (hashOf a c) 1 0 there) (omega arith)
 
 -- at slot k, whose bytes are s
-module _ {b : Bytes} {ss : List ℕ} {end : ℕ} {seen xs ys : List ℕ} {n k : ℕ} (inv : Searching b ss end seen xs ys n k) (more : k < end) (s : Bytes) (thirty : Thirty s) (here : s ≡ slotBytes b ss k) where
+module _ {b : Bytes} {ss : List ℕ} {end size room : ℕ} {seen xs ys : List ℕ} {n k : ℕ} (inv : Searching b ss end size room seen xs ys n k) (more : k < end) (s : Bytes) (thirty : Thirty s) (here : s ≡ slotBytes b ss k) where
   -- an empty slot is passed
-  pub searching-empty : getD s 0 0 ≡ 0 → Searching b ss end seen xs ys n (k + 1)
+  pub searching-empty : getD s 0 0 ≡ 0 → Searching b ss end size room seen xs ys n (k + 1)
   unfolding repeats
   searching-empty none =
       let empty : isEmpty (slotBytes b ss k) ≡ true = rw here at (eq-eqb (getD s 0 0) 0 none) in
@@ -87,6 +91,7 @@ module _ {b : Bytes} {ss : List ℕ} {end : ℕ} {seen xs ys : List ℕ} {n k : 
         within = omega arith;
         few = omega (arith, inv .few);
         table = inv .table;
+        fits = inv .fits;
         firsts = inv .firsts;
         seconds = inv .seconds;
         held = λ t other. rw (add-one, empty) (inv .held t other);
@@ -110,14 +115,15 @@ module _ {b : Bytes} {ss : List ℕ} {end : ℕ} {seen xs ys : List ℕ} {n k : 
     searching-found held = sym (sym (inv .first) ∙ first-here b ss end k more (repeats-held ∙ held))
 
     -- one more name field
-    pub searching-new : (h : ℕ) → h ≡ hashOf x y → end ≤ 144 → holdsPair xs ys n x y ≡ false → Searching b ss end (set seen h 1) (set xs n x) (set ys n y) (n + 1) (k + 1)
-    searching-new h hashed room new =
-        let room-x : n < length xs = omega (arith, inv .few, inv .firsts) in
-        let room-y : n < length ys = omega (arith, inv .few, inv .seconds) in
+    pub searching-new : (h : ℕ) → h ≡ hashOf x y → holdsPair xs ys n x y ≡ false → Searching b ss end size room (set seen h 1) (set xs n x) (set ys n y) (n + 1) (k + 1)
+    searching-new h hashed new =
+        let room-x : n < length xs = omega (arith, inv .few, inv .fits, inv .firsts) in
+        let room-y : n < length ys = omega (arith, inv .few, inv .fits, inv .seconds) in
         record {
           within = omega arith;
           few = omega (arith, inv .few);
           table = length-set seen h 1 ∙ inv .table;
+          fits = inv .fits;
           firsts = length-set xs n x ∙ inv .firsts;
           seconds = length-set ys n y ∙ inv .seconds;
           held = λ t other.
@@ -125,17 +131,19 @@ module _ {b : Bytes} {ss : List ℕ} {end : ℕ} {seen xs ys : List ℕ} {n k : 
               ∙ ap₂ _||_ (inv .held t other) (rw (low, high) (equal-words t s other thirty))
               ∙ one-more (equal (nameField t) (nameField s)) (nameCount (nameField t) (fieldsBelow b ss k))
               ∙ rw (add-one, occupied) (ap (λ (u : Bytes). ltb 0 (indicator (equal (nameField t) (nameField u)) + nameCount (nameField t) (fieldsBelow b ss k))) here);
-          noted = λ v w e. rw hashed (seen-noted seen x y v w (holdsPair xs ys n v w) (inv .table) (inv .noted v w) (sym (holds-add xs ys n x y v w room-x room-y) ∙ e));
+          noted = λ v w e l.
+              let inside : hashOf v w < length seen = omega (arith, inv .table) in
+              rw hashed (seen-noted seen x y v w (holdsPair xs ys n v w) inside (λ t. inv .noted v w t l) (sym (holds-add xs ys n x y v w room-x room-y) ∙ e));
           first = sym (first-next b ss end k more (repeats-held ∙ new)) ∙ inv .first;
         }
 
-module _ {b : Bytes} {ss : List ℕ} {end : ℕ} {seen xs ys : List ℕ} {n k : ℕ} (inv : Searching b ss end seen xs ys n k) where
+module _ {b : Bytes} {ss : List ℕ} {end size room : ℕ} {seen xs ys : List ℕ} {n k : ℕ} (inv : Searching b ss end size room seen xs ys n k) where
   -- a pair whose hash is new is new
-  pub new-hash : (x y h : ℕ) → h ≡ hashOf x y → getD seen h 0 ≡ 0 → holdsPair xs ys n x y ≡ false
-  new-hash x y h hashed none = go (holdsPair xs ys n x y) refl
+  pub new-hash : (x y h : ℕ) → h ≡ hashOf x y → h < size → getD seen h 0 ≡ 0 → holdsPair xs ys n x y ≡ false
+  new-hash x y h hashed inside none = go (holdsPair xs ys n x y) refl
     where
       go : (t : Bool) → holdsPair xs ys n x y ≡ t → t ≡ false
-      go true e = let seen-here : getD seen (hashOf x y) 0 ≡ 0 = rw hashed at none in absurd (omega (arith, inv .noted x y e))
+      go true e = let seen-here : getD seen (hashOf x y) 0 ≡ 0 = rw hashed at none in absurd (omega (arith, inv .noted x y e (rw hashed at inside)))
       go false e = refl
 
   -- behind the last slot

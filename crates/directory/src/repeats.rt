@@ -1,6 +1,6 @@
 // The first slot whose name field an earlier slot has too, in one pass (01, Order of the check, 3: name used by an earlier slot).
-// A name field is held as two 64-bit numbers, and a table of hashes is asked before names are compared: equal names have equal
-// hashes, so that where the hash is new the name is new.
+// A name field is held as two 64-bit numbers. Where there are more slots than one sector has, a table of hashes is asked before names are compared:
+// equal names have equal hashes, so that where the hash is new the name is new.
 ghost use mathlib.Core.Path.{_≡_};
 ghost use Prim.Native.Nat.{_≤_, _+_, _<_};
 ghost use lib.ListN.{length};
@@ -25,8 +25,8 @@ fn hash(x: u64, y: u64) -> usize
 }
 
 // Whether one of the first n names is this one.
-fn among(xs: &[u64; 144], ys: &[u64; 144], n: usize, x: u64, y: u64) -> bool
-    requires { ⌜ n ≤ 144 ⌝ }
+fn among(xs: &[u64], ys: &[u64], n: usize, x: u64, y: u64) -> bool
+    requires { ⌜ (n ≤ length (now xs)) × (n ≤ length (now ys)) ⌝ }
     ensures { λ r. ⌜ r ≡ holdsPair (now (xs .entry)) (now (ys .entry)) n x y ⌝ }
 {
     let mut i: usize = 0;
@@ -41,8 +41,35 @@ fn among(xs: &[u64; 144], ys: &[u64; 144], n: usize, x: u64, y: u64) -> bool
     false
 }
 
-// The first of the slots 0 to end - 1 that repeats the name field of an earlier one, or `end` where none does.
-pub(crate) fn first_repeated(track18: &[u8], sectors: &[u8; 18], end: usize) -> usize
+// The first of at most eight slots, 0 to end - 1, that repeats the name field of an earlier one, or `end` where none does: each name is compared with
+// those before it, and no table of hashes is cleared for them.
+fn first_of_eight(track18: &[u8], sectors: &[u8; 18], end: usize) -> usize
+    requires { ⌜ (length (now track18) ≡ 4864) × (end ≤ 8) × All (λ s. s < 19) (now sectors) ⌝ }
+    ensures { λ r. ⌜ r ≡ firstRepeated (now (track18 .entry)) (now (sectors .entry)) 0 end ⌝ }
+{
+    let mut xs = [0u64; 8];
+    let mut ys = [0u64; 8];
+    let mut n: usize = 0;
+    let mut k: usize = 0;
+    while k < end {
+        let slot = crate::slot_at(track18, sectors, k);
+        if slot[0] != 0 {
+            let x = word(slot, 3);
+            let y = word(slot, 11);
+            if among(&xs, &ys, n, x, y) {
+                return k;
+            }
+            xs[n] = x;
+            ys[n] = y;
+            n += 1;
+        }
+        k += 1;
+    }
+    k
+}
+
+// The same for any number of slots, with a table of hashes.
+fn first_of_many(track18: &[u8], sectors: &[u8; 18], end: usize) -> usize
     requires { ⌜ (length (now track18) ≡ 4864) × (end ≤ 144) × All (λ s. s < 19) (now sectors) ⌝ }
     ensures { λ r. ⌜ r ≡ firstRepeated (now (track18 .entry)) (now (sectors .entry)) 0 end ⌝ }
 {
@@ -70,4 +97,15 @@ pub(crate) fn first_repeated(track18: &[u8], sectors: &[u8; 18], end: usize) -> 
         k += 1;
     }
     k
+}
+
+// The same: in one directory sector, as on most disks, without the table.
+pub(crate) fn first_repeated(track18: &[u8], sectors: &[u8; 18], end: usize) -> usize
+    requires { ⌜ (length (now track18) ≡ 4864) × (end ≤ 144) × All (λ s. s < 19) (now sectors) ⌝ }
+    ensures { λ r. ⌜ r ≡ firstRepeated (now (track18 .entry)) (now (sectors .entry)) 0 end ⌝ }
+{
+    if end <= 8 {
+        return first_of_eight(track18, sectors, end);
+    }
+    first_of_many(track18, sectors, end)
 }

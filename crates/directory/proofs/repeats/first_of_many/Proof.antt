@@ -1,20 +1,21 @@
--- `directory::repeats::first_repeated` meets its contract. The loop keeps `Searching`: the pairs held are the names passed, their hashes are seen, and none of
+-- `directory::repeats::first_of_many` meets its contract. The loop keeps `Searching`: the pairs held are the names passed, their hashes are seen, and none of
 -- them repeats an earlier one. What falls is the number of slots left. Assumes nothing.
 use mathlib.Core.Path.{_≡_, sym, _∙_}
 use mathlib.Core.Bool.{false}
 use mathlib.Core.Logic.{inl, inr}
-use Prim.Native.Nat.{_-_, _/_, _<_}
+use lib.ListN.{length-replicate}
+use Prim.Native.Nat.{ℕ, _-_, _/_, _<_}
 use native.Mathlib.Omega.{arith}
 use borrow.Author.Count.{falls}
 use borrow.Author.Needs.{needs}
 use Rattle.directory.specs.NameWords.{holdsPair}
 use Rattle.directory.proofs.WordLaws.{Thirty}
 use Rattle.directory.proofs.SearchLaws.{Searching, hash-lt, sector-lt, searching-start, searching-empty, searching-found, searching-new, searching-end, new-hash}
-use Rattle.directory.proofs.repeats.first_repeated.Statement.{statement}
-use Rattle.directory.proofs.repeats.first_repeated.Tie as tie
+use Rattle.directory.proofs.repeats.first_of_many.Statement.{statement}
+use Rattle.directory.proofs.repeats.first_of_many.Tie as tie
 
 abbrev Inv-loop : tie.InvT-loop
-Inv-loop track18 sectors end seen₀ xs₀ ys₀ n₀ k₀ seen xs ys n k = Searching track18 sectors end seen xs ys n k
+Inv-loop track18 sectors end seen₀ xs₀ ys₀ n₀ k₀ seen xs ys n k = Searching track18 sectors end 4096 144 seen xs ys n k
 
 abbrev μ-loop : tie.MeasureT-loop
 μ-loop track18 sectors end seen₀ xs₀ ys₀ n₀ k₀ seen xs ys n k = end - k
@@ -39,7 +40,7 @@ new c =
     let l = h .before .before .before .before .before .before .before in
     elim (c .if2 .came) [
       | inl asked ↦ sym (asked .3 .ensures) ∙ asked .4 .left
-      | inr left ↦ new-hash (l .loop .inv) _ _ _ (h .hash .ensures) (left .left)
+      | inr left ↦ new-hash (l .loop .inv) _ _ _ (h .hash .ensures) (omega (arith, h .hash .ensures, hash-lt (h .before .before .word .result) (h .before .word2 .result))) (left .left)
     ]
 
 -- there is room for one more pair
@@ -49,7 +50,7 @@ room c =
     omega (arith, l .loop .inv .few, c .before .before .before .before .before .before .before .loop-test .taken, l .before .before .pre .1)
 
 loop-holds : tie.Need-loop-holds Inv-loop μ-loop
-loop-holds c = searching-start _ _ _
+loop-holds c = searching-start _ _ _ _ _ _ (length-replicate {A = ℕ} 4096 0) (omega (arith, c .before .pre .1)) (length-replicate {A = ℕ} 144 0) (length-replicate {A = ℕ} 144 0)
 
 slot-at-requires : tie.Need-slot-at-requires Inv-loop μ-loop
 slot-at-requires c κs = search needs
@@ -69,10 +70,16 @@ hash-requires c κs = search needs
 array-read-if2 : tie.Need-array-read-if2 Inv-loop μ-loop
 array-read-if2 c = omega (arith, c .hash .ensures, hash-lt (c .before .before .word .result) (c .before .word2 .result))
 
+slice-aggregate-among : tie.Need-slice-aggregate-among Inv-loop μ-loop
+slice-aggregate-among c = search needs
+
+slice-aggregate-among-2 : tie.Need-slice-aggregate-among-2 Inv-loop μ-loop
+slice-aggregate-among-2 c = search needs
+
 among-requires : tie.Need-among-requires Inv-loop μ-loop
 among-requires c κs =
     let l = c .before .before .before .before .before .before .before .before .before .before in
-    omega (arith, l .loop .inv .few, l .loop .inv .within, l .before .before .pre .1)
+    (omega (arith, l .loop .inv .few, l .loop .inv .within, l .loop .inv .fits, l .loop .inv .firsts), omega (arith, l .loop .inv .few, l .loop .inv .within, l .loop .inv .fits, l .loop .inv .seconds))
 
 returns : tie.Need-returns Inv-loop μ-loop
 returns c =
@@ -109,12 +116,11 @@ loop-less c = falls _ _ (c .before .before .before .loop-test .taken)
 loop-again : tie.Need-loop-again Inv-loop μ-loop
 loop-again c =
     let l = c .before .before .before .before in
-    let p = l .before .before in
     elim (c .if1 .came) [
       | inl met ↦
           let fresh = new (record { before = record { before = record { before = record { before = record { before = c .before; if1 = met .0 }; word = met .1 }; word2 = met .2 }; hash = met .3 }; if2 = met .4 }) in
           rw (met .5, met .6, met .7, met .8)
-          (searching-new (l .loop .inv) (omega arith) _ (thirty (c .before)) (c .before .before .slot-at .ensures .bytes) (met .0 .taken) _ _ (met .1 .ensures) (met .2 .ensures) _ (met .3 .ensures) (p .pre .1) fresh)
+          (searching-new (l .loop .inv) (omega arith) _ (thirty (c .before)) (c .before .before .slot-at .ensures .bytes) (met .0 .taken) _ _ (met .1 .ensures) (met .2 .ensures) _ (met .3 .ensures) fresh)
       | inr left ↦
           rw (left .1, left .2, left .3, left .4)
           (searching-empty (l .loop .inv) (omega arith) _ (thirty (c .before)) (c .before .before .slot-at .ensures .bytes) (left .0 .left))
@@ -123,8 +129,8 @@ loop-again c =
 returns-2 : tie.Need-returns-2 Inv-loop μ-loop
 returns-2 c = searching-end (c .before .loop .inv) (omega arith)
 
-pub first-repeated-spec : {M : Type 1} → statement M
-first-repeated-spec =
+pub first-of-many-spec : {M : Type 1} → statement M
+first-of-many-spec =
     tie.close
     (tie.spec
     Inv-loop
@@ -136,6 +142,8 @@ first-repeated-spec =
     word-requires-2
     hash-requires
     array-read-if2
+    slice-aggregate-among
+    slice-aggregate-among-2
     among-requires
     returns
     array-write-seen
