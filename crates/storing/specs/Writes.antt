@@ -1,5 +1,5 @@
 -- What a store writes, part by part (01, Store): each part's bytes, what it may rely on, and what it leaves.
--- In order: the two kinds of sector of a chain; one sector; a chain; the directory grown; an entry at its place; the map.
+-- In order: the two kinds of sector of a chain; one sector; a chain; the directory grown; an entry at its place. The map in its sector: crate imagemap.
 -- Laws: proofs/SectorWriteLaws, ChainWriteLaws, EntryWriteLaws; WriteReadyLaws and FileWriteLaws for the whole.
 use Prim.Native.Nat.{ℕ, suc, _+_, _-_, _*_, _≤_, _<_}
 use mathlib.Core.Path.{_≡_}
