@@ -1,0 +1,50 @@
+#include "image.h"
+#include <string.h>
+
+static int read_image(struct image *image)
+{
+    int status = read_file(image->path, image->bytes, sizeof image->bytes, &image->length);
+
+    memcpy(image->on_file, image->bytes, image->length);
+    return status;
+}
+
+int image_open(struct image *image, const char *path, bool for_change, bool may_be_new)
+{
+    bool is_file = for_change && !is_stream(path);
+    int status = 0;
+
+    image->path = path;
+    image->for_change = for_change;
+    if (is_file)
+        status = replacement_begin(&image->file, path);
+    if (status != 0)
+        return status;
+    image->is_new = may_be_new && (is_stream(path) || (is_file && image->file.is_new));
+    if (image->is_new) {
+        image->length = D64_IMAGE_BYTES;
+        return 0;
+    }
+    status = read_image(image);
+    if (status != 0 && is_file)
+        replacement_abandon(&image->file);
+    return status;
+}
+
+int image_save(struct image *image)
+{
+    bool changed = image->is_new || memcmp(image->bytes, image->on_file, image->length) != 0;
+
+    if (image->for_change && is_stream(image->path))
+        return write_stream(image->bytes, image->length);
+    if (image->for_change && changed)
+        return replacement_commit(&image->file, image->bytes, image->length);
+    image_drop(image);
+    return 0;
+}
+
+void image_drop(struct image *image)
+{
+    if (image->for_change && !is_stream(image->path))
+        replacement_abandon(&image->file);
+}

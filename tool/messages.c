@@ -1,0 +1,167 @@
+#include "messages.h"
+#include <errno.h>
+#include <stdarg.h>
+#include <stdio.h>
+#include <string.h>
+#include <unistd.h>
+
+static bool quiet, progress_shown;
+static unsigned current_line;
+
+/* What the place of an answer names. */
+enum place { NO_PLACE, SIZE, LINK, ENTRY, MAP };
+
+static const struct {
+    const char *meaning;
+    enum place place;
+} answers[] = {
+    [D64_WRONG_SIZE] = {"wrong size", SIZE},
+    [D64_BAD_LINK] = {"bad link", LINK},
+    [D64_OWNED] = {"sector already owned", LINK},
+    [D64_WRONG_KIND] = {"kind or flags not carried", ENTRY},
+    [D64_WRONG_NAME] = {"name on disk breaks the rule", ENTRY},
+    [D64_SAME_NAME] = {"name already on disk in an earlier slot", ENTRY},
+    [D64_WRONG_COUNT] = {"sector count wrong", ENTRY},
+    [D64_WRONG_MAP] = {"map entry wrong", MAP},
+    [D64_BAD_NAME] = {"name asked for is empty, has over 16 bytes, or holds \\xA0", NO_PLACE},
+    [D64_BAD_KIND] = {"kind asked for is not 1 (SEQ), 2 (PRG) or 3 (USR)", NO_PLACE},
+    [D64_READ_ONLY] = {"DOS version forbids writing", NO_PLACE},
+    [D64_NAME_TAKEN] = {"name is there already", NO_PLACE},
+    [D64_NOT_FOUND] = {"name is not there", NO_PLACE},
+    [D64_DIRECTORY_FULL] = {"directory full: no empty slot and no free sector on track 18", NO_PLACE},
+    [D64_DISK_FULL] = {"disk full: more sectors needed than are free off track 18", NO_PLACE},
+    [D64_SHORT] = {"output buffer too short", NO_PLACE},
+};
+
+struct answer answer_of(uint32_t number, const uint8_t block[D64_BLOCK_BYTES], size_t image_length)
+{
+    struct answer answer = {
+        .number = number,
+        .track = block[0],
+        .sector = block[1],
+        .slot = block[2],
+        .length = block[3] | (uint32_t)block[4] << 8 | (uint32_t)block[5] << 16 | (uint32_t)block[6] << 24,
+        .sectors = block[7] | (uint32_t)block[8] << 8,
+        .image_length = image_length,
+    };
+
+    return answer;
+}
+
+void keep_quiet(void)
+{
+    quiet = true;
+}
+
+void set_line(unsigned line)
+{
+    current_line = line;
+}
+
+void end_progress(void)
+{
+    if (progress_shown)
+        fputs("\r\033[K", stderr);
+    progress_shown = false;
+}
+
+static void begin_line(const char *otherwise)
+{
+    end_progress();
+    if (current_line != 0)
+        fprintf(stderr, "line %u: ", current_line);
+    else
+        fputs(otherwise, stderr);
+}
+
+/* One line, whatever is in the names and paths: control characters could be orders to a terminal. */
+static void print_line(const char *format, va_list arguments)
+{
+    char text[8192];
+    int length = vsnprintf(text, sizeof text, format, arguments);
+
+    for (char *c = text; length >= 0 && *c != '\0'; c++)
+        if ((unsigned char)*c < ' ' || *c == 0x7F)
+            *c = '?';
+    fprintf(stderr, "%s\n", length >= 0 ? text : format);
+}
+
+int fail(enum status status, const char *format, ...)
+{
+    va_list arguments;
+
+    begin_line("d64: ");
+    va_start(arguments, format);
+    print_line(format, arguments);
+    va_end(arguments);
+    return status;
+}
+
+int fail_file(enum status status, const char *what, const char *path)
+{
+    return fail(status, "cannot %s %s: %s", what, path, strerror(errno));
+}
+
+static void print_size(const struct answer *answer)
+{
+    size_t length = answer->image_length;
+
+    fprintf(stderr, "; an image has %u,%03u bytes, this one has ", D64_IMAGE_BYTES / 1000, D64_IMAGE_BYTES % 1000);
+    if (length > D64_IMAGE_BYTES)
+        fputs("more", stderr);
+    else if (length < 1000)
+        fprintf(stderr, "%zu", length);
+    else
+        fprintf(stderr, "%zu,%03zu", length / 1000, length % 1000);
+}
+
+static void print_place(enum place place, const struct answer *answer)
+{
+    if (place == SIZE)
+        print_size(answer);
+    if (place == LINK)
+        fprintf(stderr, "; the link is in track %u sector %u, ", answer->track, answer->sector);
+    if (place == LINK && answer->slot == 255)
+        fputs("in the directory", stderr);
+    if (place == LINK && answer->slot != 255)
+        fprintf(stderr, "file in slot %u", answer->slot);
+    if (place == ENTRY)
+        fprintf(stderr, "; the entry is in track %u sector %u, slot %u", answer->track, answer->sector, answer->slot);
+    if (place == MAP)
+        fprintf(stderr, "; the map's entry for track %u", answer->track);
+    if (place == MAP && answer->sector != 255)
+        fprintf(stderr, ", sector %u", answer->sector);
+}
+
+int refuse(const struct answer *answer)
+{
+    begin_line("");
+    fprintf(stderr, "refused, %u", (unsigned)answer->number);
+    if (answer->number < sizeof answers / sizeof answers[0]) {
+        fprintf(stderr, ": %s", answers[answer->number].meaning);
+        print_place(answers[answer->number].place, answer);
+    }
+    fputc('\n', stderr);
+    return (int)answer->number;
+}
+
+void say(const char *format, ...)
+{
+    va_list arguments;
+
+    if (quiet)
+        return;
+    end_progress();
+    va_start(arguments, format);
+    print_line(format, arguments);
+    va_end(arguments);
+}
+
+void show_progress(size_t job, size_t jobs, const char *what, const char *name)
+{
+    if (quiet || !isatty(STDERR_FILENO))
+        return;
+    fprintf(stderr, "\r\033[K[%zu/%zu] %s %s", job, jobs, what, name);
+    fflush(stderr);
+    progress_shown = true;
+}

@@ -1,0 +1,225 @@
+#include "run.h"
+#include "directory.h"
+#include "image.h"
+#include "messages.h"
+#include <stdio.h>
+#include <string.h>
+
+static struct image image;
+static uint8_t data[D64_IMAGE_BYTES]; /* no disk takes so much: a file that is cut here is refused */
+static uint8_t piped[D64_IMAGE_BYTES];
+static uint8_t output[D64_IMAGE_BYTES];
+static size_t piped_length;
+
+static const char *image_name(void)
+{
+    return is_stream(image.path) ? "the image" : image.path;
+}
+
+static bool any_changes(const struct job_list *list)
+{
+    for (size_t i = 0; i < list->count; i++)
+        if (list->jobs[i].command->changes_image)
+            return true;
+    return false;
+}
+
+static bool starts_new(const struct job_list *list)
+{
+    return list->count > 0 && list->jobs[0].command->verb == FORMAT;
+}
+
+/* Standard input and output have one use each, and no file is read over its own image. */
+static int check_paths(const struct job_list *list, const char *image_path)
+{
+    bool image_is_stream = is_stream(image_path);
+    bool input_used = list->from_stream || (image_is_stream && !starts_new(list));
+    bool output_used = image_is_stream && any_changes(list);
+    int status = 0;
+
+    for (size_t i = 0; status == 0 && i < list->count; i++) {
+        const struct job *job = &list->jobs[i];
+        bool stream = job->file != NULL && is_stream(job->file);
+
+        set_line(job->line);
+        if (job->command->verb == STORE && stream) {
+            if (input_used)
+                status = fail(STATUS_USAGE, "standard input is asked for twice");
+            input_used = true;
+        }
+        if (job->command->verb == READ && stream && output_used)
+            status = fail(STATUS_USAGE, "standard output is for the changed image");
+        if (job->command->verb == READ && same_file(job->file, image_path))
+            status = fail(STATUS_USAGE, "%s is the image itself", job->file);
+    }
+    set_line(0);
+    return status;
+}
+
+/* What comes from a pipe is read before the image is locked: it may take long. */
+static int read_piped(const struct job_list *list)
+{
+    for (size_t i = 0; i < list->count; i++)
+        if (list->jobs[i].command->verb == STORE && is_stream(list->jobs[i].file))
+            return read_file("-", piped, sizeof piped, &piped_length);
+    return 0;
+}
+
+static int store(const struct job *job, struct answer *answer)
+{
+    bool from_pipe = is_stream(job->file);
+    size_t length = piped_length;
+    uint8_t block[D64_BLOCK_BYTES];
+    int status = from_pipe ? 0 : read_file(job->file, data, sizeof data, &length);
+
+    if (status == 0)
+        *answer = answer_of(d64_store(image.bytes, image.length, job->name.bytes, job->name.length, job->kind,
+                                      from_pipe ? piped : data, length, block, sizeof block), block, image.length);
+    return status;
+}
+
+static int read_to_file(const struct job *job, struct answer *answer)
+{
+    uint8_t block[D64_BLOCK_BYTES];
+    uint32_t number = d64_read(image.bytes, image.length, job->name.bytes, job->name.length, output, sizeof output, block, sizeof block);
+
+    *answer = answer_of(number, block, image.length);
+    return number == D64_DONE ? write_file(job->file, output, answer->length) : 0;
+}
+
+/* Asks the library. The status is the tool's own; what the library says is in the answer. */
+static int ask(const struct job *job, struct answer *answer)
+{
+    const struct name *name = &job->name, *id = &job->id;
+    uint8_t block[D64_BLOCK_BYTES];
+
+    switch (job->command->verb) {
+    case FORMAT:
+        *answer = answer_of(d64_format(image.bytes, image.length, name->bytes, name->length, id->bytes[0], id->bytes[1],
+                                       block, sizeof block), block, image.length);
+        return 0;
+    case SCRATCH:
+        *answer = answer_of(d64_scratch(image.bytes, image.length, name->bytes, name->length, block, sizeof block), block, image.length);
+        return 0;
+    case STORE:
+        return store(job, answer);
+    case READ:
+        return read_to_file(job, answer);
+    case DIR:
+        return print_directory(image.bytes, image.length, answer);
+    case LISTING:
+        return print_listing(image.bytes, image.length, answer);
+    default:
+        *answer = answer_of(d64_check(image.bytes, image.length, block, sizeof block), block, image.length);
+        return 0;
+    }
+}
+
+static int do_job(const struct job *job, struct answer *answer)
+{
+    int status;
+
+    set_line(job->line);
+    status = ask(job, answer);
+    if (status == 0 && answer->number != D64_DONE)
+        status = refuse(answer);
+    set_line(0);
+    return status;
+}
+
+static void show_job(const struct job_list *list, size_t place)
+{
+    char text[NAME_TEXT_BYTES(16)];
+
+    text_of_name(list->jobs[place].name.bytes, list->jobs[place].name.length, text, sizeof text);
+    show_progress(place + 1, list->count, list->jobs[place].command->word, text);
+}
+
+/* Does the jobs in memory; the status of the first that was not done. */
+static int do_jobs(const struct job_list *list, bool keep_going, size_t *done)
+{
+    struct answer answer;
+    int first = 0;
+
+    *done = 0;
+    for (size_t i = 0; i < list->count && (first == 0 || keep_going); i++) {
+        int status;
+
+        show_job(list, i);
+        status = do_job(&list->jobs[i], &answer);
+        *done += status == 0;
+        first = first != 0 ? first : status;
+    }
+    end_progress();
+    return first;
+}
+
+static int prepare(const struct job_list *list, const char *image_path)
+{
+    int status = check_paths(list, image_path);
+
+    if (status == 0)
+        status = read_piped(list);
+    if (status == 0)
+        status = image_open(&image, image_path, any_changes(list), starts_new(list));
+    return status;
+}
+
+int carry_out(const struct job_list *list, const char *image_path, bool keep_going)
+{
+    int status = prepare(list, image_path), saved;
+    size_t done;
+
+    if (status != 0)
+        return status;
+    status = do_jobs(list, keep_going, &done);
+    if (status != 0 && !keep_going) {
+        image_drop(&image);
+        say("stopped after %zu of %zu jobs; nothing is written to %s", done, list->count, image_name());
+        return status;
+    }
+    saved = image_save(&image);
+    if (saved == 0)
+        say("%zu of %zu jobs done%s%s", done, list->count, any_changes(list) ? "; written: " : "", any_changes(list) ? image_name() : "");
+    return status != 0 ? status : saved;
+}
+
+static const char *plural(uint32_t number)
+{
+    return number == 1 ? "" : "s";
+}
+
+static void say_done(const struct job *job, const struct answer *answer)
+{
+    static const char *const words[] = {[READ] = "read", [STORE] = "stored", [SCRATCH] = "scratched"};
+    enum verb verb = job->command->verb;
+    char text[NAME_TEXT_BYTES(16)];
+
+    text_of_name(job->name.bytes, job->name.length, text, sizeof text);
+    if (verb == FORMAT)
+        say("formatted \"%s\"", text);
+    if (verb == READ || verb == STORE || verb == SCRATCH)
+        say("%s \"%s\", %u byte%s in %u sector%s", words[verb], text, (unsigned)answer->length, plural(answer->length),
+            (unsigned)answer->sectors, plural(answer->sectors));
+    if (verb == CHECK)
+        puts("accepted");
+}
+
+int carry_out_one(struct job *job, const char *image_path)
+{
+    const struct job_list list = {.jobs = job, .count = 1};
+    struct answer answer;
+    int status = prepare(&list, image_path);
+
+    if (status != 0)
+        return status;
+    status = do_job(job, &answer);
+    if (status != 0) {
+        image_drop(&image);
+        return status;
+    }
+    status = image_save(&image);
+    if (status == 0)
+        say_done(job, &answer);
+    return status;
+}
