@@ -31,13 +31,14 @@ int image_open(struct image *image, const char *path, bool for_change, bool may_
     return status;
 }
 
-int image_save(struct image *image)
+int image_save(struct image *image, bool *written)
 {
-    bool changed = image->is_new || memcmp(image->bytes, image->on_file, image->length) != 0;
+    bool changed = memcmp(image->bytes, image->on_file, image->length) != 0;
 
-    if (image->for_change && is_stream(image->path))
+    *written = image->for_change && (changed || (is_stream(image->path) && !image->is_new));
+    if (*written && is_stream(image->path))
         return write_stream(image->bytes, image->length);
-    if (image->for_change && changed)
+    if (*written)
         return replacement_commit(&image->file, image->bytes, image->length);
     image_drop(image);
     return 0;

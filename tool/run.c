@@ -168,6 +168,7 @@ static int prepare(const struct job_list *list, const char *image_path)
 int carry_out(const struct job_list *list, const char *image_path, bool keep_going)
 {
     int status = prepare(list, image_path), saved;
+    bool written;
     size_t done;
 
     if (status != 0)
@@ -175,12 +176,12 @@ int carry_out(const struct job_list *list, const char *image_path, bool keep_goi
     status = do_jobs(list, keep_going, &done);
     if (status != 0 && !keep_going) {
         image_drop(&image);
-        say("stopped after %zu of %zu jobs; nothing is written to %s", done, list->count, image_name());
+        say("stopped after %zu of %zu jobs; %s is unchanged", done, list->count, image_name());
         return status;
     }
-    saved = image_save(&image);
+    saved = image_save(&image, &written);
     if (saved == 0)
-        say("%zu of %zu jobs done%s%s", done, list->count, any_changes(list) ? "; written: " : "", any_changes(list) ? image_name() : "");
+        say("%zu of %zu jobs done; %s is %s", done, list->count, image_name(), written ? "written" : "unchanged");
     return status != 0 ? status : saved;
 }
 
@@ -209,6 +210,7 @@ int carry_out_one(struct job *job, const char *image_path)
 {
     const struct job_list list = {.jobs = job, .count = 1};
     struct answer answer;
+    bool written;
     int status = prepare(&list, image_path);
 
     if (status != 0)
@@ -218,7 +220,7 @@ int carry_out_one(struct job *job, const char *image_path)
         image_drop(&image);
         return status;
     }
-    status = image_save(&image);
+    status = image_save(&image, &written);
     if (status == 0)
         say_done(job, &answer);
     return status;
