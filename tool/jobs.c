@@ -1,29 +1,26 @@
 #include "jobs.h"
 #include "files.h"
 #include "messages.h"
-#include <errno.h>
 #include <stdlib.h>
 #include <string.h>
 #include <strings.h>
 
 enum { MOST_WORDS = 5 }; /* one more than any job has, so that too many are seen */
 
-/* The kinds that have a name, by their numbers; which of them can be stored is the library's to say. */
+/* A kind by name or number; which of them can be stored is the library's to say, also of a number that is too large for it. */
 static bool kind_of_text(const char *text, uint32_t *kind)
 {
     static const char *const kinds[] = {"del", "seq", "prg", "usr", "rel"};
     unsigned long number;
-    char *end;
 
     for (uint32_t i = 0; i < sizeof kinds / sizeof kinds[0]; i++)
         if (strcasecmp(text, kinds[i]) == 0) {
             *kind = i;
             return true;
         }
-    errno = 0;
-    number = strtoul(text, &end, 10);
-    *kind = (uint32_t)number;
-    return text[0] >= '0' && text[0] <= '9' && *end == '\0' && errno == 0 && number <= UINT32_MAX;
+    number = strtoul(text, NULL, 10);
+    *kind = number < UINT32_MAX ? (uint32_t)number : UINT32_MAX;
+    return text[0] != '\0' && text[strspn(text, "0123456789")] == '\0';
 }
 
 static int take_name(struct name *name, char *text)

@@ -95,8 +95,11 @@ static int read_options(const struct command *command, int count, char **words, 
 static int run_list(const char *jobs_path, const char *image_path, bool keep_going)
 {
     struct job_list list = {.from_stream = is_stream(jobs_path)};
-    int status = read_job_list(&list, jobs_path);
+    int status;
 
+    if (is_stream(jobs_path) && is_stream(image_path))
+        return fail(STATUS_USAGE, "standard input is asked for twice");
+    status = read_job_list(&list, jobs_path);
     if (status == 0)
         status = carry_out(&list, image_path, keep_going);
     free_job_list(&list);

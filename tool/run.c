@@ -30,11 +30,10 @@ static bool starts_new(const struct job_list *list)
 }
 
 /* Standard input and output have one use each, and no file is read over its own image. */
-static int check_paths(const struct job_list *list, const char *image_path)
+static int check_paths(const struct job_list *list, const char *image_path, bool for_change)
 {
-    bool image_is_stream = is_stream(image_path);
-    bool input_used = list->from_stream || (image_is_stream && !starts_new(list));
-    bool output_used = image_is_stream && any_changes(list);
+    bool input_used = list->from_stream || (is_stream(image_path) && !starts_new(list));
+    bool output_used = is_stream(image_path) && for_change;
     int status = 0;
 
     for (size_t i = 0; status == 0 && i < list->count; i++) {
@@ -48,7 +47,7 @@ static int check_paths(const struct job_list *list, const char *image_path)
             input_used = true;
         }
         if (job->command->verb == READ && stream && output_used)
-            status = fail(STATUS_USAGE, "standard output is for the changed image");
+            status = fail(STATUS_USAGE, "standard output is for the image");
         if (job->command->verb == READ && same_file(job->file, image_path))
             status = fail(STATUS_USAGE, "%s is the image itself", job->file);
     }
@@ -154,20 +153,21 @@ static int do_jobs(const struct job_list *list, bool keep_going, size_t *done)
     return first;
 }
 
-static int prepare(const struct job_list *list, const char *image_path)
+static int prepare(const struct job_list *list, const char *image_path, bool for_change)
 {
-    int status = check_paths(list, image_path);
+    int status = check_paths(list, image_path, for_change);
 
     if (status == 0)
         status = read_piped(list);
     if (status == 0)
-        status = image_open(&image, image_path, any_changes(list), starts_new(list));
+        status = image_open(&image, image_path, for_change, starts_new(list));
     return status;
 }
 
 int carry_out(const struct job_list *list, const char *image_path, bool keep_going)
 {
-    int status = prepare(list, image_path), saved;
+    bool for_change = any_changes(list) || is_stream(image_path); /* whoever pipes an image through a list wants it back */
+    int status = prepare(list, image_path, for_change), saved;
     bool written;
     size_t done;
 
@@ -211,7 +211,7 @@ int carry_out_one(struct job *job, const char *image_path)
     const struct job_list list = {.jobs = job, .count = 1};
     struct answer answer;
     bool written;
-    int status = prepare(&list, image_path);
+    int status = prepare(&list, image_path, job->command->changes_image);
 
     if (status != 0)
         return status;
