@@ -16,6 +16,19 @@ bool is_stream(const char *path)
     return strcmp(path, "-") == 0;
 }
 
+int open_standard_streams(void)
+{
+    int opened;
+
+    do
+        opened = open("/dev/null", O_RDWR);
+    while (opened >= 0 && opened <= STDERR_FILENO);
+    if (opened < 0)
+        return STATUS_NO_OUTPUT; /* and nowhere to say it */
+    close(opened);
+    return 0;
+}
+
 bool same_file(const char *one, const char *other)
 {
     struct stat first, second;

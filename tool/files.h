@@ -34,6 +34,9 @@ struct replacement {
     gid_t group;
 };
 
+/* Opens standard input, output and error where they are closed: a file opened later would take their place, and what is printed. */
+int open_standard_streams(void);
+
 /* Cleans up at signals that end the process, and turns those about broken pipes and sizes into errors. */
 void watch_signals(void);
 

@@ -156,8 +156,10 @@ static int do_word(int count, char **words)
 
 int main(int count, char **words)
 {
-    int status;
+    int status = open_standard_streams();
 
+    if (status != 0)
+        return status;
     watch_signals();
     status = do_word(count, words);
     if (fflush(stdout) != 0 && status == 0)

@@ -258,14 +258,22 @@ static bool write_all(int file, const uint8_t *bytes, size_t length)
     return true;
 }
 
-/* The group decides who may read: it is kept, or the file is not replaced. A new owner is whoever replaces it, where it cannot be kept. */
+/*
+ * The group decides who may read: it is kept, or the file is not replaced. A new owner is whoever replaces it, where it cannot be
+ * kept. What is right already is not asked for: a file system without owners and modes would say no.
+ */
 static bool keep_permissions(const struct replacement *file)
 {
-    if (file->is_new)
-        return fchmod(file->lock, file->mode) == 0;
-    if (fchown(file->lock, file->owner, file->group) != 0 && fchown(file->lock, (uid_t)-1, file->group) != 0)
+    struct stat now;
+
+    if (fstat(file->lock, &now) != 0)
         return false;
-    return fchmod(file->lock, file->mode) == 0;
+    if (!file->is_new && (now.st_uid != file->owner || now.st_gid != file->group))
+        if (fchown(file->lock, file->owner, file->group) != 0 && fchown(file->lock, (uid_t)-1, file->group) != 0)
+            return false;
+    if ((now.st_mode & 0777) == file->mode)
+        return true;
+    return fchmod(file->lock, file->mode) == 0 || (file->is_new && errno == EPERM);
 }
 
 static bool write_temporary(const struct replacement *file, const uint8_t *bytes, size_t length)
