@@ -104,20 +104,15 @@ static int abandon(struct replacement *file, int status)
 /* The path without symbolic links, also of a file that is not there yet. */
 static char *resolve(const char *path)
 {
-    char *target = realpath(path, NULL), *folder, *joined = NULL;
-    const char *name = strrchr(path, '/');
+    char *target = realpath(path, NULL), *given, *folder, *joined = NULL;
+    const char *slash = strrchr(path, '/'), *name = slash != NULL ? slash + 1 : path;
     struct stat link;
 
     if (target != NULL || errno != ENOENT || lstat(path, &link) == 0)
         return target;
-    name = name != NULL ? name + 1 : path;
-    folder = name == path ? realpath(".", NULL) : strndup(path, (size_t)(name - path));
-    if (folder != NULL && name != path) {
-        char *given = folder;
-
-        folder = realpath(given, NULL);
-        free(given);
-    }
+    given = name == path ? strdup(".") : strndup(path, (size_t)(name - path));
+    folder = given != NULL ? realpath(given, NULL) : NULL;
+    free(given);
     if (folder != NULL && asprintf(&joined, "%s/%s", folder, name) < 0)
         joined = NULL;
     free(folder);
