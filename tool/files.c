@@ -18,14 +18,9 @@ bool is_stream(const char *path)
 
 int open_standard_streams(void)
 {
-    int opened;
-
-    do
-        opened = open("/dev/null", O_RDWR);
-    while (opened >= 0 && opened <= STDERR_FILENO);
-    if (opened < 0)
-        return STATUS_NO_OUTPUT; /* and nowhere to say it */
-    close(opened);
+    for (int stream = STDIN_FILENO; stream <= STDERR_FILENO; stream++)
+        if (fcntl(stream, F_GETFD) < 0 && open("/dev/null", stream == STDIN_FILENO ? O_WRONLY : O_RDONLY) != stream)
+            return STATUS_NO_OUTPUT; /* and nowhere to say it */
     return 0;
 }
 

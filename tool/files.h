@@ -34,7 +34,10 @@ struct replacement {
     gid_t group;
 };
 
-/* Opens standard input, output and error where they are closed: a file opened later would take their place, and what is printed. */
+/*
+ * Takes the places of closed standard streams, so that no file opened later gets what is printed: each becomes one that can
+ * only be used the wrong way round, and so still fails.
+ */
 int open_standard_streams(void);
 
 /* Cleans up at signals that end the process, and turns those about broken pipes and sizes into errors. */

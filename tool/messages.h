@@ -10,7 +10,8 @@ enum status {
     STATUS_USAGE = 64,     /* the command line or the job list is not as expected */
     STATUS_NO_INPUT = 66,  /* a file cannot be read */
     STATUS_NO_MEMORY = 71, /* the system has no memory left */
-    STATUS_NO_OUTPUT = 73, /* a file cannot be written */
+    STATUS_NO_OUTPUT = 73, /* a file cannot be written, and is as it was */
+    STATUS_NO_FLUSH = 74,  /* a file is replaced, but the system cannot say that a power failure would not undo it */
     STATUS_IN_USE = 75     /* another command has the image */
 };
 

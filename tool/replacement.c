@@ -301,7 +301,7 @@ int replacement_commit(struct replacement *file, const uint8_t *bytes, size_t le
     if (!renamed)
         return abandon(file, fail_file(STATUS_NO_OUTPUT, "replace", file->target));
     if (!flush_folder(file->folder))
-        status = fail(STATUS_NO_OUTPUT, "%s is replaced, but its folder cannot be flushed to the disk: %s", file->target, strerror(errno));
+        status = fail(STATUS_NO_FLUSH, "%s is replaced, but its folder cannot be flushed to the disk: %s", file->target, strerror(errno));
     forget(file);
     return status;
 }
