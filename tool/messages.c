@@ -106,7 +106,7 @@ static void print_size(const struct answer *answer)
 {
     size_t length = answer->image_length;
 
-    fprintf(stderr, "; an image has %u,%03u bytes, this one has ", D64_IMAGE_BYTES / 1000, D64_IMAGE_BYTES % 1000);
+    fprintf(stderr, "; an image has %d,%03d bytes, this one has ", D64_IMAGE_BYTES / 1000, D64_IMAGE_BYTES % 1000);
     if (length > D64_IMAGE_BYTES)
         fputs("more", stderr);
     else if (length < 1000)
