@@ -99,7 +99,7 @@ int fail(enum status status, const char *format, ...)
 
 int fail_file(enum status status, const char *what, const char *path)
 {
-    return fail(status, "cannot %s %s: %s", what, path, strerror(errno));
+    return fail(errno == ENOMEM ? STATUS_NO_MEMORY : status, "cannot %s %s: %s", what, path, strerror(errno));
 }
 
 static void print_size(const struct answer *answer)
