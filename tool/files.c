@@ -24,15 +24,51 @@ int open_standard_streams(void)
     return 0;
 }
 
+char *resolved_path(const char *path)
+{
+    char *target = realpath(path, NULL), *given, *folder, *joined = NULL;
+    const char *slash = strrchr(path, '/'), *name = slash != NULL ? slash + 1 : path;
+    struct stat link;
+
+    if (target != NULL || errno != ENOENT || lstat(path, &link) == 0)
+        return target;
+    given = name == path ? strdup(".") : strndup(path, (size_t)(name - path));
+    folder = given != NULL ? realpath(given, NULL) : NULL;
+    free(given);
+    if (folder != NULL && asprintf(&joined, "%s/%s", folder, name) < 0)
+        joined = NULL;
+    free(folder);
+    return joined;
+}
+
 bool same_file(const char *one, const char *other)
 {
-    struct stat first, second;
+    char *first = resolved_path(one), *second = resolved_path(other);
+    struct stat one_found, other_found;
+    bool same = first != NULL && second != NULL && strcmp(first, second) == 0;
 
-    if (is_stream(one) || is_stream(other))
-        return false;
-    if (stat(one, &first) == 0 && stat(other, &second) == 0)
-        return first.st_dev == second.st_dev && first.st_ino == second.st_ino;
-    return strcmp(one, other) == 0;
+    if (stat(one, &one_found) == 0 && stat(other, &other_found) == 0)
+        same = one_found.st_dev == other_found.st_dev && one_found.st_ino == other_found.st_ino;
+    free(first);
+    free(second);
+    return same && !is_stream(one) && !is_stream(other);
+}
+
+static bool ends_as_temporary(const char *path)
+{
+    const char *slash = strrchr(path, '/'), *name = slash != NULL ? slash + 1 : path;
+    size_t length = strlen(name), ending = strlen(TEMPORARY_ENDING);
+
+    return name[0] == '.' && length > ending && strcmp(name + length - ending, TEMPORARY_ENDING) == 0;
+}
+
+bool is_temporary_name(const char *path)
+{
+    char *resolved = realpath(path, NULL);
+    bool is_one = ends_as_temporary(path) || (resolved != NULL && ends_as_temporary(resolved));
+
+    free(resolved);
+    return is_one;
 }
 
 /* Reads until `room` bytes are there or the file ends. */

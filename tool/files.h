@@ -10,6 +10,13 @@
 /* "-": standard input, or standard output. */
 bool is_stream(const char *path);
 
+/* The path without symbolic links, also of a file that is not there yet, in memory that the caller frees. NULL, with errno, if there is none. */
+char *resolved_path(const char *path);
+
+/* Whether a path is that of a temporary file, which no image and no other file may have. */
+#define TEMPORARY_ENDING ".d64-new"
+bool is_temporary_name(const char *path);
+
 /* Whether two paths lead, or would lead, to one file. */
 bool same_file(const char *one, const char *other);
 

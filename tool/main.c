@@ -3,9 +3,9 @@
 #include "files.h"
 #include "messages.h"
 #include "run.h"
-#include <errno.h>
 #include <getopt.h>
 #include <stdio.h>
+#include <stdlib.h>
 #include <string.h>
 
 #ifndef D64_VERSION
@@ -160,6 +160,8 @@ int main(int count, char **words)
 
     if (status != 0)
         return status;
+    unsetenv("POSIXLY_CORRECT"); /* options may stand behind operands, whatever the environment says */
+    print_whole_lines();
     watch_signals();
     status = do_word(count, words);
     if (fflush(stdout) != 0 && status == 0)

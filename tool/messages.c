@@ -48,9 +48,21 @@ struct answer answer_of(uint32_t number, const uint8_t block[D64_BLOCK_BYTES], s
     return answer;
 }
 
+void print_whole_lines(void)
+{
+    static char buffer[16384];
+
+    setvbuf(stderr, buffer, _IOLBF, sizeof buffer);
+}
+
 void keep_quiet(void)
 {
     quiet = true;
+}
+
+bool is_quiet(void)
+{
+    return quiet;
 }
 
 void set_line(unsigned line)

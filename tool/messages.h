@@ -25,8 +25,12 @@ struct answer {
 
 struct answer answer_of(uint32_t number, const uint8_t block[D64_BLOCK_BYTES], size_t image_length);
 
+/* Keeps each line of standard error whole beside those of other programs. */
+void print_whole_lines(void);
+
 /* No lines for what is done. */
 void keep_quiet(void);
+bool is_quiet(void);
 
 /* The line of the job list that later messages are about; 0 for none. */
 void set_line(unsigned line);

@@ -20,13 +20,28 @@
 enum { WAIT_SECONDS = 10, TRIES_A_SECOND = 50, MOST_LOCKS = 2 }; /* an image, and a file read from it */
 
 static const int ending_signals[] = {SIGINT, SIGTERM, SIGHUP, SIGQUIT};
-static const char *volatile held[MOST_LOCKS]; /* the temporary files that are ours to remove */
+static const struct replacement *volatile held[MOST_LOCKS]; /* those whose temporary file is ours to remove */
+
+/* Whether the name leads to the file that we locked: others may have removed it and made another. */
+static bool names_our_lock(const struct replacement *file)
+{
+    struct stat locked, named;
+
+    return fstat(file->lock, &locked) == 0 && lstat(file->temporary, &named) == 0 && locked.st_dev == named.st_dev &&
+           locked.st_ino == named.st_ino;
+}
+
+static void remove_temporary(const struct replacement *file)
+{
+    if (names_our_lock(file))
+        unlink(file->temporary);
+}
 
 static void remove_held(int signal_number)
 {
     for (int i = 0; i < MOST_LOCKS; i++)
         if (held[i] != NULL)
-            unlink(held[i]);
+            remove_temporary(held[i]);
     signal(signal_number, SIG_DFL);
     raise(signal_number);
 }
@@ -60,19 +75,19 @@ static void hold_signals(int how)
     sigprocmask(how, &set, NULL);
 }
 
-static void note_held(const char *temporary)
+static void note_held(const struct replacement *file)
 {
     for (int i = 0; i < MOST_LOCKS; i++)
         if (held[i] == NULL) {
-            held[i] = temporary;
+            held[i] = file;
             return;
         }
 }
 
-static void note_gone(const char *temporary)
+static void note_gone(const struct replacement *file)
 {
     for (int i = 0; i < MOST_LOCKS; i++)
-        if (held[i] == temporary)
+        if (held[i] == file)
             held[i] = NULL;
 }
 
@@ -89,8 +104,8 @@ void replacement_abandon(struct replacement *file)
 {
     hold_signals(SIG_BLOCK);
     if (file->lock >= 0)
-        unlink(file->temporary);
-    note_gone(file->temporary);
+        remove_temporary(file);
+    note_gone(file);
     hold_signals(SIG_UNBLOCK);
     forget(file);
 }
@@ -101,29 +116,11 @@ static int abandon(struct replacement *file, int status)
     return status;
 }
 
-/* The path without symbolic links, also of a file that is not there yet. */
-static char *resolve(const char *path)
-{
-    char *target = realpath(path, NULL), *given, *folder, *joined = NULL;
-    const char *slash = strrchr(path, '/'), *name = slash != NULL ? slash + 1 : path;
-    struct stat link;
-
-    if (target != NULL || errno != ENOENT || lstat(path, &link) == 0)
-        return target;
-    given = name == path ? strdup(".") : strndup(path, (size_t)(name - path));
-    folder = given != NULL ? realpath(given, NULL) : NULL;
-    free(given);
-    if (folder != NULL && asprintf(&joined, "%s/%s", folder, name) < 0)
-        joined = NULL;
-    free(folder);
-    return joined;
-}
-
 static bool name_parts(struct replacement *file, const char *path)
 {
     char *name;
 
-    file->target = resolve(path);
+    file->target = resolved_path(path);
     if (file->target == NULL)
         return false;
     name = strrchr(file->target, '/') + 1;
@@ -132,35 +129,40 @@ static bool name_parts(struct replacement *file, const char *path)
         return false;
     }
     file->folder = strndup(file->target, (size_t)(name - file->target));
-    return file->folder != NULL && asprintf(&file->temporary, "%s.%s.d64-new", file->folder, name) >= 0;
+    return file->folder != NULL && asprintf(&file->temporary, "%s.%s" TEMPORARY_ENDING, file->folder, name) >= 0;
 }
 
-/* Whether the name leads to the file that is locked, and that file is ours alone. */
-static bool is_our_lock(const struct replacement *file, bool *foreign)
+/* A file that another user made, or that has a second name, could be changed behind our back. */
+static bool is_ours_alone(int lock)
 {
-    struct stat locked, named;
+    struct stat locked;
 
-    *foreign = false;
-    if (fstat(file->lock, &locked) != 0 || lstat(file->temporary, &named) != 0)
-        return false;
-    if (locked.st_dev != named.st_dev || locked.st_ino != named.st_ino)
-        return false;
-    *foreign = !S_ISREG(locked.st_mode) || locked.st_nlink != 1 || locked.st_uid != geteuid();
-    return !*foreign;
+    return fstat(lock, &locked) == 0 && S_ISREG(locked.st_mode) && locked.st_nlink == 1 && locked.st_uid == geteuid();
 }
 
 enum lock { LOCKED, LOCKED_BY_ANOTHER, NO_LOCK };
 
-/* What can be made of the open temporary file. One that is not ours, left by another user, is removed. */
+/* What can be made of the open temporary file. One that is locked by nobody and not ours, left by another user, is removed. */
 static enum lock lock_open_file(const struct replacement *file)
 {
-    bool foreign;
-
     if (flock(file->lock, LOCK_EX | LOCK_NB) != 0)
         return errno == EWOULDBLOCK || errno == EINTR ? LOCKED_BY_ANOTHER : NO_LOCK;
-    if (is_our_lock(file, &foreign))
+    if (!names_our_lock(file))
+        return LOCKED_BY_ANOTHER;
+    if (is_ours_alone(file->lock))
         return LOCKED;
-    return foreign && unlink(file->temporary) != 0 ? NO_LOCK : LOCKED_BY_ANOTHER;
+    return unlink(file->temporary) == 0 ? LOCKED_BY_ANOTHER : NO_LOCK;
+}
+
+/* A file that is there and that we may not open is another user's lock. */
+static enum lock without_opening(const struct replacement *file)
+{
+    int reason = errno;
+    struct stat named;
+    bool there = reason == EACCES && lstat(file->temporary, &named) == 0;
+
+    errno = reason;
+    return there ? LOCKED_BY_ANOTHER : NO_LOCK;
 }
 
 static enum lock try_lock(struct replacement *file)
@@ -170,10 +172,10 @@ static enum lock try_lock(struct replacement *file)
 
     file->lock = open(file->temporary, O_RDWR | O_CREAT | O_NOFOLLOW | O_NONBLOCK | O_CLOEXEC, S_IRUSR | S_IWUSR);
     if (file->lock < 0)
-        return NO_LOCK;
+        return without_opening(file);
     lock = lock_open_file(file);
     if (lock == LOCKED) {
-        note_held(file->temporary);
+        note_held(file);
     } else {
         reason = errno;
         close(file->lock);
@@ -198,7 +200,7 @@ static int take_lock(struct replacement *file, const char *path)
     if (lock == NO_LOCK)
         return fail_file(STATUS_NO_OUTPUT, "write", file->temporary);
     if (lock == LOCKED_BY_ANOTHER)
-        return fail(STATUS_IN_USE, "%s is in use by another command; nothing is changed", path);
+        return fail(STATUS_IN_USE, "%s is in use by another command; nothing is changed (if no command runs, remove %s)", path, file->temporary);
     return 0;
 }
 
@@ -279,7 +281,7 @@ static bool write_temporary(const struct replacement *file, const uint8_t *bytes
 static bool flush_folder(const char *path)
 {
     int folder = open(path, O_RDONLY | O_DIRECTORY | O_CLOEXEC);
-    bool flushed = folder >= 0 && fsync(folder) == 0;
+    bool flushed = folder >= 0 && (fsync(folder) == 0 || errno == EINVAL || errno == ENOTSUP); /* some file systems cannot */
 
     if (folder >= 0)
         close(folder);
@@ -289,15 +291,18 @@ static bool flush_folder(const char *path)
 int replacement_commit(struct replacement *file, const uint8_t *bytes, size_t length)
 {
     int status = 0;
-    bool renamed;
+    bool renamed, still_ours;
 
     if (!write_temporary(file, bytes, length))
         return abandon(file, fail_file(STATUS_NO_OUTPUT, "write", file->target));
     hold_signals(SIG_BLOCK);
-    renamed = rename(file->temporary, file->target) == 0;
+    still_ours = names_our_lock(file);
+    renamed = still_ours && rename(file->temporary, file->target) == 0;
     if (renamed)
-        note_gone(file->temporary);
+        note_gone(file);
     hold_signals(SIG_UNBLOCK);
+    if (!still_ours)
+        return abandon(file, fail(STATUS_NO_OUTPUT, "cannot replace %s: somebody has removed %s", file->target, file->temporary));
     if (!renamed)
         return abandon(file, fail_file(STATUS_NO_OUTPUT, "replace", file->target));
     if (!flush_folder(file->folder))

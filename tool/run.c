@@ -29,27 +29,34 @@ static bool starts_new(const struct job_list *list)
     return list->count > 0 && list->jobs[0].command->verb == FORMAT;
 }
 
-/* Standard input and output have one use each, and no file is read over its own image. */
+/* Where a file of the disk may not go: over its own image, into a lock, or among the image's bytes. */
+static int check_output(const char *path, const char *image_path, bool output_used)
+{
+    if (is_stream(path) && output_used)
+        return fail(STATUS_USAGE, "standard output is for the image");
+    if (same_file(path, image_path))
+        return fail(STATUS_USAGE, "%s is the image itself", path);
+    return is_temporary_name(path) ? fail(STATUS_USAGE, "%s is the name of a temporary file", path) : 0;
+}
+
+/* Standard input and output have one use each, and outputs may not be just anything. */
 static int check_paths(const struct job_list *list, const char *image_path, bool for_change)
 {
     bool input_used = list->from_stream || (is_stream(image_path) && !starts_new(list));
     bool output_used = is_stream(image_path) && for_change;
-    int status = 0;
+    int status = is_temporary_name(image_path) ? fail(STATUS_USAGE, "%s is the name of a temporary file", image_path) : 0;
 
     for (size_t i = 0; status == 0 && i < list->count; i++) {
         const struct job *job = &list->jobs[i];
-        bool stream = job->file != NULL && is_stream(job->file);
 
         set_line(job->line);
-        if (job->command->verb == STORE && stream) {
+        if (job->command->verb == STORE && is_stream(job->file)) {
             if (input_used)
                 status = fail(STATUS_USAGE, "standard input is asked for twice");
             input_used = true;
         }
-        if (job->command->verb == READ && stream && output_used)
-            status = fail(STATUS_USAGE, "standard output is for the image");
-        if (job->command->verb == READ && same_file(job->file, image_path))
-            status = fail(STATUS_USAGE, "%s is the image itself", job->file);
+        if (job->command->verb == READ)
+            status = check_output(job->file, image_path, output_used);
     }
     set_line(0);
     return status;
@@ -202,7 +209,7 @@ static void say_done(const struct job *job, const struct answer *answer)
     if (verb == READ || verb == STORE || verb == SCRATCH)
         say("%s \"%s\", %u byte%s in %u sector%s", words[verb], text, (unsigned)answer->length, plural(answer->length),
             (unsigned)answer->sectors, plural(answer->sectors));
-    if (verb == CHECK)
+    if (verb == CHECK && !is_quiet())
         puts("accepted");
 }
 
