@@ -210,7 +210,8 @@ mentions nowhere
 mkdir folder
 gives 66 run folder disk
 mentions folder
-gives 66 run jobs folder
+try run jobs folder </dev/null
+[ "$status" -eq 66 ] || [ "$status" -eq 73 ] || fail "status 66 or 73"
 mentions folder
 
 case_is "10,000 jobs"
