@@ -86,6 +86,17 @@ gives 0 read disk 'B B' out
 gives 0 dir disk
 grep -qF '"B B"' seen/out || fail 'a file "B B"'
 
+# A run tells how many jobs were done and what became of the image.
+case_is "the lines that tell what a run did"
+listed 0 'store A other\nread A a\n'
+says "2 of 2 jobs done; disk is written"
+listed 0 'read CODE a\n'
+says "1 of 1 jobs done; disk is unchanged"
+listed 13 'check\nscratch NONE\ncheck\n'
+[ "$(sed -n 2p seen/err)" = "stopped after 1 of 3 jobs; disk is unchanged" ] || fail "stopped after 1 of 3 jobs; disk is unchanged"
+listed 13 'check\nscratch NONE\ncheck\n' --quiet
+says "line 2: $(refusal 13)"
+
 # What is no list: 64 with the line, and nothing done, --keep-going or not.
 wrong() { # LINE LIST
     for option in "" --keep-going; do

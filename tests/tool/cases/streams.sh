@@ -109,8 +109,15 @@ says "$(refusal 1 "an image has 174,848 bytes, this one has 1,000")"
 { cat disk; echo; } >long
 fed 1 long check -
 says "$(refusal 1 "an image has 174,848 bytes, this one has more")"
-fed 0 disk run --keep-going /dev/null -
-[ ! -s seen/out ] || same seen/out disk "nothing, or the whole image, after no jobs"
+
+case_is "a run on standard input that changes nothing gives the image all the same"
+echo check >jobs
+for option in --quiet --keep-going; do
+    fed 0 disk run "$option" jobs -
+    same seen/out disk "the image as it was on standard output"
+    fed 0 disk run "$option" /dev/null -
+    same seen/out disk "the image as it was on standard output"
+done
 
 # Standard input asked for twice: 64, and the line says so.
 twice() { # ARGUMENT..
@@ -135,9 +142,11 @@ mentions "standard input"
 same disk model "the image as it was"
 
 case_is "standard output asked for twice: an image and a file"
-printf 'store TWO code\nread CODE -\n' >jobs
-fed 64 disk run jobs -
-quiet_output
+for list in 'store TWO code\nread CODE -\n' 'read CODE -\n'; do
+    printf "$list" >jobs
+    fed 64 disk run jobs -
+    quiet_output
+done
 mentions "standard output"
 
 case_is "a file that is called -"
