@@ -13,7 +13,8 @@
 #include <time.h>
 #include <unistd.h>
 
-/* fresh is not there before; the others are. */
+/* fresh is not there before; the others are, with this mode. */
+enum { MODE = 0640 };
 const char *const file_names[FILES] = {"disk", "data", "jobs", "out", "fresh"};
 
 struct scene scenes[] = {
@@ -25,9 +26,8 @@ struct scene scenes[] = {
     {.words = {"read", "disk", "CODE", "out"}, .target = "out", .again = 0},
     {.words = {"read", "disk", "CODE", "fresh"}, .target = "fresh", .again = 0},
 };
-const size_t scene_count = sizeof scenes / sizeof scenes[0];
+size_t scene_count = sizeof scenes / sizeof scenes[0];
 
-enum { MODE = 0640 };
 static struct bytes before[FILES];
 static const char *tool_path;
 static char said_path[4096];
@@ -106,8 +106,11 @@ static int for_others(int (*visit)(const char *name))
 static int one(const char *name)
 {
     size_t length = strlen(name);
+    struct stat about;
     if (name[0] != '.' || length < 9 || strcmp(name + length - 8, ".d64-new") != 0)
         fail("a file %s that nobody asked for", name);
+    if (strstr(name, "fresh") == NULL && lstat(name, &about) == 0 && (about.st_mode & 07777 & ~MODE) != 0)
+        fail("the temporary file %s has mode %o, and the file itself has %o", name, about.st_mode & 07777, MODE);
     return 1;
 }
 
@@ -239,6 +242,9 @@ void scenes_begin(const char *tool, const char *folder, const char *example_disk
 {
     static unsigned char data[30000];
     static unsigned char jobs[] = "read CODE fresh\nstore A data\nscratch CODE\nstore B data seq\n";
+    const char *asked = getenv("SCENES");
+    if (asked != NULL && strtoul(asked, NULL, 10) > 0 && strtoul(asked, NULL, 10) < scene_count)
+        scene_count = strtoul(asked, NULL, 10);
     tool_path = tool;
     snprintf(said_path, sizeof said_path, "%s.said", folder);
     for (size_t i = 0; i < sizeof data; i++)

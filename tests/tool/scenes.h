@@ -25,7 +25,7 @@ struct scene {
 };
 
 extern struct scene scenes[];
-extern const size_t scene_count;
+extern size_t scene_count; /* all, or the first so many that SCENES says */
 extern const char *const file_names[FILES];
 
 enum state { OLD, NEW };
@@ -38,7 +38,7 @@ void scene_reset(const struct scene *scene);
 pid_t scene_start(const struct scene *scene, int traced);
 /* Fails unless each file has its bytes from before or after the command and its mode; tells which of the two the target has. */
 enum state scene_state(const struct scene *scene, const char *when);
-/* Whether a temporary file is there. */
+/* Whether a temporary file is there; fails if it may be read by more people than the file itself, or if there is any other file. */
 int temporary_left(void);
 /* Runs the same command again: it works, has the status that it should have, and leaves no temporary file. */
 void scene_again(const struct scene *scene, enum state state, const char *when);

@@ -25,7 +25,7 @@
 #endif
 
 enum { DESCRIPTORS = 64, PATH = 300 };
-enum effect { NONE, SIGNAL, ERROR, PART };
+enum effect { NONE, SIGNAL, ERROR, PART, MEMORY };
 
 /* What is done to the command before its n-th call. */
 struct plan {
@@ -40,6 +40,8 @@ struct traced {
     int begun;                        /* it has named a file of the folder */
     int calls;                        /* since then */
     int renamed;                      /* calls of rename that were done */
+    int unflushed;                    /* bytes were written to a file since it was flushed */
+    int renamed_unflushed;            /* a file took another's place like that */
     long number;                      /* the call that the plan met, and what it was on */
     int on;                           /* its descriptor, or -1 */
     int met_after_rename;
@@ -94,8 +96,11 @@ static int note_call(struct traced *traced, const struct user_regs_struct *regs,
 {
     char path[PATH];
     path_of(traced->child, regs, path);
-    if (path[0] != '\0' && (path[0] != '/' || strncmp(path, folder_path, strlen(folder_path)) == 0))
+    int within = path[0] == '/' ? strncmp(path, folder_path, strlen(folder_path)) == 0 : path[0] != '\0' && strcmp(path, ".") != 0;
+    if (within)
         traced->begun = 1;
+    if (plan->effect == MEMORY)
+        return traced->begun && (regs->orig_rax == SYS_brk || regs->orig_rax == SYS_mmap);
     if (!traced->begun || ++traced->calls != plan->n)
         return 0;
     traced->number = (long)regs->orig_rax;
@@ -112,8 +117,14 @@ static void note_result(struct traced *traced, const struct user_regs_struct *re
     long result = (long)regs->rax;
     if (regs->orig_rax == SYS_openat && result >= 0 && result < DESCRIPTORS)
         read_path(traced->child, regs->rsi, traced->paths[result]);
-    if (result == 0 && (regs->orig_rax == SYS_rename || regs->orig_rax == SYS_renameat || regs->orig_rax == SYS_renameat2))
+    if (result > 0 && (regs->orig_rax == SYS_write || regs->orig_rax == SYS_pwrite64) && regs->rdi > 2)
+        traced->unflushed = 1;
+    if (result == 0 && (regs->orig_rax == SYS_fsync || regs->orig_rax == SYS_fdatasync))
+        traced->unflushed = 0;
+    if (result == 0 && (regs->orig_rax == SYS_rename || regs->orig_rax == SYS_renameat || regs->orig_rax == SYS_renameat2)) {
         traced->renamed++;
+        traced->renamed_unflushed |= traced->unflushed;
+    }
 }
 
 /* Stands in for the plan's effect at the entry of its call. */
@@ -121,7 +132,7 @@ static void meet(struct traced *traced, struct user_regs_struct *regs, const str
 {
     if (plan->effect == SIGNAL)
         kill(traced->child, plan->value);
-    else if (plan->effect == ERROR)
+    else if (plan->effect == ERROR || plan->effect == MEMORY)
         regs->orig_rax = (unsigned long)-1;
     else if (regs->rdx > 1)
         regs->rdx = (regs->rdx + 1) / 3 + 1;
@@ -152,7 +163,7 @@ static int run_traced(const struct scene *scene, const struct plan *plan, struct
             continue; /* it has been killed meanwhile */
         if (entering && note_call(traced, &regs, plan)) {
             meet(traced, &regs, plan);
-            met = plan->effect == ERROR;
+            met = plan->effect == ERROR || plan->effect == MEMORY;
         } else if (!entering && met) {
             regs.rax = (unsigned long)-plan->value;
             ptrace(PTRACE_SETREGS, traced->child, NULL, &regs);
@@ -289,30 +300,57 @@ static void errors_at(const struct scene *scene, int n)
         disturb(scene, (struct plan){PART, n, 0});
 }
 
+/* No memory from the first call on: 71, or a file that cannot be opened for that reason, or done without. */
+static void without_memory(const struct scene *scene)
+{
+    struct traced traced;
+    scene_reset(scene);
+    int status = run_traced(scene, &(struct plan){MEMORY, 0, ENOMEM}, &traced);
+    enum state state = scene_state(scene, "no memory");
+    int reason = strstr(scene_said(), strerror(ENOMEM)) != NULL && WEXITSTATUS(status) > 63;
+    if (!WIFEXITED(status) || (WEXITSTATUS(status) != 71 && WEXITSTATUS(status) != 0 && !reason))
+        fail("%s, no memory: status %d", scene_name(scene), WEXITSTATUS(status));
+    if ((WEXITSTATUS(status) == 0) != (state == NEW) || (state == OLD && scene_said()[0] == '\0'))
+        fail("%s, no memory: status %d does not fit %s, or nothing is said", scene_name(scene), WEXITSTATUS(status), scene->target);
+    if (temporary_left())
+        fail("%s, no memory: a temporary file is left", scene_name(scene));
+}
+
+/* Undisturbed: how many calls there are to disturb; the new bytes are flushed before they take the old file's place. */
+static int calls_of(const struct scene *scene)
+{
+    struct traced traced;
+    scene_reset(scene);
+    int status = run_traced(scene, &(struct plan){NONE, 0, 0}, &traced);
+    if (!WIFEXITED(status) || WEXITSTATUS(status) != 0 || traced.calls < 5 || traced.renamed == 0)
+        fail("%s: traced, it is not done as usual: %d calls, %d renames", scene_name(scene), traced.calls, traced.renamed);
+    if (traced.renamed_unflushed)
+        fail("%s: the new file takes the old one's place before its bytes are flushed to the disk", scene_name(scene));
+    return traced.calls;
+}
+
 int main(int count, char **values)
 {
-    int calls = 0;
+    int all = 0;
     if (count != 4) {
         fprintf(stderr, "usage: trace TOOL FOLDER EXAMPLE_DISK\n");
         return 64;
     }
     scenes_begin(values[1], values[2], values[3]);
-    if (getcwd(folder_path, sizeof folder_path) == NULL)
+    if (getcwd(folder_path, sizeof folder_path - 1) == NULL)
         fail("no folder");
+    strcat(folder_path, "/");
     for (size_t i = 0; i < scene_count; i++) {
-        struct traced traced;
-        scene_reset(&scenes[i]);
-        int status = run_traced(&scenes[i], &(struct plan){NONE, 0, 0}, &traced);
-        if (!WIFEXITED(status) || WEXITSTATUS(status) != 0 || traced.calls < 5 || traced.renamed == 0)
-            fail("%s: traced, it is not done as usual: %d calls, %d renames", scene_name(&scenes[i]), traced.calls, traced.renamed);
-        calls += traced.calls;
-        for (int n = 1; n <= traced.calls; n++) {
+        int calls = calls_of(&scenes[i]);
+        without_memory(&scenes[i]);
+        for (int n = 1; n <= calls; n++) {
             signal_at(&scenes[i], n, SIGKILL);
             signal_at(&scenes[i], n, n % 2 ? SIGTERM : SIGINT);
             errors_at(&scenes[i], n);
         }
+        all += calls;
     }
     printf("tool: at each of %d system calls of %zu commands: %d kills, %d other signals, %d errors, %d parts of a read or write\n",
-           calls, scene_count, kills, stops, errors, parts);
+           all, scene_count, kills, stops, errors, parts);
     return 0;
 }

@@ -180,7 +180,9 @@ esac
 
 case_is "standard output closed"
 status=0
-"$TOOL" dir disk >&- 2>seen/err || status=$?
+"$TOOL" read disk CODE - >&- 2>seen/err || status=$?
+echo "d64 read disk CODE - >&-" >seen/command
+echo "$status" >seen/status
 status_is 73
 status=0
 "$TOOL" store disk TWO code >&- 2>&- || status=$?
