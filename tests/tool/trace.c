@@ -265,8 +265,8 @@ static void outcome(const struct scene *scene, const struct traced *traced, cons
         fail("%s, %s: status %d", scene_name(scene), when, WEXITSTATUS(status));
     if (WEXITSTATUS(status) != 0 && state == NEW && !traced->met_after_rename)
         fail("%s, %s: status %d, and %s is the new one", scene_name(scene), when, WEXITSTATUS(status), scene->target);
-    if (WEXITSTATUS(status) == 73 && state == NEW && traced->on > 2 && strstr(scene_said(), "is replaced") == NULL)
-        fail("%s, %s: status 73, and no word that the new file is there", scene_name(scene), when);
+    if (WEXITSTATUS(status) == 73 && state == NEW && traced->on > 2)
+        fail("%s, %s: status 73 says that the old file is unchanged, and it is the new one", scene_name(scene), when);
     if (plan->effect == PART && WEXITSTATUS(status) != 0)
         fail("%s, %s: status %d", scene_name(scene), when, WEXITSTATUS(status));
     if (plan->effect == ERROR && decisive(traced, plan->value)) {

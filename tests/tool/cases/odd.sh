@@ -30,13 +30,11 @@ refuses 66 model disk store disk NEW ""
 refuses 73 model disk read disk CODE ""
 
 case_is "endless files: 15 or 1, at once and without filling memory"
+# The sanitizers take more room for themselves than this limit gives.
 (
-    ulimit -v 400000 2>/dev/null || true
+    [ -n "${SANITIZED:-}" ] || ulimit -v 400000
     status=0
-    case ${SANITIZED:-} in
-    '') timeout 20 "$TOOL" store disk ZERO /dev/zero >seen/out 2>seen/err || status=$? ;;
-    *) timeout 20 sh -c 'ulimit -v unlimited 2>/dev/null; exec "$0" "$@"' "$TOOL" store disk ZERO /dev/zero >seen/out 2>seen/err || status=$? ;;
-    esac
+    timeout 20 "$TOOL" store disk ZERO /dev/zero >seen/out 2>seen/err || status=$?
     echo "$status" >seen/status
 )
 echo "d64 store disk ZERO /dev/zero" >seen/command
