@@ -89,7 +89,7 @@ static void round_of(const struct scene *scene, int sent)
         fail("%s, %s: status %d", scene_name(scene), when, WEXITSTATUS(status));
     if (WIFSIGNALED(status) && WTERMSIG(status) != sent)
         fail("%s, %s: ended by signal %d", scene_name(scene), when, WTERMSIG(status));
-    if (sent != SIGKILL && temporary_left())
+    if (temporary_left() && sent != SIGKILL)
         fail("%s, %s: a temporary file is left", scene_name(scene), when);
     if (state == NEW)
         late++;

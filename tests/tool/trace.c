@@ -191,7 +191,7 @@ static void signal_at(const struct scene *scene, int n, int sent)
         fail("%s, %s: status %d", scene_name(scene), when, WEXITSTATUS(status));
     if (WIFSIGNALED(status) && WTERMSIG(status) != sent)
         fail("%s, %s: ended by signal %d", scene_name(scene), when, WTERMSIG(status));
-    if (sent != SIGKILL && temporary_left())
+    if (temporary_left() && sent != SIGKILL)
         fail("%s, %s: a temporary file is left", scene_name(scene), when);
     if (sent == SIGKILL)
         scene_again(scene, state, when);
