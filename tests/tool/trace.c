@@ -265,8 +265,10 @@ static void outcome(const struct scene *scene, const struct traced *traced, cons
         fail("%s, %s: status %d", scene_name(scene), when, WEXITSTATUS(status));
     if (WEXITSTATUS(status) != 0 && state == NEW && !traced->met_after_rename)
         fail("%s, %s: status %d, and %s is the new one", scene_name(scene), when, WEXITSTATUS(status), scene->target);
-    if (WEXITSTATUS(status) == 73 && state == NEW && traced->on > 2)
-        fail("%s, %s: status 73 says that the old file is unchanged, and it is the new one", scene_name(scene), when);
+    if (WEXITSTATUS(status) != 0 && WEXITSTATUS(status) != 74 && state == NEW && traced->on > 2)
+        fail("%s, %s: status %d, and not 74, though %s is the new one", scene_name(scene), when, WEXITSTATUS(status), scene->target);
+    if (WEXITSTATUS(status) == 0 && traced->met_after_rename && traced->number == SYS_fsync && plan->value != EINTR)
+        fail("%s, %s: status 0", scene_name(scene), when);
     if (plan->effect == PART && WEXITSTATUS(status) != 0)
         fail("%s, %s: status %d", scene_name(scene), when, WEXITSTATUS(status));
     if (plan->effect == ERROR && decisive(traced, plan->value)) {

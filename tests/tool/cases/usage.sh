@@ -39,6 +39,24 @@ for command in $commands; do
     [ ! -e IMAGE ] || fail "no file IMAGE"
 done
 
+case_is "short options"
+for command in $commands; do
+    gives 0 "$command" --help
+    cp seen/out help
+    gives 0 "$command" -h
+    same help seen/out "the same help"
+done
+gives 0 check -q disk
+quiet_error
+printf 'scratch NONE\nscratch CODE\n' >jobs2
+cp disk copy
+gives 13 run -k -q jobs2 copy
+says "line 1: $(refusal 13)"
+gives 13 scratch copy CODE
+cp disk copy
+gives 13 run -qk jobs2 copy
+gives 13 scratch copy CODE
+
 # Bad usage: 64, what was expected, nothing done.
 bad() { # COMMAND ARGUMENT..
     case_is "bad usage: $*"
