@@ -197,4 +197,29 @@ try scratch image CODE </dev/null
 [ ! -L image ] || fail "the image is no link"
 [ "$status" -ne 0 ] || same image fresh "a fresh disk"
 [ "$status" -eq 0 ] || same image model "the image as it was"
+
+case_is "the temporary file's name as a job's file: the image is not lost"
+rm -f .image.d64-new
+cp model image
+for list in 'store A code\nread A .image.d64-new\n' 'read CODE .image.d64-new\nscratch CODE\n'; do
+    printf "$list" >jobs
+    try run jobs image </dev/null
+    [ "$status" -ge 64 ] || fail "a status above 63"
+    same image model "the image as it was"
+    try run --keep-going jobs image </dev/null
+    [ "$status" -ge 64 ] || fail "a status above 63"
+    gives 0 check image
+    cp model image
+done
+case_is "an image that has the name of a temporary file is not lost"
+cp model .out.d64-new
+rm -f out
+try read .out.d64-new CODE out </dev/null
+same .out.d64-new model "the image as it was"
+case_is "a file that a job would put in the place of an image that is yet to be made"
+rm -f .out.d64-new new2
+printf 'format X 01\nstore A code\nread A ./new2\n' >jobs
+gives 64 run jobs new2
+[ ! -e new2 ] || fail "no file new2"
+no_rest
 finish

@@ -57,6 +57,14 @@ cp disk copy
 gives 13 run -qk jobs2 copy
 gives 13 scratch copy CODE
 
+case_is "options after operands, whatever the environment says"
+cp disk copy
+POSIXLY_CORRECT=1
+export POSIXLY_CORRECT
+gives 0 scratch copy CODE --quiet
+unset POSIXLY_CORRECT
+quiet_error
+
 # Bad usage: 64, what was expected, nothing done.
 bad() { # COMMAND ARGUMENT..
     case_is "bad usage: $*"

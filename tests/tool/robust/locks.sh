@@ -88,6 +88,35 @@ wait "$writer" || fail "every store and scratch done"
 same disk model "the image as it was"
 [ "$looks" -ge 20 ] || fail "at least twenty looks, and not $looks"
 
+# Two users who share a group, and a folder and an image that it may write.
+as_user() { # USER ARGUMENT..
+    user=$1
+    shift
+    setpriv --reuid="$user" --regid="$user" --groups=12345 "$TOOL" "$@"
+}
+if [ "$(id -u)" -eq 0 ] && setpriv --reuid=65533 --regid=65533 --groups=12345 true 2>/dev/null; then
+    case_is "two users at the same time"
+    mkdir shared
+    cp model shared/disk
+    mkfifo shared/pipe
+    chgrp -R 12345 shared
+    chmod 2775 shared
+    chmod 664 shared/disk shared/pipe
+    (status=0; as_user 65533 store shared/disk A shared/pipe >/dev/null 2>&1 || status=$?; echo "$status" >first.end) &
+    first=$!
+    sleep 0.3
+    (status=0; as_user 65534 store shared/disk B code 2>second.err || status=$?; echo "$status" >second.end) &
+    second=$!
+    sleep 0.3
+    cat code >shared/pipe
+    wait "$first" "$second"
+    cp second.err seen/err
+    [ "$(cat first.end)" -eq 0 ] && [ "$(cat second.end)" -eq 0 ] || fail "both done, one after the other, and not $(cat first.end) and $(cat second.end)"
+    gives 0 dir shared/disk
+    [ "$(wc -l <seen/out)" -eq 5 ] || fail "three files"
+    no_rest shared
+fi
+
 case_is "a lock that is given back is waited for"
 cp disk soon
 (flock 9 && exec sleep 1) 9>>.soon.d64-new &
