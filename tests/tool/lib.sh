@@ -16,7 +16,7 @@ fail() { # EXPECTED
     echo "expected: $*"
     [ ! -f seen/command ] || echo "command:  $(cat seen/command)"
     [ ! -f seen/status ] || echo "status:   $(cat seen/status)"
-    [ ! -s seen/out ] || { echo "standard output:"; head -c 2000 seen/out | cat -v; }
+    [ ! -s seen/out ] || { echo "standard output:"; head -c 600 seen/out | cat -v; echo; }
     [ ! -s seen/err ] || { echo "standard error:"; head -c 2000 seen/err | cat -v; }
     exit 1
 }

@@ -17,6 +17,7 @@ until ! flock -n .held.d64-new true; do sleep 0.05; done
     echo "$status $((($(date +%s%N) - start) / 100000000))" >held.end
 ) &
 waiter=$!
+trap 'kill "$holder" "$waiter" 2>/dev/null || true' EXIT
 
 # Starts commands at the same time, and fails unless all are done.
 at_once() { # COMMAND..
