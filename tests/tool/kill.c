@@ -1,7 +1,8 @@
 /*
  * Ends commands at random moments, by SIGKILL, SIGTERM and SIGINT: kill TOOL FOLDER EXAMPLE_DISK [ROUNDS]. After each the files have their old bytes or their
  * new ones; after SIGTERM and SIGINT no temporary file is left; after SIGKILL the next command works and leaves none. Half the moments are drawn over the
- * whole command, half over what follows the making of the temporary file, so that many lie within the writing. SEED draws them again.
+ * whole command, half over what follows the making of the temporary file, so that many lie within the writing. Then several commands store on one image at
+ * the same time, and half of them are ended: the files of the others are there. SEED draws all moments again.
  */
 #define _GNU_SOURCE
 #include "scenes.h"
@@ -101,6 +102,54 @@ static void round_of(const struct scene *scene, int sent)
         scene_again(scene, state, when);
 }
 
+/* One of several commands at the same time: a store of the file out. */
+static struct scene member(const char *verb, const char *name, const char *file)
+{
+    return (struct scene){.words = {verb, "disk", name, file}};
+}
+
+static void look_at_crowd(const int *statuses, const char *const *names, int members)
+{
+    const struct scene check = {.words = {"check", "disk"}};
+    if (scene_run(&check) != 0)
+        fail("several commands, some of them killed: the image is not accepted");
+    for (int i = 0; i < members; i++) {
+        struct scene reading = member("read", names[i], "fresh");
+        int found = scene_run(&reading), done = WIFEXITED(statuses[i]) && WEXITSTATUS(statuses[i]) == 0;
+        if (found != 0 && (found != 13 || done))
+            fail("several commands, some of them killed: the file of a store with status 0 is not there (%d)", found);
+        if (found == 0 && !same_bytes("fresh", "out"))
+            fail("several commands, some of them killed: a file has other bytes");
+    }
+}
+
+/* Several stores at the same time on one image, half of them ended at random moments. */
+static int crowd(void)
+{
+    enum { MEMBERS = 6 };
+    static const char *const names[MEMBERS] = {"A", "B", "C", "D", "E", "F"};
+    pid_t children[MEMBERS];
+    int statuses[MEMBERS], done = 0;
+    scene_reset(NULL);
+    for (int i = 0; i < MEMBERS; i++) {
+        struct scene storing = member("store", names[i], "out");
+        children[i] = scene_start(&storing, 0);
+    }
+    for (int i = 0; i < MEMBERS / 2; i++) {
+        pause_for(draw() * scenes[0].seconds * 1.5);
+        kill(children[i], draw() < 0.5 ? SIGKILL : SIGTERM);
+    }
+    for (int i = 0; i < MEMBERS; i++) {
+        if (waitpid(children[i], &statuses[i], 0) != children[i])
+            fail("several commands: one does not end");
+        if (i >= MEMBERS / 2 && (!WIFEXITED(statuses[i]) || WEXITSTATUS(statuses[i]) != 0))
+            fail("several commands, some of them killed: another one is not done");
+        done += WIFEXITED(statuses[i]) && WEXITSTATUS(statuses[i]) == 0;
+    }
+    look_at_crowd(statuses, names, MEMBERS);
+    return done;
+}
+
 int main(int count, char **values)
 {
     int rounds = count > 4 ? atoi(values[4]) : 420;
@@ -123,5 +172,9 @@ int main(int count, char **values)
     printf(": %d, of them %d before the temporary file was made, %d while it was there, %d after\n", rounds, early, within, late);
     if (within * 10 < rounds)
         fail("too few of the kills came while a file was being written");
+    int done = 0;
+    for (int i = 0; i < rounds / 12; i++)
+        done += crowd();
+    printf("tool: %d times six commands at the same time, three of them killed: %d of %d done, every file there\n", rounds / 12, done, rounds / 12 * 6);
     return 0;
 }

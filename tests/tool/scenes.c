@@ -81,6 +81,14 @@ static int holds(const char *path, struct bytes bytes)
     return same;
 }
 
+int same_bytes(const char *path, const char *other)
+{
+    struct bytes bytes = read_bytes(other);
+    int same = bytes.at != NULL && holds(path, bytes);
+    free(bytes.at);
+    return same;
+}
+
 static int known(const char *name)
 {
     for (int i = 0; i < FILES; i++)
@@ -151,7 +159,7 @@ pid_t scene_start(const struct scene *scene, int traced)
     _exit(127);
 }
 
-static int plain_run(const struct scene *scene)
+int scene_run(const struct scene *scene)
 {
     int status;
     pid_t child = scene_start(scene, 0);
@@ -180,7 +188,7 @@ enum state scene_state(const struct scene *scene, const char *when)
 
 void scene_again(const struct scene *scene, enum state state, const char *when)
 {
-    int status = plain_run(scene), expected = state == OLD ? 0 : scene->again;
+    int status = scene_run(scene), expected = state == OLD ? 0 : scene->again;
     if (status != expected)
         fail("%s, %s: the next command has status %d, not %d", scene_name(scene), when, status, expected);
     if (scene_state(scene, when) != NEW)
@@ -224,7 +232,7 @@ static void scene_learn(struct scene *scene)
     for (int run = 0; run < 3; run++) {
         scene_reset(scene);
         double start = now();
-        if (plain_run(scene) != 0)
+        if (scene_run(scene) != 0)
             fail("%s: not done", scene_name(scene));
         if (now() - start < scene->seconds)
             scene->seconds = now() - start;

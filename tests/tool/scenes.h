@@ -36,6 +36,10 @@ void scenes_begin(const char *tool, const char *folder, const char *example_disk
 void scene_reset(const struct scene *scene);
 /* Starts the tool, its standard error into a file beside the folder; traced: it stops as soon as it runs. */
 pid_t scene_start(const struct scene *scene, int traced);
+/* Runs the tool to its end; its status. */
+int scene_run(const struct scene *scene);
+/* Whether two files of the folder are there and alike. */
+int same_bytes(const char *path, const char *other);
 /* Fails unless each file has its bytes from before or after the command and its mode; tells which of the two the target has. */
 enum state scene_state(const struct scene *scene, const char *when);
 /* Whether a temporary file is there; fails if it may be read by more people than the file itself, or if there is any other file. */
