@@ -136,7 +136,7 @@ static int crowd(void)
         children[i] = scene_start(&storing, 0);
     }
     for (int i = 0; i < MEMBERS / 2; i++) {
-        pause_for(draw() * scenes[0].seconds * 1.5);
+        pause_for(draw() * 0.02); /* commands that wait for each other take longer than one alone */
         kill(children[i], draw() < 0.5 ? SIGKILL : SIGTERM);
     }
     for (int i = 0; i < MEMBERS; i++) {

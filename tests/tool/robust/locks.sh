@@ -7,7 +7,7 @@ gives 0 format fresh CODES 01
 # A lock that another process holds for longer than a command waits: this runs beside the other cases.
 cp disk held
 echo theirs >.held.d64-new
-(flock 9 && exec sleep 30) 9>>.held.d64-new &
+(flock 9 && exec sleep 60) 9>>.held.d64-new &
 holder=$!
 until ! flock -n .held.d64-new true; do sleep 0.05; done
 (
@@ -150,7 +150,7 @@ echo "$status" >seen/status
 status_is 75
 tells held
 quiet_output
-[ "$tenths" -ge 95 ] && [ "$tenths" -le 130 ] || fail "a wait of ten seconds, and not $tenths tenths"
+[ "$tenths" -ge 95 ] && [ "$tenths" -le 150 ] || fail "a wait of ten seconds, and not $tenths tenths"
 same held model "the image as it was"
 [ "$(cat .held.d64-new)" = theirs ] || fail "the holder's file as it was"
 kill "$holder"
