@@ -302,15 +302,14 @@ static void errors_at(const struct scene *scene, int n)
         disturb(scene, (struct plan){PART, n, 0});
 }
 
-/* No memory from the first call on: 71, or a file that cannot be opened for that reason, or done without. */
+/* No memory from the first call on: 71, or done without. */
 static void without_memory(const struct scene *scene)
 {
     struct traced traced;
     scene_reset(scene);
     int status = run_traced(scene, &(struct plan){MEMORY, 0, ENOMEM}, &traced);
     enum state state = scene_state(scene, "no memory");
-    int reason = strstr(scene_said(), strerror(ENOMEM)) != NULL && WEXITSTATUS(status) > 63;
-    if (!WIFEXITED(status) || (WEXITSTATUS(status) != 71 && WEXITSTATUS(status) != 0 && !reason))
+    if (!WIFEXITED(status) || (WEXITSTATUS(status) != 71 && WEXITSTATUS(status) != 0))
         fail("%s, no memory: status %d", scene_name(scene), WEXITSTATUS(status));
     if ((WEXITSTATUS(status) == 0) != (state == NEW) || (state == OLD && scene_said()[0] == '\0'))
         fail("%s, no memory: status %d does not fit %s, or nothing is said", scene_name(scene), WEXITSTATUS(status), scene->target);

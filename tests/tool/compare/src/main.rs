@@ -1,6 +1,7 @@
 //! `compare-tool TOOL FOLDER` compares the command line tool with the independent program, in a new folder. It stops at the first difference. `SEED` runs one
 //! list of each sort again, `ROUNDS` so many; `IMAGES` seeds are taken of each kind of image.
 
+mod garbage;
 mod images;
 mod jobs;
 mod text;
@@ -25,10 +26,14 @@ fn main() -> ExitCode {
         (lists.jobs - lists.refused) * 5 > lists.jobs && lists.refused * 5 > lists.jobs,
         "too few done or refused"
     );
+    let odd = number("GARBAGE", 300);
+    garbage::words(&tool, odd);
+    garbage::lists(&tool, odd);
     println!("tool: as the independent program: check, dir and listing of {made} images, {refused} of them refused;");
     println!(
         "tool: {} jobs of lists, {} of them refused; {} single commands, {} of them refused",
         lists.jobs, lists.refused, single.jobs, single.refused
     );
+    println!("tool: {odd} commands of random words and {odd} spoilt job lists do no harm");
     ExitCode::SUCCESS
 }
