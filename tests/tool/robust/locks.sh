@@ -118,6 +118,29 @@ if [ "$(id -u)" -eq 0 ] && setpriv --reuid=65533 --regid=65533 --groups=12345 tr
     no_rest shared
 fi
 
+case_is "a temporary file that somebody removes, and a second command that makes it anew"
+cp model swept
+mkfifo pipe1 pipe2
+(status=0; "$TOOL" store swept A pipe1 >/dev/null 2>&1 || status=$?; echo "$status" >first.end) &
+first=$!
+until [ -e .swept.d64-new ]; do sleep 0.05; done
+sleep 0.2
+rm .swept.d64-new
+(status=0; "$TOOL" store swept B pipe2 >/dev/null 2>&1 || status=$?; echo "$status" >second.end) &
+second=$!
+until [ -e .swept.d64-new ]; do sleep 0.05; done
+sleep 0.2
+cat code >pipe1
+wait "$first"
+[ "$(cat first.end)" -gt 63 ] || fail "a status above 63 of the command that lost its file, and not $(cat first.end)"
+same swept model "the image as it was"
+cat code >pipe2
+wait "$second"
+[ "$(cat second.end)" -eq 0 ] || fail "the second command done, and not $(cat second.end)"
+gives 0 read swept B -
+same seen/out code "the bytes of B"
+no_temporary swept
+
 case_is "a lock that is given back is waited for"
 cp disk soon
 (flock 9 && exec sleep 1) 9>>.soon.d64-new &
