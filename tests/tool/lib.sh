@@ -9,6 +9,7 @@ mkdir seen
 case_is() { # WHAT
     what=$1
     cases=$((cases + 1))
+    rm -f seen/command seen/status seen/out seen/err
 }
 
 fail() { # EXPECTED
