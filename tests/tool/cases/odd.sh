@@ -203,21 +203,25 @@ rm -f .image.d64-new
 cp model image
 for list in 'store A code\nread A .image.d64-new\n' 'read CODE .image.d64-new\nscratch CODE\n'; do
     printf "$list" >jobs
-    try run jobs image </dev/null
-    [ "$status" -ge 64 ] || fail "a status above 63"
-    same image model "the image as it was"
-    try run --keep-going jobs image </dev/null
-    [ "$status" -ge 64 ] || fail "a status above 63"
-    gives 0 check image
-    cp model image
+    for option in --quiet --keep-going; do
+        gives 64 run "$option" jobs image
+        mentions "line"
+        same image model "the image as it was"
+    done
 done
 case_is "an image that has the name of a temporary file is not lost"
 cp model .out.d64-new
 rm -f out
-try read .out.d64-new CODE out </dev/null
+for command in "read .out.d64-new CODE out" "read disk CODE .out.d64-new" "store .out.d64-new A code" "scratch .out.d64-new CODE" "format .out.d64-new A 01" "run jobs .out.d64-new"; do
+    # shellcheck disable=SC2086 # the words of a command
+    gives 64 $command
+    same .out.d64-new model "the image as it was"
+done
+ln -s .out.d64-new good_name
+gives 64 scratch good_name CODE
 same .out.d64-new model "the image as it was"
 case_is "a file that a job would put in the place of an image that is yet to be made"
-rm -f .out.d64-new new2
+rm -f .out.d64-new good_name new2
 printf 'format X 01\nstore A code\nread A ./new2\n' >jobs
 gives 64 run jobs new2
 [ ! -e new2 ] || fail "no file new2"

@@ -47,7 +47,7 @@ for command in $commands; do
     same help seen/out "the same help"
 done
 gives 0 check -q disk
-quiet_error
+quiet_error && quiet_output
 printf 'scratch NONE\nscratch CODE\n' >jobs2
 cp disk copy
 gives 13 run -k -q jobs2 copy
@@ -127,7 +127,7 @@ quiet_error && quiet_output
 gives 0 scratch --quiet new CODE
 quiet_error && quiet_output
 gives 0 check new --quiet
-quiet_error
+quiet_error && quiet_output
 gives 0 dir --quiet disk
 [ "$(wc -l <seen/out)" -eq 3 ] || fail "the directory all the same"
 gives 0 listing disk --quiet

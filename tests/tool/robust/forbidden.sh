@@ -64,16 +64,6 @@ chmod 000 own/secret
 refuses 66 model own/disk store own/disk NEW own/secret
 tells own/secret
 
-case_is "somebody else's temporary file"
-if [ "$(id -u)" -eq 0 ]; then
-    echo theirs >own/.disk.d64-new
-    chmod 600 own/.disk.d64-new
-    try scratch own/disk CODE </dev/null
-    [ "$status" -ge 64 ] || fail "a status above 63"
-    same model own/disk "the image as it was"
-    [ "$(cat own/.disk.d64-new)" = theirs ] || fail "the other's file as it was"
-    rm own/.disk.d64-new
-fi
 case_is "a group that the user is not in cannot be kept"
 if [ "$(id -u)" -eq 0 ]; then
     chown 65534:12345 own/disk

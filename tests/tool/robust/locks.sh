@@ -19,6 +19,29 @@ until ! flock -n .held.d64-new true; do sleep 0.05; done
 waiter=$!
 trap 'kill "$holder" "$waiter" 2>/dev/null || true' EXIT
 
+# Two users who share a group, and a folder and an image that it may write. A temporary file that another user left, and that cannot be opened, is as a lock
+# that is held; this too runs beside the other cases.
+as_user() { # USER ARGUMENT..
+    user=$1
+    shift
+    setpriv --reuid="$user" --regid="$user" --groups=12345 "$TOOL" "$@"
+}
+users=no
+if [ "$(id -u)" -eq 0 ] && setpriv --reuid=65533 --regid=65533 --groups=12345 true 2>/dev/null; then
+    users=yes
+    mkdir shared
+    cp model shared/disk
+    cp model shared/left
+    echo theirs >shared/.left.d64-new
+    mkfifo shared/pipe
+    chgrp -R 12345 shared
+    chmod 2775 shared
+    chmod 664 shared/disk shared/left shared/pipe
+    chmod 600 shared/.left.d64-new
+    (status=0; as_user 65534 store shared/left NEW code 2>left.err || status=$?; echo "$status" >left.end) &
+    left=$!
+fi
+
 # Starts commands at the same time, and fails unless all are done.
 at_once() { # COMMAND..
     i=0
@@ -89,20 +112,8 @@ wait "$writer" || fail "every store and scratch done"
 same disk model "the image as it was"
 [ "$looks" -ge 20 ] || fail "at least twenty looks, and not $looks"
 
-# Two users who share a group, and a folder and an image that it may write.
-as_user() { # USER ARGUMENT..
-    user=$1
-    shift
-    setpriv --reuid="$user" --regid="$user" --groups=12345 "$TOOL" "$@"
-}
-if [ "$(id -u)" -eq 0 ] && setpriv --reuid=65533 --regid=65533 --groups=12345 true 2>/dev/null; then
+if [ "$users" = yes ]; then
     case_is "two users at the same time"
-    mkdir shared
-    cp model shared/disk
-    mkfifo shared/pipe
-    chgrp -R 12345 shared
-    chmod 2775 shared
-    chmod 664 shared/disk shared/pipe
     (status=0; as_user 65533 store shared/disk A shared/pipe >/dev/null 2>&1 || status=$?; echo "$status" >first.end) &
     first=$!
     sleep 0.3
@@ -115,7 +126,7 @@ if [ "$(id -u)" -eq 0 ] && setpriv --reuid=65533 --regid=65533 --groups=12345 tr
     [ "$(cat first.end)" -eq 0 ] && [ "$(cat second.end)" -eq 0 ] || fail "both done, one after the other, and not $(cat first.end) and $(cat second.end)"
     gives 0 dir shared/disk
     [ "$(wc -l <seen/out)" -eq 5 ] || fail "three files"
-    no_rest shared
+    [ ! -e shared/.disk.d64-new ] || fail "no temporary file left"
 fi
 
 case_is "a temporary file that somebody removes, and a second command that makes it anew"
@@ -178,6 +189,16 @@ same held model "the image as it was"
 [ "$(cat .held.d64-new)" = theirs ] || fail "the holder's file as it was"
 kill "$holder"
 wait "$holder" 2>/dev/null || true
+if [ "$users" = yes ]; then
+    case_is "another user's temporary file that cannot be opened"
+    wait "$left"
+    cp left.err seen/err
+    [ "$(cat left.end)" -eq 75 ] || fail "status 75, and not $(cat left.end)"
+    mentions shared/
+    same shared/left model "the image as it was"
+    [ "$(cat shared/.left.d64-new)" = theirs ] || fail "the other's file as it was"
+    rm shared/.left.d64-new
+fi
 case_is "the holder is gone"
 gives 0 scratch held CODE
 same held fresh "a fresh disk"
