@@ -129,6 +129,15 @@ if [ "$users" = yes ]; then
     [ ! -e shared/.disk.d64-new ] || fail "no temporary file left"
 fi
 
+case_is "lines of several commands in one log stay whole"
+processes=
+for i in $(seq 40); do
+    "$TOOL" read model NONE out 2>>log &
+    processes="$processes $!"
+done
+for process in $processes; do wait "$process" || true; done
+[ "$(sort log | uniq -c | tr -s ' ')" = " 40 $(refusal 13)" ] || { cp log seen/err; fail "forty lines: $(refusal 13)"; }
+
 case_is "a temporary file that somebody removes, and a second command that makes it anew"
 cp model swept
 mkfifo pipe1 pipe2
