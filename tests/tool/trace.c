@@ -43,6 +43,7 @@ struct traced {
     int renamed;                      /* the new one has taken its place */
     int unflushed;                    /* bytes were written to a file since it was flushed */
     int renamed_unflushed;            /* a file took another's place like that */
+    int flushed_after;                /* something, the folder, was flushed after the rename */
     long number;                      /* the call that the plan met, and what it was on */
     int on;                           /* its descriptor, or -1 */
     int met_after_rename;
@@ -120,8 +121,10 @@ static void note_result(struct traced *traced, const struct user_regs_struct *re
         read_path(traced->child, regs->rsi, traced->paths[result]);
     if (result > 0 && (regs->orig_rax == SYS_write || regs->orig_rax == SYS_pwrite64) && regs->rdi > 2)
         traced->unflushed = 1;
-    if (result == 0 && (regs->orig_rax == SYS_fsync || regs->orig_rax == SYS_fdatasync))
+    if (result == 0 && (regs->orig_rax == SYS_fsync || regs->orig_rax == SYS_fdatasync)) {
         traced->unflushed = 0;
+        traced->flushed_after = traced->renamed;
+    }
     if (result == 0 && (regs->orig_rax == SYS_rename || regs->orig_rax == SYS_renameat || regs->orig_rax == SYS_renameat2)) {
         char path[PATH];
         read_path(traced->child, regs->orig_rax == SYS_rename ? regs->rsi : regs->r10, path);
@@ -324,7 +327,7 @@ static void without_memory(const struct scene *scene)
         fail("%s, no memory: a temporary file is left", scene_name(scene));
 }
 
-/* Undisturbed: how many calls there are to disturb; the new bytes are flushed before they take the old file's place. */
+/* Undisturbed: how many calls there are to disturb; the new bytes are flushed before they take the old file's place, and the folder after that. */
 static int calls_of(const struct scene *scene)
 {
     struct traced traced;
@@ -334,6 +337,8 @@ static int calls_of(const struct scene *scene)
         fail("%s: traced, it is not done as usual: %d calls, %s", scene_name(scene), traced.calls, traced.renamed ? "a rename" : "no rename");
     if (traced.renamed_unflushed)
         fail("%s: the new file takes the old one's place before its bytes are flushed to the disk", scene_name(scene));
+    if (!traced.flushed_after)
+        fail("%s: the folder is not flushed to the disk after the rename", scene_name(scene));
     return traced.calls;
 }
 

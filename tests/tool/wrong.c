@@ -89,7 +89,9 @@ int flock(int file, int operation)
 
 int fsync(int file)
 {
-    return wrong("does-not-flush") ? 0 : REAL(fsync)(file);
+    struct stat about;
+    int folder = fstat(file, &about) == 0 && S_ISDIR(about.st_mode);
+    return wrong(folder ? "does-not-flush-folders" : "does-not-flush") ? 0 : REAL(fsync)(file);
 }
 
 int fchmod(int file, mode_t mode)
