@@ -212,7 +212,8 @@ done
 case_is "an image that has the name of a temporary file is not lost"
 cp model .out.d64-new
 rm -f out
-for command in "read .out.d64-new CODE out" "read disk CODE .out.d64-new" "store .out.d64-new A code" "scratch .out.d64-new CODE" "format .out.d64-new A 01" "run jobs .out.d64-new"; do
+for command in "read .out.d64-new CODE out" "read disk CODE .out.d64-new" "store .out.d64-new A code" "scratch .out.d64-new CODE" \
+    "format .out.d64-new A 01" "run jobs .out.d64-new"; do
     # shellcheck disable=SC2086 # the words of a command
     gives 64 $command
     same .out.d64-new model "the image as it was"

@@ -24,7 +24,7 @@ trap 'kill "$holder" "$waiter" 2>/dev/null || true' EXIT
 as_user() { # USER ARGUMENT..
     user=$1
     shift
-    setpriv --reuid="$user" --regid="$user" --groups=12345 "$TOOL" "$@"
+    timeout 60 setpriv --reuid="$user" --regid="$user" --groups=12345 "$TOOL" "$@"
 }
 users=no
 if [ "$(id -u)" -eq 0 ] && setpriv --reuid=65533 --regid=65533 --groups=12345 true 2>/dev/null; then
@@ -141,12 +141,12 @@ for process in $processes; do wait "$process" || true; done
 case_is "a temporary file that somebody removes, and a second command that makes it anew"
 cp model swept
 mkfifo pipe1 pipe2
-(status=0; "$TOOL" store swept A pipe1 >/dev/null 2>&1 || status=$?; echo "$status" >first.end) &
+(status=0; timeout 60 "$TOOL" store swept A pipe1 >/dev/null 2>&1 || status=$?; echo "$status" >first.end) &
 first=$!
 until [ -e .swept.d64-new ]; do sleep 0.05; done
 sleep 0.2
 rm .swept.d64-new
-(status=0; "$TOOL" store swept B pipe2 >/dev/null 2>&1 || status=$?; echo "$status" >second.end) &
+(status=0; timeout 60 "$TOOL" store swept B pipe2 >/dev/null 2>&1 || status=$?; echo "$status" >second.end) &
 second=$!
 until [ -e .swept.d64-new ]; do sleep 0.05; done
 sleep 0.2
