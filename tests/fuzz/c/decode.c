@@ -58,7 +58,7 @@ static size_t next_name(const struct disk *disk, struct input *input)
     if (sort.kind % NAMES == WRONG)
         return wrong_name(sort.a, sort.b);
     if (sort.kind % NAMES == LITERAL) {
-        for (len = 0; len < sort.a % 20u; len++)
+        for (len = 0; len < sort.a % (unsigned)LITERAL_LIMIT; len++)
             name[len] = next_byte(input);
         return len;
     }

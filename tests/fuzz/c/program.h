@@ -36,6 +36,7 @@ enum where { ON_TRACK_18, IN_FILE, BY_NUMBER, WHERES = 4 };
 enum target { TO_PLACE, TO_END, TO_FILE, TO_TRACK_18, TARGETS };
 enum field { TYPE, FIRST_TRACK, FIRST_SECTOR, NAME_BYTE, COUNT_LOW, COUNT_HIGH, ANY_BYTE, NAME_PADDED, FIELDS };
 enum name { OF_FILE, OF_FILE_TOO, FROM_POOL, LITERAL, CUT, LENGTHENED, CHANGED, WRONG, NAMES };
+enum { LITERAL_LIMIT = 20 }; /* a literal name is shorter */
 enum amount { AS_IS, AT_EDGE, AROUND_NEED, IN_SECTORS, AMOUNTS };
 
 /* What one input may have at most; more of them teach nothing and take time. */

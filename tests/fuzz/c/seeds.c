@@ -6,6 +6,7 @@
 #include <stdlib.h>
 
 #include "d64.h"
+#include "operations.h"
 #include "oracle.h"
 #include "program.h"
 
@@ -94,13 +95,6 @@ static void seeds_of_starts(void)
     }
 }
 
-/* Bytes of an operation that damages, the first included. */
-static size_t length_of(enum operation operation)
-{
-    static const size_t lengths[OP_CHECK] = {6, 7, 4, 4, 3, 2, 3, 7, 2};
-    return lengths[operation];
-}
-
 /* What is damaged on a disk with files; the calls after it meet the fault, or an odd disk where all is repaired. */
 static void seeds_of_damage(void)
 {
@@ -123,7 +117,7 @@ static void seeds_of_damage(void)
     for (size_t i = 0; i < sizeof damages / sizeof *damages; i++) {
         for (unsigned char what = 0; what < 4; what++) {
             begin(2 * what + 3, 0, 0);
-            put(damages[i], length_of(damages[i][0]));
+            put(damages[i], operation_length(damages[i], sizeof damages[i]));
             if (what != 0)
                 PUT(OP_REPAIR, what);
             put_looks();
