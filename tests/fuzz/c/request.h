@@ -4,7 +4,7 @@
 
 #include "disk.h"
 
-/* The numbers are the low digits of the operations that make them (program.h). */
+/* In the order of the operations that make them (program.h). */
 enum call { CHECK, FORMAT, READ, STORE, SCRATCH, TELL, LISTING, CALLS };
 
 struct request {

@@ -101,12 +101,12 @@ static uint32_t store_leaves_junk(uint8_t *image, size_t len, const uint8_t *nam
     return number;
 }
 
-/* 9: a store of exactly 508 bytes as USR changes a byte of 1/0. */
-static uint32_t store_of_508(uint8_t *image, size_t len, const uint8_t *name, size_t name_len, uint32_t kind,
-                             const uint8_t *data, size_t data_len, uint8_t *answer, size_t answer_len)
+/* 9: a store as USR that leaves no sector partly filled changes a byte of 1/0. */
+static uint32_t store_of_full_sectors(uint8_t *image, size_t len, const uint8_t *name, size_t name_len, uint32_t kind,
+                                      const uint8_t *data, size_t data_len, uint8_t *answer, size_t answer_len)
 {
     uint32_t number = d64_store(image, len, name, name_len, kind, data, data_len, answer, answer_len);
-    if (number == 0 && data_len == 508 && kind == 3)
+    if (number == 0 && data_len % 254 == 0 && kind == 3)
         image[0] ^= 1;
     return number;
 }
@@ -127,7 +127,7 @@ const struct library *tested_library(void)
     case 6: wrong.listing = listing_reads_beyond; break;
     case 7: wrong.check = check_misses_high_counts; break;
     case 8: wrong.store = store_leaves_junk; break;
-    case 9: wrong.store = store_of_508; break;
+    case 9: wrong.store = store_of_full_sectors; break;
     default: break;
     }
     return &wrong;
