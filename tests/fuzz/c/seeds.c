@@ -1,6 +1,6 @@
 /*
  * Writes the seed corpus to the folder given: for each start image the calls in turn, then damage of every sort, with
- * the map made right again and not, then the edges of names, amounts and sizes, and two images as they stand.
+ * the map made right again and not, then full disks, the edges of names, amounts and sizes, and bytes as they stand.
  */
 #include <stdio.h>
 #include <stdlib.h>
@@ -9,6 +9,9 @@
 #include "operations.h"
 #include "oracle.h"
 #include "program.h"
+
+/* Start images (oracle/src/starts.rs). */
+enum { FEW_FILES = 3, FULL_DIRECTORY = 11 };
 
 static const char *folder;
 static FILE *seed;
@@ -146,6 +149,23 @@ static void seeds_of_filling(void)
         put_store(FROM_POOL, file, IN_SECTORS, file, 128);
 }
 
+/* Two refusals that apply at once: the directory and the disk full, the name taken, the version that forbids writing. */
+static void seeds_of_orders(void)
+{
+    enum { TOO_MUCH = 20 }; /* of the edges */
+    static const unsigned char starts[] = {FEW_FILES, FULL_DIRECTORY, FULL_DIRECTORY + 1};
+    for (size_t i = 0; i < sizeof starts; i++) {
+        begin(starts[i], 0, 0);
+        PUT(OP_VERSION, 0x41);
+        put_store(FROM_POOL, 5, AT_EDGE, TOO_MUCH, 0);
+        put_store(OF_FILE, 0, AT_EDGE, TOO_MUCH, 0);
+        PUT(OP_VERSION, 0x42);
+        put_store(FROM_POOL, 5, AT_EDGE, TOO_MUCH, 0);
+        put_store(OF_FILE, 0, AS_IS, 0, 0);
+        put_scratch(FROM_POOL, 5);
+    }
+}
+
 /* Names, kinds, answer blocks, positions, outputs and images of sizes at the edges. */
 static void seeds_of_edges(void)
 {
@@ -170,7 +190,6 @@ static void seeds_of_edges(void)
 static void seeds_of_images(void)
 {
     static uint8_t image[D64_IMAGE_BYTES];
-    enum { FEW_FILES = 3 };
     for (unsigned start = 0; start < 24; start += 4) {
         oracle_start(start + 3, image, sizeof image);
         begin_raw(RAW_TRACK18);
@@ -191,6 +210,7 @@ int main(int argc, char **argv)
     seeds_of_starts();
     seeds_of_damage();
     seeds_of_filling();
+    seeds_of_orders();
     seeds_of_edges();
     seeds_of_images();
     finish();

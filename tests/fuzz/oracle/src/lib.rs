@@ -5,3 +5,5 @@
 mod calls;
 mod repair;
 mod starts;
+#[cfg(feature = "wrong-libraries")]
+mod wrong_libraries;
