@@ -18,13 +18,15 @@ fuzzing_clang() {
     done
 }
 
+# At most some minutes where there is no network.
+packages() { # COMMAND WORDS..
+    DEBIAN_FRONTEND=noninteractive timeout 300 apt-get -qq -o Acquire::Retries=0 -o Acquire::http::Timeout=20 -o DPkg::Lock::Timeout=60 "$@" >"$work/apt" 2>&1
+}
+
 install_libfuzzer() {
     [ "$(id -u)" -eq 0 ] && command -v apt-get >/dev/null || return 0
-    export DEBIAN_FRONTEND=noninteractive
-    for attempt in 1 2; do
-        if apt-get install -qq -y --no-install-recommends clang-14 libclang-rt-14-dev >"$work/apt" 2>&1; then return 0; fi
-        [ "$attempt" -eq 2 ] || apt-get update -qq >"$work/apt" 2>&1 || return 0
-    done
+    packages install -y --no-install-recommends clang-14 libclang-rt-14-dev ||
+        { packages update && packages install -y --no-install-recommends clang-14 libclang-rt-14-dev; } || return 0
 }
 
 clang=$(fuzzing_clang)

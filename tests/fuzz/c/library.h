@@ -1,4 +1,4 @@
-/* The seven calls of d64.h as a table, so that the archive, the oracle and wrong libraries are called by the same code. */
+/* The seven calls of d64.h as a table: the archive, the oracle and wrong libraries are called by the same code. */
 #ifndef LIBRARY_H
 #define LIBRARY_H
 

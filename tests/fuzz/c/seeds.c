@@ -149,7 +149,7 @@ static void seeds_of_filling(void)
         put_store(FROM_POOL, file, IN_SECTORS, file, 128);
 }
 
-/* Two refusals that apply at once: the directory and the disk full, the name taken, the version that forbids writing. */
+/* Two refusals that apply at once: directory and disk full, the name taken, the version that forbids writing. */
 static void seeds_of_orders(void)
 {
     enum { TOO_MUCH = 20 }; /* of the edges */
