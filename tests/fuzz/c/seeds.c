@@ -1,0 +1,218 @@
+/*
+ * Writes the seed corpus to the folder given: for each start image the calls in turn, then damage of every sort, with
+ * the map made right again and not, then full disks, the edges of names, amounts and sizes, and bytes as they stand.
+ */
+#include <stdio.h>
+#include <stdlib.h>
+
+#include "d64.h"
+#include "operations.h"
+#include "oracle.h"
+#include "program.h"
+
+/* Start images (oracle/src/starts.rs). */
+enum { FEW_FILES = 3, FULL_DIRECTORY = 11 };
+
+static const char *folder;
+static FILE *seed;
+static unsigned written;
+
+static void put(const unsigned char *bytes, size_t len)
+{
+    if (fwrite(bytes, 1, len, seed) != len) {
+        perror("a seed");
+        exit(1);
+    }
+}
+
+#define PUT(...) put((const unsigned char[]){__VA_ARGS__}, sizeof((const unsigned char[]){__VA_ARGS__}))
+
+static void finish(void)
+{
+    if (seed != NULL && fclose(seed) != 0) {
+        perror("a seed");
+        exit(1);
+    }
+}
+
+static void begin_raw(enum mode mode)
+{
+    char path[4096];
+    finish();
+    snprintf(path, sizeof path, "%s/%04u", folder, written++);
+    seed = fopen(path, "wb");
+    if (seed == NULL) {
+        perror(path);
+        exit(1);
+    }
+    PUT(mode);
+}
+
+/* A program on a start image, lent against the page behind it. */
+static void begin(unsigned start, unsigned size, unsigned place)
+{
+    begin_raw(PROGRAM);
+    PUT((unsigned char)start, (unsigned char)size, (unsigned char)place);
+}
+
+/* Calls with memory against the page behind it and a right answer block. */
+static void put_read(enum name kind, unsigned char which)
+{
+    PUT(OP_READ, 0, 0, kind, which, 0, AROUND_NEED, 128, 0);
+}
+
+static void put_store(enum name kind, unsigned char which, enum amount amount, unsigned char a, unsigned char b)
+{
+    PUT(OP_STORE, 0, 0, kind, which, 0, 1, amount, a, b, which);
+}
+
+static void put_scratch(enum name kind, unsigned char which)
+{
+    PUT(OP_SCRATCH, 0, 0, kind, which, 0);
+}
+
+static void put_looks(void)
+{
+    PUT(OP_CHECK, 2, 0);
+    PUT(OP_TELL, 0, 0, 0, 0);
+    PUT(OP_TELL, 1, 0, 143, 0);
+    PUT(OP_LISTING, 0, 0, 0, AROUND_NEED, 128, 0);
+    put_read(OF_FILE, 0);
+    put_read(OF_FILE, 1);
+    PUT(OP_READ, 1, 0, OF_FILE, 2, 0, AROUND_NEED, 127, 0);
+}
+
+static void seeds_of_starts(void)
+{
+    for (unsigned start = 0; start < oracle_starts(); start++) {
+        begin(start, 0, start % 3);
+        put_looks();
+        PUT(OP_VERSION, 0x41);
+        put_store(FROM_POOL, 0, AS_IS, 44, 1);
+        put_scratch(OF_FILE, 1);
+        put_store(FROM_POOL, 3, AROUND_NEED, 128, 0);
+        put_scratch(FROM_POOL, 3);
+        put_scratch(OF_FILE, 0);
+        PUT(OP_FORMAT, 0, 0, FROM_POOL, 7, 0, '3', '0');
+        put_store(FROM_POOL, 0, AS_IS, 44, 1);
+    }
+}
+
+/* What is damaged on a disk with files; the calls after it meet the fault, or an odd disk where all is repaired. */
+static void seeds_of_damage(void)
+{
+    static const unsigned char damages[][8] = {
+        {OP_BYTE, ON_TRACK_18, 1, 0, 34, 0x82}, {OP_LINK, ON_TRACK_18, 1, 0, TO_TRACK_18, 4, 0},
+        {OP_LINK, ON_TRACK_18, 1, 0, TO_TRACK_18, 1, 0}, {OP_LINK, ON_TRACK_18, 1, 0, TO_TRACK_18, 19, 0},
+        {OP_LINK, ON_TRACK_18, 1, 0, TO_END, 255, 0}, {OP_LINK, IN_FILE, 0, 0, TO_END, 0, 0},
+        {OP_LINK, IN_FILE, 0, 0, TO_END, 1, 0}, {OP_LINK, IN_FILE, 0, 0, TO_FILE, 1, 0},
+        {OP_LINK, IN_FILE, 1, 1, TO_FILE, 1, 0}, {OP_LINK, IN_FILE, 1, 0, TO_FILE, 0, 1},
+        {OP_LINK, IN_FILE, 0, 0, TO_PLACE, 36, 0}, {OP_LINK, IN_FILE, 0, 0, TO_PLACE, 35, 17},
+        {OP_LINK, IN_FILE, 0, 0, TO_PLACE, 35, 16}, {OP_LINK, IN_FILE, 0, 0, TO_TRACK_18, 18, 0},
+        {OP_LINK, BY_NUMBER, 170, 2, TO_END, 2, 0}, {OP_SLOT, 0, TYPE, 0x80}, {OP_SLOT, 0, TYPE, 0xC3},
+        {OP_SLOT, 0, TYPE, 0}, {OP_SLOT, 0, FIRST_TRACK, 0}, {OP_SLOT, 0, FIRST_SECTOR, 20},
+        {OP_SLOT, 0, NAME_BYTE, 0xA0}, {OP_SLOT, 0, NAME_PADDED + 8 * 15, 0}, {OP_SLOT, 0, NAME_BYTE + 8 * 15, 'X'},
+        {OP_SLOT, 1, COUNT_LOW, 7}, {OP_SLOT, 1, COUNT_HIGH, 1}, {OP_SLOT, 1, ANY_BYTE + 8 * 20, 5},
+        {OP_MAP_ENTRY, 35, 0, 3}, {OP_MAP_ENTRY, 1, 3, 0x3F}, {OP_MAP_BIT, 17, 0}, {OP_MAP_BIT, 17, 128},
+        {OP_MAP_BIT, 18, 128 + 18}, {OP_COPY_SLOT, 0, 143}, {OP_COPY_SLOT, 0, 5},
+        {OP_COPY_SECTOR, ON_TRACK_18, 1, 0, ON_TRACK_18, 4, 0}, {OP_VERSION, 0x42}, {OP_VERSION, 0},
+    };
+    for (size_t i = 0; i < sizeof damages / sizeof *damages; i++) {
+        for (unsigned char what = 0; what < 4; what++) {
+            begin(2 * what + 3, 0, 0);
+            put(damages[i], operation_length(damages[i], sizeof damages[i]));
+            if (what != 0)
+                PUT(OP_REPAIR, what);
+            put_looks();
+            put_store(FROM_POOL, 0, AS_IS, 44, 1);
+            put_scratch(OF_FILE, 0);
+        }
+    }
+}
+
+/* A disk that fills: by one file, by many, and in its directory. */
+static void seeds_of_filling(void)
+{
+    for (unsigned char more = 126; more < 131; more++) {
+        begin(0, 0, 0);
+        put_store(FROM_POOL, 1, AROUND_NEED, more, 0);
+        put_store(FROM_POOL, 2, AS_IS, 0, 0);
+        put_read(FROM_POOL, 1);
+        put_scratch(FROM_POOL, 1);
+    }
+    begin(0, 0, 1);
+    for (unsigned char file = 0; file < 12; file++)
+        put_store(FROM_POOL, file, AT_EDGE, file, 0);
+    for (unsigned char file = 0; file < 12; file += 3)
+        put_scratch(FROM_POOL, file);
+    for (unsigned char file = 0; file < 6; file++)
+        put_store(FROM_POOL, file, IN_SECTORS, file, 128);
+}
+
+/* Two refusals that apply at once: directory and disk full, the name taken, the version that forbids writing. */
+static void seeds_of_orders(void)
+{
+    enum { TOO_MUCH = 20 }; /* of the edges */
+    static const unsigned char starts[] = {FEW_FILES, FULL_DIRECTORY, FULL_DIRECTORY + 1};
+    for (size_t i = 0; i < sizeof starts; i++) {
+        begin(starts[i], 0, 0);
+        PUT(OP_VERSION, 0x41);
+        put_store(FROM_POOL, 5, AT_EDGE, TOO_MUCH, 0);
+        put_store(OF_FILE, 0, AT_EDGE, TOO_MUCH, 0);
+        PUT(OP_VERSION, 0x42);
+        put_store(FROM_POOL, 5, AT_EDGE, TOO_MUCH, 0);
+        put_store(OF_FILE, 0, AS_IS, 0, 0);
+        put_scratch(FROM_POOL, 5);
+    }
+}
+
+/* Names, kinds, answer blocks, positions, outputs and images of sizes at the edges. */
+static void seeds_of_edges(void)
+{
+    for (unsigned char i = 0; i < 16; i++) {
+        begin(3 + i, i < 11 ? 240 + i : 0, i);
+        PUT(OP_STORE, i, 240 + i, FROM_POOL, i, 0, 1, AS_IS, i, 0, 0);
+        PUT(OP_READ, i, 0, WRONG, i, i, AS_IS, 255, 0);
+        PUT(OP_STORE, 128, 0, FROM_POOL, i, 0, 200 + i, AS_IS, 0, 0, 0);
+        PUT(OP_SCRATCH, i, 0, CHANGED, 0, i);
+        PUT(OP_SCRATCH, i, 0, CUT, 0, i);
+        PUT(OP_READ, i, 0, LENGTHENED, 0, i, AT_EDGE, 22, 0);
+        PUT(OP_READ, i, 0, LITERAL, 2, 0, 'A', i, AT_EDGE, i, 0);
+        PUT(OP_TELL, i, 0, 200 + i, 0);
+        PUT(OP_TELL, i, 0, i, 240 + i);
+        PUT(OP_LISTING, i, 0, 240 + i, AT_EDGE, 13, 0);
+        PUT(OP_LISTING, i, 240 + i, 0, AROUND_NEED, 120 + i, 0);
+        PUT(OP_FORMAT, i, 0, WRONG, i, 17 * i, 0, 0);
+        PUT(OP_FORMAT, i, 0, FROM_POOL, i, 0, i, 0xA0);
+    }
+}
+
+static void seeds_of_images(void)
+{
+    static uint8_t image[D64_IMAGE_BYTES];
+    for (unsigned start = 0; start < 24; start += 4) {
+        oracle_start(start + 3, image, sizeof image);
+        begin_raw(RAW_TRACK18);
+        put(image + D64_TRACK18_OFFSET, D64_TRACK18_BYTES);
+    }
+    oracle_start(FEW_FILES, image, sizeof image);
+    begin_raw(RAW_IMAGE);
+    put(image, sizeof image);
+}
+
+int main(int argc, char **argv)
+{
+    if (argc != 2) {
+        fprintf(stderr, "usage: seeds FOLDER\n");
+        return 64;
+    }
+    folder = argv[1];
+    seeds_of_starts();
+    seeds_of_damage();
+    seeds_of_filling();
+    seeds_of_orders();
+    seeds_of_edges();
+    seeds_of_images();
+    finish();
+    return 0;
+}

@@ -1,0 +1,134 @@
+/*
+ * The archive with one fault, chosen by the environment's WRONG: a fuzzer that cannot fail shows nothing. Each must be
+ * found (tests/fuzz/run).
+ */
+#include <stdlib.h>
+#include <string.h>
+
+#include "library.h"
+
+static uint8_t copy[D64_IMAGE_BYTES];
+
+static int on_track_18(size_t offset)
+{
+    return offset >= D64_TRACK18_OFFSET && offset < D64_TRACK18_OFFSET + D64_TRACK18_BYTES;
+}
+
+/* 1: a byte of a scratched file stays where it was, at the end of its lowest sector. */
+static uint32_t scratch_leaves_a_byte(uint8_t *image, size_t len, const uint8_t *name, size_t name_len,
+                                      uint8_t *answer, size_t answer_len)
+{
+    if (len == D64_IMAGE_BYTES)
+        memcpy(copy, image, len);
+    uint32_t number = d64_scratch(image, len, name, name_len, answer, answer_len);
+    for (size_t sector = 0; number == 0 && sector < D64_IMAGE_BYTES; sector += 256) {
+        if (memcmp(copy + sector, image + sector, 256) != 0 && !on_track_18(sector)) {
+            image[sector + 255] = copy[sector + 255];
+            break;
+        }
+    }
+    return number;
+}
+
+/* 2: on tracks 25 to 35 the bits past the last sector are not looked at. */
+static uint32_t check_misses_bits(const uint8_t *image, size_t len, uint8_t *answer, size_t answer_len)
+{
+    if (len != D64_IMAGE_BYTES)
+        return d64_check(image, len, answer, answer_len);
+    memcpy(copy, image, len);
+    for (size_t track = 25; track <= 35; track++)
+        copy[D64_TRACK18_OFFSET + 4 * track + 3] &= track < 31 ? 3 : 1;
+    return d64_check(copy, len, answer, answer_len);
+}
+
+/* 3: one byte too many is written, of files with two sectors or more. */
+static uint32_t read_writes_more(const uint8_t *image, size_t len, const uint8_t *name, size_t name_len,
+                                 uint8_t *out, size_t out_len, uint8_t *answer, size_t answer_len)
+{
+    uint32_t number = d64_read(image, len, name, name_len, out, out_len, answer, answer_len);
+    size_t length = number == 0 ? answer[3] | (size_t)answer[4] << 8 | (size_t)answer[5] << 16 : 0;
+    if (number == 0 && answer[7] > 1)
+        out[length] ^= 1;
+    return number;
+}
+
+/* 4: the map is marked before the directory is found full. */
+static uint32_t store_marks_first(uint8_t *image, size_t len, const uint8_t *name, size_t name_len, uint32_t kind,
+                                  const uint8_t *data, size_t data_len, uint8_t *answer, size_t answer_len)
+{
+    uint32_t number = d64_store(image, len, name, name_len, kind, data, data_len, answer, answer_len);
+    if (number == D64_DIRECTORY_FULL)
+        image[D64_TRACK18_OFFSET + 4 * 17]--;
+    return number;
+}
+
+/* 5: a position is cut to one byte. */
+static uint32_t tell_cuts_position(const uint8_t *image, size_t len, size_t position,
+                                   uint8_t *entry, size_t entry_len, uint8_t *answer, size_t answer_len)
+{
+    return d64_tell(image, len, position & 255, entry, entry_len, answer, answer_len);
+}
+
+/* 6: a byte behind track 18 is read, and has no effect. */
+static uint32_t listing_reads_beyond(const uint8_t *track18, size_t len, uint8_t *text, size_t text_len,
+                                     uint8_t *answer, size_t answer_len)
+{
+    if (len == D64_TRACK18_BYTES)
+        (void)*(const volatile uint8_t *)(track18 + len);
+    return d64_listing(track18, len, text, text_len, answer, answer_len);
+}
+
+/* 7: the high byte of a file's count is taken for 0. */
+static uint32_t check_misses_high_counts(const uint8_t *image, size_t len, uint8_t *answer, size_t answer_len)
+{
+    uint32_t number = d64_check(image, len, answer, answer_len);
+    if (number != D64_WRONG_COUNT)
+        return number;
+    memcpy(copy, image, len);
+    size_t slot = D64_TRACK18_OFFSET + 256 * (size_t)answer[1] + 32 * (size_t)(answer[2] % 8);
+    copy[slot + 31] = 0;
+    return d64_check(copy, len, answer, answer_len);
+}
+
+/* 8: what was in 35/16 before is not overwritten with zeros by a store; nearly full disks alone come to it. */
+static uint32_t store_leaves_junk(uint8_t *image, size_t len, const uint8_t *name, size_t name_len, uint32_t kind,
+                                  const uint8_t *data, size_t data_len, uint8_t *answer, size_t answer_len)
+{
+    uint8_t last = len == D64_IMAGE_BYTES ? image[len - 1] : 0;
+    uint32_t number = d64_store(image, len, name, name_len, kind, data, data_len, answer, answer_len);
+    if (number == 0 && last != 0 && image[len - 1] == 0)
+        image[len - 1] = last;
+    return number;
+}
+
+/* 9: a store as USR that leaves no sector partly filled changes a byte of 1/0. */
+static uint32_t store_of_full_sectors(uint8_t *image, size_t len, const uint8_t *name, size_t name_len, uint32_t kind,
+                                      const uint8_t *data, size_t data_len, uint8_t *answer, size_t answer_len)
+{
+    uint32_t number = d64_store(image, len, name, name_len, kind, data, data_len, answer, answer_len);
+    if (number == 0 && data_len % 254 == 0 && kind == 3)
+        image[0] ^= 1;
+    return number;
+}
+
+const struct library *tested_library(void)
+{
+    static struct library wrong;
+    if (wrong.check != NULL)
+        return &wrong;
+    wrong = (struct library){d64_check, d64_format, d64_read, d64_store, d64_scratch, d64_tell, d64_listing};
+    const char *which = getenv("WRONG");
+    switch (which != NULL ? atoi(which) : 0) {
+    case 1: wrong.scratch = scratch_leaves_a_byte; break;
+    case 2: wrong.check = check_misses_bits; break;
+    case 3: wrong.read = read_writes_more; break;
+    case 4: wrong.store = store_marks_first; break;
+    case 5: wrong.tell = tell_cuts_position; break;
+    case 6: wrong.listing = listing_reads_beyond; break;
+    case 7: wrong.check = check_misses_high_counts; break;
+    case 8: wrong.store = store_leaves_junk; break;
+    case 9: wrong.store = store_of_full_sectors; break;
+    default: break;
+    }
+    return &wrong;
+}
