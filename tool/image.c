@@ -1,4 +1,5 @@
 #include "image.h"
+#include "messages.h"
 #include <string.h>
 
 static int read_image(struct image *image)
@@ -36,8 +37,11 @@ int image_save(struct image *image, bool *written)
     bool changed = memcmp(image->bytes, image->on_file, image->length) != 0;
 
     *written = image->for_change && (changed || (is_stream(image->path) && !image->is_new));
-    if (*written && is_stream(image->path))
+    if (*written && is_stream(image->path)) {
+        if (image->length > D64_IMAGE_BYTES)
+            return fail(STATUS_NO_OUTPUT, "the image was not read to its end; nothing is written");
         return write_stream(image->bytes, image->length);
+    }
     if (*written)
         return replacement_commit(&image->file, image->bytes, image->length);
     image_drop(image);
