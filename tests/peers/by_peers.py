@@ -38,7 +38,7 @@ def cc1541_shapes():
     loose = {"-T DEL": ["-T", "DEL", "-f", "gone", "-w", "longer"], "-T REL": ["-T", "REL", "-f", "rel", "-w", "longer"],
              "-T 0": ["-T", "0", "-f", "none", "-w", "longer"], "-L": ["-f", "art", "-L"], "-l": ["-f", "loop", "-l", "alpha"],
              "-N": ["-N", "-f", "alpha", "-w", "longer"], "a name with A0 inside": ["-f", "start#a0,8,1", "-w", "longer"],
-             "-f with an empty name": ["-f", "", "-w", "longer"], "-W": ["-f", "warp", "-W", "longer"]}
+             "-f with an empty name": ["-f", "", "-w", "longer"], "-W": ["-f", "warp", "-W", "longer", "-f", "transwarp v0.86", "-w", "data1"]}
     for title, words in loose.items():
         yield Shape("then " + title, TWO, then=lambda peer, image, folder, words=words: run([peer.command, "-q", "-m", *words, image], folder))
 
@@ -115,7 +115,8 @@ def written_on(d64, image, held, require, title):
         require(d64.answer("scratch", "--quiet", image, d64.text(name)) == "done", f"{title}: d64 does not scratch a file")
     after = sorted((name, data) for _, name, data in disks.files(read_file(image)))
     wanted = sorted([(name, data) for _, name, data in held[1:]] + [(NEW, pattern(600, 222))])
-    require(after == wanted and d64.answer("check", "--quiet", image) == "done", f"{title}: the disk is not as it must be after d64's store and scratch")
+    sound = d64.answer("check", "--quiet", image) == "done"
+    require(after == wanted and sound, f"{title}: the disk is not as it must be after d64's store and scratch")
     return "; d64 stores and scratches on it"
 
 
@@ -134,9 +135,56 @@ def fact(d64, peer, shape, folder, require):
     return text + written_on(d64, image, held, require, title)
 
 
+SECRET, SHORT = pattern(3000, 66), b"!"
+
+
+def filling(image, name):
+    """What fills the end of the one sector of a file with one byte."""
+    entry = next(slot for slot in disks.entries(image) if slot[5:21] == disks.padded(name))
+    end = disks.sector_bytes(image, *entry[3:5])[3:]
+    return "zeros" if not any(end) else "bytes of the secret" if any(end[at:at + 16] in SECRET for at in range(230)) else "other bytes"
+
+
+def left_over(before, after):
+    """What is on the disk of a secret: beside a file of one byte written after it, and when such a file has taken its place."""
+    pieces = [SECRET[start:start + 32] for start in range(0, len(SECRET) - 32, 254)]
+    still = sum(piece in after for piece in pieces)
+    return (f"after the byte of the next file stand {filling(before, b'NEXT')}; {still} of the secret's {len(pieces)} sectors are left when "
+            f"a file of one byte has replaced it; after that byte stand {filling(after, b'SECRET')}")
+
+
+def left_by_peer(peer, folder):
+    image = os.path.join(folder, "made.d64")
+    write_file(os.path.join(folder, "secret"), SECRET)
+    write_file(os.path.join(folder, "short"), SHORT)
+    made = peer.make(image, [(PRG, b"SECRET", "secret"), (PRG, b"NEXT", "short")], folder)
+    before = read_file(image)
+    replaced = peer.replace(image, b"SECRET", "short", folder)
+    return left_over(before, read_file(image)) if made.done and replaced.done else "not done"
+
+
+def left_by_d64(d64, require):
+    image, secret, short = (os.path.join(d64.work, name) for name in ("made.d64", "secret", "short"))
+    write_file(secret, SECRET)
+    write_file(short, SHORT)
+    images = []
+    for words in (("format", image, "PEERS", "01"), ("store", image, "SECRET", secret), ("store", image, "NEXT", short),
+                  ("scratch", image, "SECRET"), ("store", image, "SECRET", short)):
+        require(d64.answer(words[0], "--quiet", *words[1:]) == "done", f"what is left: d64 does not {words[0]}")
+        images.append(read_file(image))
+    said = left_over(images[2], images[4])
+    require(said.count("zeros") == 2 and " 0 of the secret's" in said, f"what d64 leaves of a scratched file: {said}")
+    return said
+
+
 def facts(d64, peers, work, require, only=""):
     for peer in peers:
         for shape in SHAPES.get(peer.name, lambda: ())():
             if only in shape.title:
                 folder = empty_folder(os.path.join(work, "peer"))
                 yield f"written by {peer.name} | {shape.title} | d64 | {fact(d64, peer, shape, folder, require)}"
+    if only in "a secret":
+        yield f"left over | a secret | d64 | {left_by_d64(d64, require)}"
+        for peer in peers:
+            if peer.can("replace"):
+                yield f"left over | a secret | {peer.name} | {left_by_peer(peer, empty_folder(os.path.join(work, 'peer')))}"

@@ -9,9 +9,10 @@ import tempfile
 
 import by_d64
 import by_peers
+import damaged
 import tools
 
-DIRECTIONS = {"by-d64": by_d64, "by-peers": by_peers}
+DIRECTIONS = {"by-d64": by_d64, "by-peers": by_peers, "damaged": damaged}
 
 
 def require(holds, text):

@@ -97,7 +97,7 @@ def put_file(image, slot, name, sectors, data, kind=PRG):
 def directory(image):
     """The directory's sectors along the links from 18/1, as far as they can be followed."""
     walked, here = [], (18, 1)
-    while here not in walked and on_disk(*here):
+    while here not in walked and on_disk(*here) and len(sector_bytes(image, *here)) == 256:
         walked.append(here)
         here = tuple(sector_bytes(image, *here)[:2])
     return walked
@@ -109,24 +109,26 @@ def entries(image):
         block = sector_bytes(image, *place)
         for start in range(0, 256, 32):
             slot = bytes(block[start:start + 32])
-            if len(slot) == 32 and slot[2] != 0:
+            if slot[2] != 0:
                 yield slot
+
+
+def chain(image, first):
+    """The sectors along a chain as far as they can be followed, and the link that ends it."""
+    walked, here = [], tuple(first)
+    while here not in walked and on_disk(*here) and len(sector_bytes(image, *here)) == 256:
+        walked.append(here)
+        here = tuple(sector_bytes(image, *here)[:2])
+    return walked, here
 
 
 def chain_bytes(image, first):
     """The data along a chain, or None where it cannot be followed to a sound end."""
-    data, walked, here = b"", set(), tuple(first)
-    while True:
-        if here in walked or not on_disk(*here):
-            return None
-        walked.add(here)
-        block = bytes(sector_bytes(image, *here))
-        if len(block) < 256:
-            return None
-        if block[0] == 0:
-            return data + block[2:block[1] + 1] if block[1] >= 1 else None
-        data += block[2:]
-        here = (block[0], block[1])
+    walked, end = chain(image, first)
+    if not walked or end[0] != 0 or end[1] == 0:
+        return None
+    data = b"".join(bytes(sector_bytes(image, *place)[2:]) for place in walked)
+    return data[:254 * (len(walked) - 1) + end[1] - 1]
 
 
 def files(image):

@@ -1,7 +1,7 @@
 """The programs that are compared, each behind the same few calls: d64, and its peers cc1541, cbmconvert, floptool and c1541.
 
 A program runs in a folder of its own with a time limit, and cannot write a file or use memory without bound; its output goes to
-files, so that an endless listing is noticed as well.
+files, so that an endless listing is noticed as well. None of them takes a tenth of a second for a sound disk.
 """
 
 import os
@@ -15,6 +15,7 @@ import subprocess
 import disks
 
 SECONDS = 10
+CPU_SECONDS = 4
 FILE_BYTES = 4 << 20
 MEMORY_BYTES = 1 << 30
 
@@ -38,6 +39,7 @@ class Outcome:
 def limit():
     resource.setrlimit(resource.RLIMIT_FSIZE, (FILE_BYTES, FILE_BYTES))
     resource.setrlimit(resource.RLIMIT_AS, (MEMORY_BYTES, MEMORY_BYTES))
+    resource.setrlimit(resource.RLIMIT_CPU, (CPU_SECONDS, CPU_SECONDS + 1))
     resource.setrlimit(resource.RLIMIT_CORE, (0, 0))
 
 
@@ -49,7 +51,7 @@ def run(command, folder):
                                    preexec_fn=limit, start_new_session=True)
         try:
             status = process.wait(SECONDS)
-            ending = f"exit {status}" if status >= 0 else f"killed by {signal.Signals(-status).name}"
+            ending = "hangs" if status == -signal.SIGXCPU else f"exit {status}" if status >= 0 else f"killed by {signal.Signals(-status).name}"
         except subprocess.TimeoutExpired:
             os.killpg(process.pid, signal.SIGKILL)
             process.wait()
@@ -130,13 +132,20 @@ class D64:
 
 
 class Peer:
-    """What a peer can do is what its class defines of list, extract, add and replace."""
+    """What a peer can do is what its class defines of list, extract, add, replace and validate."""
 
     def __init__(self, command):
         self.command = command
 
     def can(self, what):
         return hasattr(self, what)
+
+    progress = re.compile(rb"\Z")
+
+    def complaints(self, outcome):
+        """The lines that say something is wrong: all on standard error but those of progress, and errors on standard output."""
+        errors = {line.strip() for line in outcome.err.split(b"\n") if line.strip() and not self.progress.match(line.strip())}
+        return errors | {line for line in outcome.out.split(b"\n") if re.match(rb"(?i)err(or)?\b", line)}
 
 
 class Cc1541(Peer):
@@ -187,12 +196,17 @@ class Cc1541(Peer):
 
     replace = add
 
+    def validate(self, image, folder):
+        """-V is its check; with a file to write it would stand before the writing."""
+        return run([self.command, "-q", "-m", "-V", image], folder)
+
 
 class Cbmconvert(Peer):
     """Files go in and out in PC64 format, whose header has the name as it is on the disk and whose suffix has the kind."""
 
     name = "cbmconvert"
     letters = {disks.SEQ: "s", disks.PRG: "p", disks.USR: "u"}
+    progress = re.compile(rb"`|Writing|Wrote|Archive extracted|cbmconvert: all done")
 
     def version(self, folder):
         return re.search(rb"cbmconvert (\S+)", run([self.command, "--help"], folder).err)[1].decode()
@@ -200,13 +214,13 @@ class Cbmconvert(Peer):
     def extract(self, image, wanted, folder):
         out = empty_folder(os.path.join(folder, "out"))
         outcome = run([self.command, "-v2", "-P", "-d", image], out)
-        found = {}
+        kinds, found, others = {letter: kind for kind, letter in self.letters.items()}, {}, {}
         for file in sorted(os.listdir(out)):
             data = read_file(os.path.join(out, file))
             if data[:8] == b"C64File\0":
-                kind = {letter: kind for kind, letter in self.letters.items()}.get(file[-3:-2])
-                found[kind, data[8:24].rstrip(b"\xa0")] = data[26:]
-        return outcome, {(kind, name): found.get((kind, name)) for kind, name in wanted}
+                name, kind = data[8:24].rstrip(b"\xa0"), kinds.get(file[-3:-2])
+                (found.setdefault((kind, name), data[26:]) if kind else others.setdefault(name, data[26:]))
+        return outcome, {(kind, name): found.get((kind, name), others.get(name)) for kind, name in wanted}
 
     def pc64(self, entries, folder):
         paths = []
@@ -306,6 +320,10 @@ class C1541(Peer):
 
     def replace(self, image, name, path, folder, kind=disks.PRG):
         return run([self.command, image, "-delete", self.typed(name), *self.writes([(kind, name, path)])], folder)
+
+    def validate(self, image, folder):
+        """As a drive does it: the map is made anew from the files' chains."""
+        return run([self.command, image, "-validate"], folder)
 
 
 ALL = (Cc1541, Cbmconvert, Floptool, C1541)
