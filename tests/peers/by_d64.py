@@ -52,6 +52,31 @@ class Plan:
         return d64.answer("run", "--quiet", "jobs", image)
 
 
+class TypedPlan(Plan):
+    """The same through single commands, with names as text: the table of man/d64.1, written down once more."""
+
+    @staticmethod
+    def typed(name):
+        return "".join(chr(byte - 0x60) if 0xC1 <= byte <= 0xDA else chr(byte) if 0x20 <= byte <= 0x5F and byte != 0x5C else f"\\x{byte:02x}"
+                       for byte in name)
+
+    def write(self, d64, image):
+        answers = [d64.answer("format", "--quiet", image, "PEERS", "01")]
+        for _, name, number, kind in self.jobs:
+            path = os.path.join(d64.work, "typed")
+            write_file(path, self.datas[number])
+            answers.append(d64.answer("store", "--quiet", "--", image, self.typed(name), path, disks.KIND_WORD[kind]))
+        return "done" if set(answers) == {"done"} else str(answers)
+
+
+def typed():
+    plan = TypedPlan("names typed as text")
+    names = (b"UPPER", b"\xcc\xcf\xd7\xc5\xd2", b"M\xc9X\xc5D 09", b"!\"#$%&'()*+,-./", b":;<=>?@[]^_", b"-DASH", b"\x00\x5c\x60\x7f\xff")
+    for number, name in enumerate(names):
+        plan.store(name, pattern(200 + number, number))
+    return plan
+
+
 def scattered():
     plan = Plan("scattered: stores after scratches")
     for number in range(12):
@@ -95,6 +120,7 @@ def plans():
     for number in range(144):
         many.store(b"FILE%03d" % number, pattern(1 + 7 * number, number))
     yield many
+    yield typed()
     yield all_bytes()
     yield awkward()
     yield scattered()
@@ -142,7 +168,9 @@ def listed(peer, plan, image, folder):
         else:
             missing.append(name)
     fact = f"lists {len(plan.held) - len(missing)} of {len(plan.held)}" + ("" if outcome.done else f" ({outcome.words()})")
-    return fact + (f", not {some([name_text(name) for name in missing])}" if missing else "") + (f", and {len(shown)} more" if shown else "")
+    unprinted = peer.name == "c1541" and any(not C1541.typed(name).strip("?") for name in missing)
+    absent = "a name that it prints as dots" if unprinted else some([name_text(name) for name in missing])
+    return fact + (f", not {absent}" if missing else "") + (f", and {len(shown)} more" if shown else "")
 
 
 def compare(plan, found):

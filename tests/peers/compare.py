@@ -11,8 +11,9 @@ import by_d64
 import by_peers
 import damaged
 import tools
+import zero
 
-DIRECTIONS = {"by-d64": by_d64, "by-peers": by_peers, "damaged": damaged}
+DIRECTIONS = {"by-d64": by_d64, "by-peers": by_peers, "zero": zero, "damaged": damaged}
 
 
 def require(holds, text):
