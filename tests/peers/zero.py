@@ -44,3 +44,6 @@ def facts(d64, peers, work, require, only=""):
         for reader in peers:
             if reader.can("extract"):
                 yield f"{who} | read by | {reader.name} | {described(reader.extract(image, [(PRG, b'ZERO')], folder)[1][PRG, b'ZERO'])}"
+            if reader.can("validate"):
+                outcome = reader.validate(image, folder)
+                yield f"{who} | checked by | {reader.name} | {'passes' if outcome.done else outcome.words()}"
