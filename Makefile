@@ -24,10 +24,12 @@ all: $(BUILD)/d64 $(BUILD)/d64.pc
 
 # rt proves every function that the archive holds before it makes it; its lines on each crate are shown as they come.
 target/staticlib/libd64.a: $(RATTLE)
+	@command -v rt >/dev/null || { echo 'rt, the command of the Rattle kit, is not on the PATH'; exit 1; }
 	@mkdir -p $(BUILD)
-	@echo 'proving the library: about four minutes'
-	@{ rt staticlib d64 2>&1; echo $$? >$(BUILD)/proof.status; } | tee $(BUILD)/proof.log | grep '^rt: ' || true
+	@echo 'proving the library: about four minutes if nothing of it is proved yet'
+	@{ rt staticlib d64 2>&1; echo $$? >$(BUILD)/proof.status; } | tee $(BUILD)/proof.log | grep --line-buffered '^rt: ' || true
 	@status=$$(cat $(BUILD)/proof.status); [ "$$status" -eq 0 ] || { tail -n 20 $(BUILD)/proof.log; exit "$$status"; }
+	@echo "functions proved just now: $$(grep -c '^fn .*: proved' $(BUILD)/proof.log)"
 	@touch $@
 
 $(BUILD)/d64: $(TOOL_SOURCES) $(TOOL_HEADERS) $(ARCHIVE) Makefile

@@ -27,7 +27,7 @@ static const struct command commands[] = {
      "    format NAME ID\n    store NAME FILE [TYPE]\n    scratch NAME\n    read NAME FILE\n    check\n"
      "with quotes around a word that has blanks. '#' starts a comment line.\n"
      "Stops at the first job that is refused or fails, with its line, and leaves IMAGE as it was;\n"
-     "with --keep-going such jobs are left out and the others are done.\n" NAMES_HELP},
+     "with --keep-going such jobs, but for format, are left out and the others are done.\n" NAMES_HELP},
 };
 
 const struct command *command_at(size_t place)

@@ -47,7 +47,7 @@ int job_of_words(struct job *job, const struct command *command, char **words, s
     if (verb == READ || verb == STORE)
         job->file = words[1];
     if (status == 0 && verb == STORE && count == 3 && !kind_of_text(words[2], &job->kind))
-        status = fail(STATUS_USAGE, "'%s' is no type; expected seq, prg, usr or a number", words[2]);
+        status = fail(STATUS_USAGE, "'%s' is no type; expected seq, prg, usr or a number (a name with blanks needs quotes)", words[2]);
     return status;
 }
 
@@ -140,12 +140,14 @@ int read_job_list(struct job_list *list, const char *path)
     int status = read_text(path, &list->text, &length);
     char *line = list->text, *end = line + length, *stop;
 
+    if (status == 0 && length >= 3 && memcmp(line, "\xEF\xBB\xBF", 3) == 0)
+        line += 3; /* the mark that some editors put before a text in UTF-8 */
     for (unsigned number = 1; status == 0 && line < end; line = stop + 1, number++) {
         stop = memchr(line, '\n', (size_t)(end - line));
         stop = stop != NULL ? stop : end;
         set_line(number);
         if (memchr(line, '\0', (size_t)(stop - line)) != NULL)
-            status = fail(STATUS_USAGE, "a NUL byte is no text");
+            status = fail(STATUS_USAGE, "a NUL byte is no text; %s is no job list", path);
         else
             status = add_job(list, end_line(line, stop), number);
     }

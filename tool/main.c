@@ -59,10 +59,10 @@ static int unknown_option(const struct command *command, char **words)
 {
     char seen[128];
 
-    if (optopt != 0 && optopt < 256)
-        snprintf(seen, sizeof seen, "unknown option -%c", optopt);
-    else
+    if (strncmp(words[optind - 1], "--", 2) == 0)
         snprintf(seen, sizeof seen, "unknown option %.100s", words[optind - 1]);
+    else
+        snprintf(seen, sizeof seen, "unknown option -%c", optopt);
     return expected(command, seen);
 }
 
@@ -149,7 +149,7 @@ static int do_word(int count, char **words)
         return 0;
     }
     if (count > 1)
-        fprintf(stderr, "d64: '%s' is no command\n", word);
+        fprintf(stderr, "d64: '%s' is no command%s\n", word, word[0] == '-' ? "; options stand behind the command" : "");
     print_overview(stderr);
     return STATUS_USAGE;
 }
@@ -164,7 +164,7 @@ int main(int count, char **words)
     print_whole_lines();
     watch_signals();
     status = do_word(count, words);
-    if (fflush(stdout) != 0 && status == 0)
+    if ((fflush(stdout) != 0 || ferror(stdout) != 0) && status == 0)
         status = fail_file(STATUS_NO_OUTPUT, "write", "standard output");
     return status;
 }

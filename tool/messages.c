@@ -50,9 +50,10 @@ struct answer answer_of(uint32_t number, const uint8_t block[D64_BLOCK_BYTES], s
 
 void print_whole_lines(void)
 {
-    static char buffer[16384];
+    static char error_buffer[16384], output_buffer[65536];
 
-    setvbuf(stderr, buffer, _IOLBF, sizeof buffer);
+    setvbuf(stderr, error_buffer, _IOLBF, sizeof error_buffer);
+    setvbuf(stdout, output_buffer, _IOFBF, sizeof output_buffer);
 }
 
 void keep_quiet(void)
@@ -111,7 +112,7 @@ int fail(enum status status, const char *format, ...)
 
 int fail_file(enum status status, const char *what, const char *path)
 {
-    return fail(errno == ENOMEM ? STATUS_NO_MEMORY : status, "cannot %s %s: %s", what, path, strerror(errno));
+    return fail(errno == ENOMEM ? STATUS_NO_MEMORY : status, "cannot %s %s: %s", what, path[0] != '\0' ? path : "''", strerror(errno));
 }
 
 static void print_size(const struct answer *answer)
@@ -145,7 +146,7 @@ static void print_place(enum place place, const struct answer *answer)
         fprintf(stderr, ", sector %u", answer->sector);
 }
 
-int refuse(const struct answer *answer)
+int refuse(const struct answer *answer, const char *hint)
 {
     begin_line("");
     fprintf(stderr, "refused, %u", (unsigned)answer->number);
@@ -153,7 +154,7 @@ int refuse(const struct answer *answer)
         fprintf(stderr, ": %s", answers[answer->number].meaning);
         print_place(answers[answer->number].place, answer);
     }
-    fputc('\n', stderr);
+    fprintf(stderr, "%s\n", hint);
     return (int)answer->number;
 }
 

@@ -25,7 +25,10 @@ struct answer {
 
 struct answer answer_of(uint32_t number, const uint8_t block[D64_BLOCK_BYTES], size_t image_length);
 
-/* Keeps each line of standard error whole beside those of other programs. */
+/*
+ * Keeps each line of standard error whole beside those of other programs, and standard output in one piece: what is printed fits
+ * its buffer, so that an error shows where it is flushed.
+ */
 void print_whole_lines(void);
 
 /* No lines for what is done. */
@@ -41,8 +44,8 @@ int fail(enum status status, const char *format, ...) __attribute__((format(prin
 /* The same for a file, with the system's reason in errno. */
 int fail_file(enum status status, const char *what, const char *path);
 
-/* Says why the library refuses, and returns its number. */
-int refuse(const struct answer *answer);
+/* Says why the library refuses, with a hint behind it, and returns its number. */
+int refuse(const struct answer *answer, const char *hint);
 
 /* Says what is done. */
 void say(const char *format, ...) __attribute__((format(printf, 1, 2)));

@@ -54,10 +54,23 @@ bool name_of_text(char *text, struct name *name)
     return true;
 }
 
+static bool is_shifted_letter(uint8_t byte)
+{
+    return byte >= SHIFTED_A && byte < SHIFTED_A + 26;
+}
+
+bool has_shifted_letters(const struct name *name)
+{
+    for (size_t i = 0; i < name->length; i++)
+        if (is_shifted_letter(name->bytes[i]))
+            return true;
+    return false;
+}
+
 /* The character that stands for a byte; the quote has none, for names are printed in quotes. */
 static int character_of(uint8_t byte)
 {
-    if (byte >= SHIFTED_A && byte < SHIFTED_A + 26)
+    if (is_shifted_letter(byte))
         return 'a' + (byte - SHIFTED_A);
     return byte >= ' ' && byte <= '_' && byte != '\\' && byte != '"' ? byte : NOT_A_CHARACTER;
 }

@@ -16,6 +16,9 @@ struct name {
 /* Translates a text in its own memory, where its bytes fit. False, and nothing changed, if it holds something that names do not have. */
 bool name_of_text(char *text, struct name *name);
 
+/* Whether a name holds letters that were typed as small ones. */
+bool has_shifted_letters(const struct name *name);
+
 /* Writes a name as text; one that is too long for the room is cut. */
 void text_of_name(const uint8_t *bytes, size_t length, char *text, size_t room);
 

@@ -120,7 +120,8 @@ static bool name_parts(struct replacement *file, const char *path)
 {
     char *name;
 
-    file->target = resolved_path(path);
+    errno = ENOENT; /* of an empty path */
+    file->target = path[0] != '\0' ? resolved_path(path) : NULL;
     if (file->target == NULL)
         return false;
     name = strrchr(file->target, '/') + 1;
@@ -198,7 +199,7 @@ static int take_lock(struct replacement *file, const char *path)
         hold_signals(SIG_UNBLOCK);
     }
     if (lock == NO_LOCK)
-        return fail_file(STATUS_NO_OUTPUT, "write", file->temporary);
+        return fail(errno == ENOMEM ? STATUS_NO_MEMORY : STATUS_NO_OUTPUT, "cannot write %s: cannot make %s: %s", path, file->temporary, strerror(errno));
     if (lock == LOCKED_BY_ANOTHER)
         return fail(STATUS_IN_USE, "%s is in use by another command; nothing is changed (if no command runs, remove %s)", path, file->temporary);
     return 0;

@@ -128,7 +128,7 @@ static int do_job(const struct job *job, struct answer *answer)
     set_line(job->line);
     status = ask(job, answer);
     if (status == 0 && answer->number != D64_DONE)
-        status = refuse(answer);
+        status = refuse(answer, answer->number == D64_NOT_FOUND && has_shifted_letters(&job->name) ? "; small letters are those with shift" : "");
     set_line(0);
     return status;
 }
@@ -141,23 +141,41 @@ static void show_job(const struct job_list *list, size_t place)
     show_progress(place + 1, list->count, list->jobs[place].command->word, text);
 }
 
-/* Does the jobs in memory; the status of the first that was not done. */
-static int do_jobs(const struct job_list *list, bool keep_going, size_t *done)
-{
-    struct answer answer;
-    int first = 0;
+struct outcome {
+    size_t done;
+    int status;   /* of the first job that was not done */
+    bool stopped; /* the image is not to be written */
+};
 
-    *done = 0;
-    for (size_t i = 0; i < list->count && (first == 0 || keep_going); i++) {
+/* Does the jobs in memory. After a format that was not done, what follows is meant for another disk than the one that is there. */
+static struct outcome do_jobs(const struct job_list *list, bool keep_going)
+{
+    struct outcome outcome = {.status = 0};
+    struct answer answer;
+
+    for (size_t i = 0; i < list->count && !outcome.stopped; i++) {
         int status;
 
         show_job(list, i);
         status = do_job(&list->jobs[i], &answer);
-        *done += status == 0;
-        first = first != 0 ? first : status;
+        outcome.done += status == 0;
+        outcome.status = outcome.status != 0 ? outcome.status : status;
+        outcome.stopped = status != 0 && (!keep_going || list->jobs[i].command->verb == FORMAT);
     }
     end_progress();
-    return first;
+    return outcome;
+}
+
+/* An image that nothing is to be done to is checked all the same. */
+static struct outcome do_list(const struct job_list *list, bool keep_going)
+{
+    struct job check = {.command = find_command("check")};
+    const struct job_list checked = {.jobs = &check, .count = 1};
+    struct outcome outcome = do_jobs(list->count > 0 ? list : &checked, keep_going);
+
+    if (list->count == 0)
+        outcome.done = 0;
+    return outcome;
 }
 
 static int prepare(const struct job_list *list, const char *image_path, bool for_change)
@@ -174,22 +192,21 @@ static int prepare(const struct job_list *list, const char *image_path, bool for
 int carry_out(const struct job_list *list, const char *image_path, bool keep_going)
 {
     bool for_change = any_changes(list) || is_stream(image_path); /* whoever pipes an image through a list wants it back */
-    int status = prepare(list, image_path, for_change), saved;
-    bool written;
-    size_t done;
+    int status = prepare(list, image_path, for_change);
+    struct outcome outcome;
+    bool written = false;
 
     if (status != 0)
         return status;
-    status = do_jobs(list, keep_going, &done);
-    if (status != 0 && !keep_going) {
+    outcome = do_list(list, keep_going);
+    if (outcome.stopped)
         image_drop(&image);
-        say("stopped after %zu of %zu jobs; %s is unchanged", done, list->count, image_name());
-        return status;
-    }
-    saved = image_save(&image, &written);
-    if (saved == 0)
-        say("%zu of %zu jobs done; %s is %s", done, list->count, image_name(), written ? "written" : "unchanged");
-    return status != 0 ? status : saved;
+    else
+        status = image_save(&image, &written);
+    if (status == 0)
+        say("%s%zu of %zu jobs%s; %s is %s", outcome.stopped ? "stopped after " : "", outcome.done, list->count, outcome.stopped ? "" : " done",
+            image_name(), written ? "written" : image.is_new ? "not made" : "unchanged");
+    return status != 0 ? status : outcome.status;
 }
 
 static const char *plural(uint32_t number)

@@ -192,6 +192,24 @@ cp model disk
 gives 0 run jobs --keep-going disk
 like "store A other"
 
+case_is "--keep-going: a format that is refused ends the run, for what follows is meant for another disk"
+listed 9 'store A other\nformat "A NAME THAT IS TOO LONG" 01\nstore B other\n' --keep-going
+unchanged
+stops "line 2: $(refusal 9)"
+
+case_is "an empty list checks the image"
+: >jobs
+gives 0 run jobs disk
+unchanged
+head -c 1000 model >bad
+gives 1 run jobs bad
+
+case_is "a mark of UTF-8 before the first line is no part of it"
+printf '\357\273\277store A other\n' >jobs
+cp model disk
+gives 0 run jobs disk
+like "store A other"
+
 case_is "an image that does not exist is created if the first job is format"
 printf '# first\n\nformat CODES 01\nstore CODE code\n' >jobs
 gives 0 run jobs new

@@ -95,7 +95,9 @@ done
 for kind in 0 4 5 128 130 255 256 258 4294967295 4294967297 4294967298 18446744073709551618 "$(printf '%0400d' 2)9"; do asked 10 store disk NEW other "$kind"; done
 asked 12 store disk CODE other
 asked 13 scratch disk COD
-asked 13 scratch disk code
+case_is "13: a name typed in small letters is told so"
+refuses 13 model disk scratch disk code
+says "$(refusal 13); small letters are those with shift"
 asked 13 read disk CODES out
 asked 13 read disk 'C*' out
 asked 13 read disk '?ODE' out

@@ -57,10 +57,10 @@ same seen/out fresh "the fresh disk on standard output"
 case_is "run: an image that is too long is not handed on cut short"
 { cat disk; head -c 100000 /dev/zero; } >long
 : >empty.jobs
-fed 73 long run empty.jobs -
+fed 1 long run empty.jobs -
 quiet_output
 printf 'check\n' >check.jobs
-fed 1 long run --keep-going check.jobs -
+fed 73 long run --keep-going check.jobs -
 quiet_output
 
 case_is "read to standard output, of a file and of standard input"

@@ -12,6 +12,8 @@ echo old >out
         mentions "File too large"
         [ ! -e new ] || fail "no file new"
     done
+    printf 'scratch NONE\nstore NEW code\n' >partly
+    refuses 73 model disk run --keep-going partly disk
 )
 
 # What is forbidden binds an unprivileged user alone.

@@ -57,6 +57,22 @@ fn answer_of(reply: &Reply) -> Answer {
     }
 }
 
+/// The line of a refusal: a name that is not there may have been typed in small letters, and is then told so.
+fn refusal_of(call: &Call, reply: &Reply) -> String {
+    let shifted = match call {
+        Call::Read { name, .. } | Call::Scratch { name } => {
+            name.iter().any(|byte| (0xC1..=0xDA).contains(byte))
+        }
+        _ => false,
+    };
+    let hint = if reply.number == 13 && shifted {
+        "; small letters are those with shift"
+    } else {
+        ""
+    };
+    refusal(&answer_of(reply), ROOM) + hint
+}
+
 /// Does a call with the independent program.
 fn done_by_oracle(image: &mut [u8], call: &Call) -> Reply {
     perform(
@@ -138,14 +154,11 @@ fn run_list(tool: &Tool, list: &List, keep_going: bool, context: &str, tally: &m
         let reply = done_by_oracle(&mut expected, call);
         let number = reply.number as u8;
         if number != DONE {
-            lines.push(format!(
-                "line {line}: {}",
-                refusal(&answer_of(&reply), ROOM)
-            ));
+            lines.push(format!("line {line}: {}", refusal_of(call, &reply)));
             status = if status == DONE { number } else { status };
         }
         replies.push(reply);
-        if number != DONE && !keep_going {
+        if number != DONE && (!keep_going || matches!(call, Call::Format { .. })) {
             expected = list.image.clone();
             break;
         }
@@ -270,7 +283,7 @@ fn single(
     tally.jobs += 1;
     if answer.number != DONE {
         tally.refused += 1;
-        said.says(&refusal(&answer, ROOM), context);
+        said.says(&refusal_of(call, &reply), context);
     }
     assert!(
         tool.read("image").expect("the image") == image,
