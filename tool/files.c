@@ -117,8 +117,8 @@ static int read_growing(int file, const char *path, char **text, size_t *length)
 
     *length = 0;
     while (*length == room) {
-        if (room > MOST_TEXT_BYTES)
-            return fail(STATUS_USAGE, "%s is longer than a job list may be, %d MiB", input_name(path), MOST_TEXT_BYTES >> 20);
+        if (room >= MOST_TEXT_BYTES)
+            return fail(STATUS_USAGE, "%s is too long; a job list has less than %d MiB", input_name(path), MOST_TEXT_BYTES >> 20);
         room = room == 0 ? 65536 : 2 * room;
         larger = realloc(*text, room + 1);
         if (larger == NULL)

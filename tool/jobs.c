@@ -112,7 +112,6 @@ static int add_job(struct job_list *list, char *line, unsigned number)
 {
     struct job *more;
 
-    set_line(number);
     if (is_skipped(line))
         return 0;
     if ((list->count & (list->count - 1)) == 0) { /* full at each power of two */

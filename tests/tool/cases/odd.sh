@@ -54,6 +54,8 @@ sleep 0.2
 kill "$endless" 2>/dev/null || true
 wait "$endless" 2>/dev/null || true
 same disk model "the image as it was"
+gives 64 run /dev/zero disk
+says "d64: /dev/zero is too long; a job list has less than 64 MiB"
 
 case_is "/dev/null as a file to store, and as an image"
 gives 0 store disk NOTHING /dev/null
