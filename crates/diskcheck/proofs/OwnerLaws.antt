@@ -9,7 +9,7 @@ use Rattle.d64spec.specs.Image.{disk}
 use Rattle.d64spec.specs.Owner.{Owner, Owns}
 use Rattle.answers.specs.declared.Verdict.the-variants.{Fine}
 use Rattle.owners.specs.OwnerTable.{ownerNumber, OwnerOf}
-use Rattle.owners.proofs.NumberLaws.{table-names-owner35}
+use Rattle.owners.proofs.OwnerNumberLaws.{table-names-owner35}
 use Rattle.diskcheck.specs.declared.Checked.{Checked}
 use Rattle.diskcheck.specs.ImageChecks.{ImageChecked}
 use Rattle.diskcheck.proofs.CheckedLaws.{fine-image}

@@ -3,5 +3,5 @@ pub mod WalkTable
 pub mod Walking
 pub mod SlotsTable
 pub mod ClaimLaws
-pub mod NumberLaws
-pub mod NumberTable
+pub mod OwnerNumberLaws
+pub mod OwnerNumberTable

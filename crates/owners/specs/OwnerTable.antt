@@ -2,7 +2,7 @@
 -- A sector's entry is 0 where nobody owns it, 1 for the map, 2 for the directory, and 3 and the slot's number for a file.
 -- In order: owners as numbers; the table read as a list of owned sectors; the table with more owners; the tables of the check.
 -- The definitions of d64spec ask only who is a member of the list `owned`. Laws: proofs/TableLaws, WalkTable, Walking, SlotsTable, ClaimLaws;
--- that an entry names the sector's owner: NumberLaws.
+-- that an entry names the sector's owner: OwnerNumberLaws.
 use Prim.Native.Nat.{ℕ, zero, suc, _+_}
 use mathlib.Core.Bool.{Bool}
 use mathlib.Core.List.{List, [], _∷_, map, List·Memᴰ}

@@ -1,5 +1,5 @@
 -- The owner table names the owner of each sector: its entry is an owner's number exactly where that owner owns the sector.
--- In order: entries after marking; two owners of a disk have two numbers; the table of an accepted disk; 35 tracks. Computed: NumberTable.
+-- In order: entries after marking; two owners of a disk have two numbers; the table of an accepted disk; 35 tracks. Computed: OwnerNumberTable.
 use Prim.Native.Nat.{ℕ, zero, suc, _*_, _≤_, _<_}
 use native.Mathlib.Omega.{arith}
 use native.Mathlib.Decide.{decLe, ℕ-discrete}
@@ -11,10 +11,10 @@ use lib.Seq.{getD-set-same, getD-set-other}
 use lib.Dec.{eqb}
 use borrow.Author.Tests.{ne-eqb, eq-eqb}
 use Rattle.d64spec.specs.Lists.{Bytes, count, indicator, zeros}
-use Rattle.d64spec.specs.Answers.{Address, address}
+use Rattle.d64spec.specs.Answers.{Address}
 use Rattle.d64spec.specs.Geometry.{Geometry, Valid, layout35, sectorNumber, total, mapAddress}
 use Rattle.d64spec.specs.Image.{Disk, disk}
-use Rattle.d64spec.specs.Directory.{Slot, File, directorySectors, slotsFrom, occupied, fileOf, files, isEmpty}
+use Rattle.d64spec.specs.Directory.{Slot, File, directorySectors, slotsFrom, occupied, fileOf, files}
 use Rattle.d64spec.specs.Owner.{Among, Owner, Owns, claimCount, claimList, fileClaims, nobody, theDirectory, theFile, theMap}
 use Rattle.d64spec.specs.Accepted.{Accepted, AcceptedDisk}
 use Rattle.d64spec.proofs.BoundLaws.{claims-on, map-on, sectorNumber-lt}
