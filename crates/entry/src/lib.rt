@@ -1,6 +1,7 @@
 // One slot of the directory: where its bytes are, its type byte, its count (01, The directory).
 // A slot is lent as its bytes 02 to 1F, so byte i of document 01 is at i - 2; a byte past the end of a short slot reads as 0.
-// Every function takes any slice: what it gives is the definition's value there. Not here: a slot's name (crate `names`); its first link, which `diskcheck` reads.
+// Every function takes any slice: what it gives is the definition's value there.
+// Not here: a slot's name (crate `names`), and its first link, which the walks of a chain read as two bytes.
 ghost use mathlib.Core.Path.{_≡_};
 ghost use Prim.Native.Nat.{_*_};
 ghost use lib.ListN.{drop};

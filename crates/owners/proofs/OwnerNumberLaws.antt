@@ -85,9 +85,10 @@ module _ (g : Geometry) (d : Disk) where
   slot-of-file : (f : File) → List·Memᴰ f (files g d) → List·Memᴰ (f .slot) (slotsFrom g d 0 (directorySectors g d)) × (fileOf g d (f .slot) ≡ f)
   unfolding files occupied fileOf
   slot-of-file f m =
+      let l : List Slot = slotsFrom g d 0 (directorySectors g d) in
       let a = mem-map (fileOf g d) (occupied g d) m in
       let e : a .0 ≡ f .slot = ap (λ (x : File). x .slot) (a .2) in
-      subst (λ (s : Slot). List·Memᴰ s (slotsFrom g d 0 (directorySectors g d)) × (fileOf g d s ≡ f)) e (mem-filter _ (slotsFrom g d 0 (directorySectors g d)) (a .1) .0, a .2)
+      subst (λ (s : Slot). List·Memᴰ s l × (fileOf g d s ≡ f)) e (mem-filter _ l (a .1) .0, a .2)
 
   -- a slot stands at its number
   slot-at-number : (l : List Address) (z s : Slot) → List·Memᴰ s (slotsFrom g d 0 l) → getD (slotsFrom g d 0 l) (s .number) z ≡ s
@@ -103,8 +104,10 @@ module _ (g : Geometry) (d : Disk) where
       let l : List Address = directorySectors g d in
       let a = slot-of-file f m in
       let b = slot-of-file f′ m′ in
-      let slots : f .slot ≡ f′ .slot
-      = sym (slot-at-number l (f .slot) (f .slot) (a .0)) ∙ ap (λ (i : ℕ). getD (slotsFrom g d 0 l) i (f .slot)) e ∙ slot-at-number l (f .slot) (f′ .slot) (b .0) in
+      let slots : f .slot ≡ f′ .slot =
+      sym (slot-at-number l (f .slot) (f .slot) (a .0))
+      ∙ ap (λ (i : ℕ). getD (slotsFrom g d 0 l) i (f .slot)) e
+      ∙ slot-at-number l (f .slot) (f′ .slot) (b .0) in
       sym (a .1) ∙ ap (fileOf g d) slots ∙ b .1
 
   -- TWO OWNERS OF A DISK HAVE TWO NUMBERS
@@ -144,9 +147,10 @@ module _ (g : Geometry) (v : Valid g) (d : Disk) where
   map-lt : sectorNumber g mapAddress < length (zeros (total g))
   map-lt = omega (arith, sectorNumber-lt g mapAddress (map-on g (v .directory)), length-replicate {A = ℕ} (total g) 0)
 
-  module _ (n : ℕ) (once : claimCount g d n ≤ 1) where
+  module _ (n : ℕ) where
     -- the entry of a sector that no file claims is the one that the directory's walk left
-    entry-of-no-file : count n (fileClaims g (files g d)) ≡ 0 → getD (ownerTable g (directorySectors g d) (files g d)) n 0 ≡ getD (directoryTable g (directorySectors g d)) n 0
+    entry-of-no-file : count n (fileClaims g (files g d)) ≡ 0
+        → getD (ownerTable g (directorySectors g d) (files g d)) n 0 ≡ getD (directoryTable g (directorySectors g d)) n 0
     unfolding ownerTable
     entry-of-no-file h = getD-withFiles-other g n (files g d) (directoryTable g (directorySectors g d)) h
 
@@ -157,33 +161,35 @@ module _ (g : Geometry) (v : Valid g) (d : Disk) where
     entry-of-no-chain k h = entry-of-no-file h ∙ getD-withOwner-other directoryOwner n (map (sectorNumber g) (directorySectors g d)) (mapTable g) k
 
     -- THE ENTRY OF A SECTOR IS ITS OWNER'S NUMBER
-    pub entry-of-owner : (o : Owner) → Owns g d o n → getD (ownerTable g (directorySectors g d) (files g d)) n 0 ≡ ownerNumber o
+    pub entry-of-owner : claimCount g d n ≤ 1 → (o : Owner) → Owns g d o n → getD (ownerTable g (directorySectors g d) (files g d)) n 0 ≡ ownerNumber o
     unfolding ownerTable directoryTable
-    entry-of-owner nobody h =
+    entry-of-owner once nobody h =
         let other : n ≡ sectorNumber g mapAddress → ⊥ = λ e. omega (arith, claimCount-of g d n, map-claims g d n e) in
         entry-of-no-chain (omega (arith, claimCount-of g d n)) (omega (arith, claimCount-of g d n))
         ∙ getD-set-other (zeros (total g)) (sectorNumber g mapAddress) n mapOwner 0 other
         ∙ getD-zeros (total g) n
-    entry-of-owner theMap h =
+    entry-of-owner once theMap h =
         entry-of-no-chain (omega (arith, claimCount-of g d n, map-claims g d n h)) (omega (arith, claimCount-of g d n, map-claims g d n h))
         ∙ ap (λ (i : ℕ). getD (set (zeros (total g)) (sectorNumber g mapAddress) mapOwner) i 0) h
         ∙ getD-set-same (zeros (total g)) (sectorNumber g mapAddress) mapOwner 0 map-lt
-    entry-of-owner theDirectory h =
+    entry-of-owner once theDirectory h =
         entry-of-no-file (omega (arith, claimCount-of g d n))
         ∙ getD-withOwner-same directoryOwner n (map (sectorNumber g) (directorySectors g d)) (mapTable g)
         (omega (arith, length-mapTable g, claimed-lt n (omega (arith, claimCount-of g d n)))) h
-    entry-of-owner (theFile f) h =
+    entry-of-owner once (theFile f) h =
         let some : 0 < count n (fileClaims g (files g d)) = claims-some g n (files g d) (h .0) (h .1) in
         getD-withFiles-same g n (files g d) (directoryTable g (directorySectors g d))
         (omega (arith, length-directoryTable g (directorySectors g d), claimed-lt n (omega (arith, claimCount-of g d n))))
         (omega (arith, claimCount-of g d n)) (h .0) (h .1)
 
   -- THE TABLE SAYS WHO OWNS EACH SECTOR: its entry is an owner's number exactly where that owner owns the sector
-  pub table-names-owner : AcceptedDisk g d → (n : ℕ) (o : Owner) → OwnerOf g d o → (getD (ownerTable g (directorySectors g d) (files g d)) n 0 ≡ ownerNumber o) ↔ Owns g d o n
+  pub table-names-owner : AcceptedDisk g d → (n : ℕ) (o : Owner) → OwnerOf g d o
+      → (getD (ownerTable g (directorySectors g d) (files g d)) n 0 ≡ ownerNumber o) ↔ Owns g d o n
   table-names-owner a n o m =
       let w = one-owner g d a n in
+      let of-this : OwnerOf g d (w .owner) = owner-of-owns g d n (w .owner) (w .owns) in
       let entry : getD (ownerTable g (directorySectors g d) (files g d)) n 0 ≡ ownerNumber (w .owner) = entry-of-owner n (a .once n) (w .owner) (w .owns) in (
-        (λ e. subst (λ (x : Owner). Owns g d x n) (ownerNumber-inj g d (w .owner) o (owner-of-owns g d n (w .owner) (w .owns)) m (sym entry ∙ e)) (w .owns)),
+        (λ e. subst (λ (x : Owner). Owns g d x n) (ownerNumber-inj g d (w .owner) o of-this m (sym entry ∙ e)) (w .owns)),
         entry-of-owner n (a .once n) o,
       )
 

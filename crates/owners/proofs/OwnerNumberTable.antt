@@ -4,7 +4,7 @@ use mathlib.Core.List.{_∷_}
 use Rattle.d64spec.specs.Lists.{ascending, descending, zeros}
 use Rattle.d64spec.specs.Answers.{first}
 use Rattle.d64spec.specs.Geometry.{allocationOrder, allocationTracks, firstOn, onDisk, sectorNumber, sectorsOfTrack, sectorsOn, total, tracks}
-use Rattle.d64spec.specs.Image.{disk, image, put}
+use Rattle.d64spec.specs.Image.{Disk, disk, image, put}
 use Rattle.d64spec.specs.Chain.{decodeDirectoryLink, decodeFileLink, directoryLink, fileLink, linkTo}
 use Rattle.d64spec.specs.Directory.{directorySectors, fileOf, files, firstLink, nameOf, occupied, padded, slotIn, slotsIn, validName, validType}
 use Rattle.d64spec.specs.Owner.{claimCount, claimList, claimsOf, freeForDirectory, freeForFiles}
@@ -18,7 +18,11 @@ use Rattle.d64spec.specs.Host.{hostCall}
 use Rattle.d64spec.specs.Trial.{afterCall, freshImage, imageFar, imageWithA, imageWithAB, sent, smallLayout}
 use Rattle.owners.specs.OwnerTable.{mapTable, directoryTable, ownerTable}
 
--- THE NUMBERS THEMSELVES, on a small disk: 18/0 the map's, 18/1 and 18/2 the directory's, 19/0 and 19/1 the file's in slot 0, 19/2 the file's in slot 8
-pub numbers-computed : ownerTable smallLayout (directorySectors smallLayout (disk imageFar)) (files smallLayout (disk imageFar)) ≡ 1 ∷ 2 ∷ 2 ∷ 3 ∷ 3 ∷ 11 ∷ zeros 7
+-- the small disk with a file in slot 0 and one in slot 8
+abbrev farDisk : Disk
+farDisk = disk imageFar
+
+-- THE NUMBERS THEMSELVES, there: 18/0 the map's, 18/1 and 18/2 the directory's, 19/0 and 19/1 the file's in slot 0, 19/2 the file's in slot 8
+pub numbers-computed : ownerTable smallLayout (directorySectors smallLayout farDisk) (files smallLayout farDisk) ≡ 1 ∷ 2 ∷ 2 ∷ 3 ∷ 3 ∷ 11 ∷ zeros 7
 unfolding ownerTable directoryTable mapTable smallLayout imageFar imageWithAB imageWithA freshImage afterCall sent hostCall perform reply attempt outputBuffer callFormat callStore checkImage rightSize validNameArgument validKind writable filesNamed image disk put first sectorNumber onDisk firstOn sectorsOn total tracks sectorsNeeded allocationOrder allocationTracks ascending descending sectorsOfTrack lastOf formattedDisk formattedMap formatHeader freeAfterFormat padded expectedEntry expectedBit bitmapByte rewriteMap claimCount claimList claimsOf directorySectors files occupied fileOf slotIn slotsIn firstLink linkTo fileLink directoryLink decodeFileLink decodeDirectoryLink freeForFiles freeForDirectory emptySlots slotPlaceFor placement storedDisk writeSlot overwriteSlot growDirectory newEntry checkDisk checkDirectory checkSlot checkEntry entryCorrect wrongBits mapOnes mapBit validType validName nameOf
 numbers-computed = refl
