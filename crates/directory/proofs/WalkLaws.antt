@@ -19,8 +19,6 @@ use Rattle.d64spec.proofs.RunTheorem.{sectors35}
 use Rattle.sectors.proofs.SectorLaws.{byte-disk, byte-disk-first}
 use Rattle.geometry.specs.Layout.{addressOf}
 use Rattle.geometry.specs.declared.Address.{Address as CodeAddress}
-use Rattle.links.specs.Links.{linkOf, Decoded}
-use Rattle.links.specs.declared.Link.{Link as CodeLink}
 use Rattle.answers.specs.Faults.{whereFine, faultOf}
 use Rattle.answers.specs.declared.Place.{Place}
 use Rattle.answers.specs.declared.Verdict.{Verdict}
@@ -191,10 +189,6 @@ module _ {b : Bytes} {o : Result Marked} {own ss : List ℕ} {n holder : ℕ} wh
           gathered = gathered-set ss n next (w .gathered) (omega arith) (w .within .2);
         };
       }
-
--- what the decoded link says
-pub walks-told : {b : Bytes} {o : Result Marked} {own ss : List ℕ} {n holder s : ℕ} {k : Link} {r : CodeLink} → Walks b o own ss n holder k → Decoded k s r → Walks b o own ss n holder (linkOf r)
-walks-told w told = rw (told .meaning) w
 
 -- a link to a sector is one to track 18
 pub walks-again : {b : Bytes} {o : Result Marked} {own ss : List ℕ} {n holder : ℕ} {at : CodeAddress} → Walks b o own ss n holder (to (addressOf at)) → Walks b o own ss n holder (to (address 18 (at .sector)))

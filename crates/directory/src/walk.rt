@@ -50,7 +50,7 @@ pub(crate) fn walk_directory(track18: &[u8], own: &mut [u8; 683]) -> Walk
         let at = 256 * (next as usize);
         let link = links::directory_link(track18[at], track18[at + 1]);
         match link {
-            Link::Ends(_) => {
+            Link::Ends => {
                 return Walk {
                     verdict: Verdict::Fine,
                     sectors,

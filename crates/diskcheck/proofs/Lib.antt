@@ -4,3 +4,4 @@ pub mod SlotLaws
 pub mod SlotsLaws
 pub mod ImageLaws
 pub mod CheckedLaws
+pub mod OwnerLaws

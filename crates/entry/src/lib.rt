@@ -1,19 +1,14 @@
-// One slot of the directory: where its bytes are, its type byte, its first link, its count (01, The directory).
+// One slot of the directory: where its bytes are, its type byte, its count (01, The directory).
 // A slot is lent as its bytes 02 to 1F, so byte i of document 01 is at i - 2; a byte past the end of a short slot reads as 0.
-// Every function takes any slice: what it gives is the definition's value there. Not here: a slot's name (crate `names`).
+// Every function takes any slice: what it gives is the definition's value there.
+// Not here: a slot's name (crate `names`), and its first link, which the walks of a chain read as two bytes.
 ghost use mathlib.Core.Path.{_≡_};
 ghost use Prim.Native.Nat.{_*_};
 ghost use lib.ListN.{drop};
 ghost use Rattle.d64spec.specs.Lists.{part};
 ghost use Rattle.d64spec.specs.Directory.{entryByte, isEmpty, validType};
 ghost use Rattle.d64spec.specs.Reply.{validKind};
-ghost use Rattle.entry.specs.Entry.{Linked, Counted};
-
-// The two bytes of a slot's first link. They may name no sector: track 0, or one off the disk.
-pub struct FirstLink {
-    pub track: u8,
-    pub sector: u8,
-}
+ghost use Rattle.entry.specs.Entry.{Counted};
 
 // Bytes 02 to 1F of slot j of a directory sector: nothing where the sector ends before.
 pub fn slot(sector: &[u8], j: usize) -> &[u8]
@@ -55,16 +50,6 @@ pub fn valid_type(b: u8) -> bool
         return false;
     }
     kind < 4
-}
-
-// The two bytes of a slot's first link, 03 and 04.
-pub fn first_address(slot: &[u8]) -> FirstLink
-    ensures { λ r. ⌜ Linked (now (slot .entry)) r ⌝ }
-{
-    FirstLink {
-        track: parts::byte_at(slot, 1),
-        sector: parts::byte_at(slot, 2),
-    }
 }
 
 // A slot's number of sectors, bytes 1E and 1F, low byte first.

@@ -1,5 +1,5 @@
 -- The rule of the two tables, and what it says of the layout (01, Tracks and sectors).
--- In order: the running sum; the layout's counts; its first numbers, and where a track ends; a sector's number. The rule is one test, `every-at` of Every.
+-- In order: the running sum; the layout's counts; its first numbers, and where a track ends. The rule is one test, `every-at` of Every.
 use Prim.Native.Nat.{ℕ, zero, suc, _+_, _-_, _≤_, _<_}
 use native.Mathlib.Omega.{arith}
 use mathlib.Core.Path.{_≡_, refl, ap, _∙_}
@@ -10,11 +10,9 @@ use lib.Seq.{take-all}
 use lib.Dec.{eqb}
 use borrow.Author.Tests.{eqb-true}
 use Rattle.d64spec.specs.Lists.{sum}
-use Rattle.d64spec.specs.Answers.{Address}
-use Rattle.d64spec.specs.Geometry.{Geometry, layout35, sectorsOn, firstOn, sectorNumber}
-use Rattle.d64spec.proofs.BoundLaws.{sectorNumber-lt}
-use Rattle.d64spec.proofs.RunTheorem.{valid35, sectors35}
-use Rattle.geometry.specs.Layout.{Counted, Numbered}
+use Rattle.d64spec.specs.Geometry.{Geometry, layout35, sectorsOn, firstOn}
+use Rattle.d64spec.proofs.RunTheorem.{valid35}
+use Rattle.geometry.specs.Layout.{Counted}
 use Rattle.geometry.proofs.Tables.{counts, firsts}
 use Rattle.geometry.proofs.Every.{every-at}
 
@@ -93,7 +91,3 @@ pub first-at : (t : ℕ) → 1 ≤ t → t ≤ 35 → firstOn layout35 t ≡ get
 first-at t h l =
     let e : t ≡ suc (t - 1) = omega arith in
     ap (firstOn layout35) e ∙ bound-at (t - 1) (omega arith) ∙ List·getD-append firsts (683 ∷ []) 0 (t - 1) (omega arith)
-
--- a number of a sector of the disk is below 683
-pub numbered : {r : Address} {n : ℕ} → n ≡ sectorNumber layout35 r → Numbered r n
-numbered {r} e = record { number = e; inside = λ on. omega (arith, sectorNumber-lt layout35 r on, sectors35) }

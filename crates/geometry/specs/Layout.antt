@@ -1,7 +1,7 @@
 -- What the functions over the layout of 35 tracks promise (01, Tracks and sectors).
--- In order: the code's address as an address of the definitions, and an address as a number; a track's count; a sector's number; the same by lent tables.
+-- In order: the code's address as an address of the definitions, and an address as a number; a track's count; addresses and numbers by lent tables.
 -- Laws: proofs/TableLaws, LentTableLaws.
-use Prim.Native.Nat.{ℕ, _+_, _*_, _/_, _%_, _≤_, _<_}
+use Prim.Native.Nat.{ℕ, _+_, _*_, _/_, _%_, _≤_}
 use mathlib.Core.Path.{_≡_}
 use mathlib.Core.Bool.{Bool, true}
 use mathlib.Core.List.{List, _∷_}
@@ -27,11 +27,6 @@ unpacked n = address (n / 256) (n % 256)
 pub record Counted (t n : ℕ) : Type 0 where
   pub sectors : n ≡ sectorsOn layout35 t
   pub small : n ≤ 24
-
--- n is the sector's number, and one of the 683 where the address is on the disk (01, Tracks and sectors)
-pub record Numbered (r : DiskAddress) (n : ℕ) : Type 0 where
-  pub number : n ≡ sectorNumber layout35 r
-  pub inside : onDisk layout35 r ≡ true → n < 683
 
 -- track t's entry of a table from track 1 on, or 0 where there is none (01: a table of 35 entries)
 unfoldable pub entryBy : List ℕ → ℕ → ℕ

@@ -1,9 +1,9 @@
 // Tracks and sectors of a disk of 35 tracks (01, Tracks and sectors): a track's sectors, an address on the disk, a sector's number.
-// Every function is total: an address off the disk has the number that the definition gives it, and `on_disk` tells it.
+// Every function is total: `on_disk` tells an address off the disk.
 // The tables' rule, the running sum, is proved once over both tables: proofs/TableLaws.
 ghost use mathlib.Core.Path.{_≡_};
 ghost use Rattle.d64spec.specs.Geometry.{layout35, firstOn, onDisk};
-ghost use Rattle.geometry.specs.Layout.{addressOf, Counted, Numbered, entryBy, onDiskBy, numberBy};
+ghost use Rattle.geometry.specs.Layout.{addressOf, Counted, entryBy, onDiskBy, numberBy};
 
 // A sector by its track, from 1, and its place on the track, from 0.
 pub struct Address {
@@ -127,13 +127,6 @@ pub fn on_disk(at: Address) -> bool
     ensures { λ r. ⌜ r ≡ onDisk layout35 (addressOf at) ⌝ }
 {
     at.sector < sectors_on(at.track)
-}
-
-// A sector's number: all sectors of lower tracks plus its own. Of an address on the disk it is below 683.
-pub fn sector_number(at: Address) -> usize
-    ensures { λ r. ⌜ Numbered (addressOf at) r ⌝ }
-{
-    first_on(at.track) as usize + at.sector as usize
 }
 
 // A track's entry of a table of counts, from track 1 on: 0 where there is none.

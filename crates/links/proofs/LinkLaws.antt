@@ -2,11 +2,21 @@
 use Prim.Native.Nat.{ℕ, zero, suc, _≤_, _<_}
 use native.Mathlib.Omega.{arith}
 use mathlib.Core.Path.{_≡_, refl}
+use mathlib.Core.Bool.{true, false}
 use borrow.Author.Tests.{ne-eqb, lt-ltb, le-ltb}
-use Rattle.d64spec.specs.Geometry.{Geometry}
-use Rattle.d64spec.specs.Chain.{ends, bad, linkTo, decodeFileLink, decodeDirectoryLink}
+use Rattle.d64spec.specs.Answers.{address}
+use Rattle.d64spec.specs.Geometry.{Geometry, onDisk}
+use Rattle.d64spec.specs.Chain.{ends, to, bad, linkTo, decodeFileLink, decodeDirectoryLink}
 
 module _ (g : Geometry) (t s : ℕ) where
+  pub linkTo-at : onDisk g (address t s) ≡ true → linkTo g t s ≡ to (address t s)
+  unfolding linkTo
+  linkTo-at e = rw e
+
+  pub linkTo-off : onDisk g (address t s) ≡ false → linkTo g t s ≡ bad
+  unfolding linkTo
+  linkTo-off e = rw e
+
   pub file-bad : t < 1 → s < 1 → decodeFileLink g t s ≡ bad
   unfolding decodeFileLink
   file-bad h k =

@@ -1,19 +1,21 @@
-// One link, decoded from its two bytes (01, Chains; The directory): it ends the chain, goes on at a sector of the disk, or is bad.
+// One link of the directory, decoded from its two bytes (01, The directory): it ends the chain, goes on at a sector of the disk, or is bad.
+// Not here: a file's links; the loops along a chain keep the two bytes. Their laws: proofs/LinkLaws.
+ghost use mathlib.Core.Path.{_≡_};
 ghost use Rattle.d64spec.specs.Geometry.{layout35};
-ghost use Rattle.d64spec.specs.Chain.{linkTo, decodeFileLink, decodeDirectoryLink};
-ghost use Rattle.links.specs.Links.{Decoded};
+ghost use Rattle.d64spec.specs.Chain.{linkTo, decodeDirectoryLink};
+ghost use Rattle.links.specs.Links.{linkOf};
 use geometry::Address;
 
-// What a link says. `Ends` has the second byte, which says where a file's data end.
+// What a link says.
 pub enum Link {
-    Ends(u8),
+    Ends,
     To(Address),
     Bad,
 }
 
-// A link to a track and a sector, as a directory entry holds one: bad unless the disk has that sector.
-pub fn link_to(track: u8, sector: u8) -> Link
-    ensures { λ r. ⌜ Decoded (linkTo layout35 track sector) sector r ⌝ }
+// A link to a track and a sector: bad unless the disk has that sector.
+fn link_to(track: u8, sector: u8) -> Link
+    ensures { λ r. ⌜ linkOf r ≡ linkTo layout35 track sector ⌝ }
 {
     let at = Address { track, sector };
     if geometry::on_disk(at) {
@@ -22,25 +24,12 @@ pub fn link_to(track: u8, sector: u8) -> Link
     Link::Bad
 }
 
-// The link in a file's sector: track 0 ends the chain, and its second byte must then be 1 or more.
-pub fn file_link(track: u8, sector: u8) -> Link
-    ensures { λ r. ⌜ Decoded (decodeFileLink layout35 track sector) sector r ⌝ }
-{
-    if track == 0 {
-        if sector == 0 {
-            return Link::Bad;
-        }
-        return Link::Ends(sector);
-    }
-    link_to(track, sector)
-}
-
 // The link in a directory sector: track 0 ends the directory, whatever the second byte is; any other must name 18/1 to 18/18.
 pub fn directory_link(track: u8, sector: u8) -> Link
-    ensures { λ r. ⌜ Decoded (decodeDirectoryLink layout35 track sector) sector r ⌝ }
+    ensures { λ r. ⌜ linkOf r ≡ decodeDirectoryLink layout35 track sector ⌝ }
 {
     if track < 1 {
-        return Link::Ends(sector);
+        return Link::Ends;
     }
     if track != 18 {
         return Link::Bad;

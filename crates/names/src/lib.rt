@@ -84,13 +84,6 @@ pub fn valid_name(slot: &[u8]) -> bool
     padded_once(slot)
 }
 
-// Whether two slots have the same name, where both names keep the rule: their name fields are then equal.
-pub fn same_name(a: &[u8], b: &[u8]) -> bool
-    ensures { λ r. ⌜ r ≡ equal (nameField (now (a .entry))) (nameField (now (b .entry))) ⌝ }
-{
-    parts::equal_bytes(name_field(a), name_field(b))
-}
-
 // Whether a slot has the name asked for, where both names keep the rule: its name field is then that name, filled up.
 pub fn has_name(slot: &[u8], name: &[u8]) -> bool
     ensures { λ r. ⌜ r ≡ equal (nameField (now (slot .entry))) (padded (now (name .entry))) ⌝ }

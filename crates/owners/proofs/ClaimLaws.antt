@@ -20,12 +20,6 @@ use Rattle.owners.proofs.SlotsTable.{FileOn}
 
 -- ---- lengths
 
-pub length-withFiles : (g : Geometry) (fs : List File) (own : List ℕ) → length (withFiles g fs own) ≡ length own
-length-withFiles g [] own = refl
-length-withFiles g (f ∷ fs) own =
-    let s : List ℕ = map (sectorNumber g) (f .sectors) in
-    length-withFiles g fs (withOwner (fileOwner (f .slot .number)) s own) ∙ length-withOwner (fileOwner (f .slot .number)) s own
-
 module _ (g : Geometry) where
   pub length-mapTable : length (mapTable g) ≡ total g
   unfolding mapTable
@@ -34,10 +28,6 @@ module _ (g : Geometry) where
   pub length-directoryTable : (ds : List Address) → length (directoryTable g ds) ≡ total g
   unfolding directoryTable
   length-directoryTable ds = length-withOwner directoryOwner (map (sectorNumber g) ds) (mapTable g) ∙ length-mapTable
-
-  pub length-ownerTable : (ds : List Address) (fs : List File) → length (ownerTable g ds fs) ≡ total g
-  unfolding ownerTable
-  length-ownerTable ds fs = length-withFiles g fs (directoryTable g ds) ∙ length-directoryTable ds
 
 -- ---- who is owned
 

@@ -3,3 +3,5 @@ pub mod WalkTable
 pub mod Walking
 pub mod SlotsTable
 pub mod ClaimLaws
+pub mod OwnerNumberLaws
+pub mod OwnerNumberTable

@@ -2,8 +2,7 @@
 // A sector that the image does not have is empty, one that the image cuts off is shorter; only a whole sector is written.
 // `n` is held to the sectors that lie whole in the image before it is multiplied, so that nothing wraps.
 ghost use mathlib.Core.Path.{_≡_};
-ghost use Rattle.d64spec.specs.Lists.{byte, zeros};
-ghost use Rattle.d64spec.specs.Image.{disk};
+ghost use Rattle.d64spec.specs.Lists.{zeros};
 ghost use Rattle.d64spec.specs.Format.{emptyDirectorySector};
 ghost use Rattle.sectors.specs.Sectors.{IsSector, withSector};
 
@@ -20,17 +19,6 @@ pub fn sector(img: &[u8], n: usize) -> &[u8]
         return &img[start..];
     }
     &img[start..start + 256]
-}
-
-// Byte i of sector n, and 0 where there is none.
-pub fn byte_of(img: &[u8], n: usize, i: usize) -> u8
-    ensures { λ r. ⌜ r ≡ byte (disk (now (img .entry)) n) i ⌝ }
-{
-    let part = sector(img, n);
-    if i < part.len() {
-        return part[i];
-    }
-    0
 }
 
 // Writes 256 bytes over sector n. With another length, or a sector that is not whole in the image, nothing is written.

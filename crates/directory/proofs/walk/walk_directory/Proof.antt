@@ -7,7 +7,7 @@ use borrow.Author.Needs.{needs}
 use Rattle.d64spec.specs.Answers.{address}
 use Rattle.d64spec.specs.Chain.{to}
 use Rattle.links.specs.Links.{linkOf}
-use Rattle.directory.proofs.WalkLaws.{Walks, directoryWalk, freePlaces, walks-start, walks-moved, walks-told, walks-again, walked-ends, walked-bad, walked-owned}
+use Rattle.directory.proofs.WalkLaws.{Walks, directoryWalk, freePlaces, walks-start, walks-moved, walks-again, walked-ends, walked-bad, walked-owned}
 use Rattle.directory.proofs.walk.walk_directory.Statement.{statement}
 use Rattle.directory.proofs.walk.walk_directory.Tie as tie
 
@@ -67,7 +67,7 @@ met : (c : tie.After-directory-link Inv-loop μ-loop)
     → let l = c .before .before .before .before .before .loop in
     let a = c .before .before .before .before .before .before .before .args in
     Walks (a .track18 .now) (directoryWalk (a .track18 .now) (a .own .now)) (set (l .own) (357 + l .next) 2) (set (l .sectors) (l .count) (l .next)) (l .count + 1) (l .next) (linkOf (c .directory-link .result))
-met c = let e = c .before .before .before in walks-told (walks-moved (e .before .before .loop .inv) (e .if1 .left) .walks) (c .directory-link .ensures)
+met c = let e = c .before .before .before in rw (c .directory-link .ensures) (walks-moved (e .before .before .loop .inv) (e .if1 .left) .walks)
 
 enum-told : tie.Need-enum-told Inv-loop μ-loop
 enum-told c = search needs
