@@ -12,6 +12,8 @@ pub enum Call {
     Format,
     Read,
     Store,
+    /// Under a name that is there: refused with 12.
+    StoreAgain,
     Scratch,
     /// The last file of the disk.
     Tell,
@@ -19,6 +21,14 @@ pub enum Call {
 }
 
 impl Call {
+    /// The number that the call answers with.
+    pub fn number(self) -> u32 {
+        match self {
+            Call::StoreAgain => 12,
+            _ => 0,
+        }
+    }
+
     /// What makes the image again what it was before the call.
     pub fn undone_by(self) -> Option<Call> {
         match self {
@@ -75,7 +85,7 @@ impl Lent {
                 Call::Check => library.check(image, answer),
                 Call::Format => library.format(image, name, 0x30, 0x31, answer),
                 Call::Read => library.read(image, name, out, answer),
-                Call::Store => library.store(image, name, 2, data, answer),
+                Call::Store | Call::StoreAgain => library.store(image, name, 2, data, answer),
                 Call::Scratch => library.scratch(image, name, answer),
                 Call::Tell => {
                     let len = ENTRY_BYTES;

@@ -26,6 +26,8 @@ struct Row {
     call: Call,
     /// The archive may take so many times what a copy of the image takes.
     limit_to_copy: Option<f64>,
+    /// And so many times what its check of the image takes.
+    limit_to_check: Option<f64>,
 }
 
 fn row(what: &'static str, disk: Disk, call: Call, limit_to_copy: Option<f64>) -> Row {
@@ -34,6 +36,15 @@ fn row(what: &'static str, disk: Disk, call: Call, limit_to_copy: Option<f64>) -
         disk,
         call,
         limit_to_copy,
+        limit_to_check: None,
+    }
+}
+
+/// A row that is held against the check of the same image.
+fn near_check(what: &'static str, disk: Disk, call: Call, limit: f64) -> Row {
+    Row {
+        limit_to_check: Some(limit),
+        ..row(what, disk, call, None)
     }
 }
 
@@ -57,7 +68,9 @@ fn reading_rows(seed: u64) -> Vec<Row> {
         row("listing, empty disk", empty(), Call::Listing, None),
         row("listing, 144 files", many(), Call::Listing, None),
         row("listing, 144 random names", random(), Call::Listing, None),
-        row("tell, last of 144 files", many(), Call::Tell, None),
+        near_check("read, last of 144 files", many(), Call::Read, 1.15),
+        near_check("tell, last of 144 files", many(), Call::Tell, 1.2),
+        near_check("tell, full disk", full(), Call::Tell, 1.2),
     ]
 }
 
@@ -69,16 +82,21 @@ fn writing_rows(seed: u64) -> Vec<Row> {
     let scratch =
         |what, disk: Disk, length, limit| row(what, disk.with(seed, length), Call::Scratch, limit);
     let (empty, half) = (disks::empty, || disks::half(seed));
-    let many = || disks::numbered(seed, FILES - 1);
+    let (many, all) = (
+        || disks::numbered(seed, FILES - 1),
+        || disks::numbered(seed, FILES),
+    );
     vec![
         row("format", empty(), Call::Format, Some(1.2)),
         store("store 5,000, empty disk", empty(), 5_000, Some(0.135)),
         store("store 5,000, half-full disk", half(), 5_000, None),
         store("store 5,000, 143 files", many(), 5_000, None),
+        near_check("store refused, 144 files", all(), Call::StoreAgain, 1.15),
         store("store 168,656", empty(), FULL_BYTES, Some(2.4)),
         scratch("scratch 5,000, no other file", empty(), 5_000, Some(0.15)),
         scratch("scratch 5,000, half-full disk", half(), 5_000, None),
         scratch("scratch 5,000, 143 others", many(), 5_000, None),
+        near_check("scratch, last of 144 files", all(), Call::Scratch, 1.15),
         scratch("scratch 168,656", empty(), FULL_BYTES, Some(3.0)),
     ]
 }
@@ -89,7 +107,8 @@ fn agree(row: &Row) {
     let what = row.what;
     let outcome = |library: &dyn EntryPoints| {
         let mut lent = Lent::new(&row.disk, 1);
-        assert_eq!(lent.run(library, row.call, 0), 0, "{what} is refused");
+        let number = lent.run(library, row.call, 0);
+        assert_eq!(number, row.call.number(), "{what} has another answer");
         lent
     };
     let mut undone = outcome(&Faithful);
@@ -110,19 +129,23 @@ fn cell(value: Option<f64>, digits: usize) -> String {
 fn print_row(row: &Row, times: &Times) {
     let to_independent = times.archive / times.independent;
     let to_copy = times.archive / times.copy;
+    let to_check = times.archive / times.check;
     let over = to_independent > LIMIT_TO_INDEPENDENT
-        || row.limit_to_copy.is_some_and(|limit| to_copy > limit);
+        || row.limit_to_copy.is_some_and(|limit| to_copy > limit)
+        || row.limit_to_check.is_some_and(|limit| to_check > limit);
     let copies = matches!(row.call, Call::Read | Call::Store);
     let file_copy = copies.then_some(times.file_copy);
     println!(
         "{:30}{:9.0}{:13.0}{:7.0}{:>11} |{to_independent:10.2}{LIMIT_TO_INDEPENDENT:7.2} \
-         |{to_copy:11.3}{:>7} |{:10.3}{:>11}{}",
+         |{to_copy:11.3}{:>7} |{:>11}{:>7} |{:10.3}{:>11}{}",
         row.what,
         times.archive,
         times.independent,
         times.copy,
         cell(file_copy, 0),
         cell(row.limit_to_copy, 3),
+        cell(row.limit_to_check.map(|_| to_check), 3),
+        cell(row.limit_to_check, 2),
         times.independent / times.copy,
         cell(file_copy.map(|time| times.archive / time), 2),
         if over { "  over" } else { "" },
@@ -147,7 +170,7 @@ fn print_head(seed: u64) {
          that is in these times\n"
     );
     println!(
-        "{:30}{:>9}{:>13}{:>7}{:>11} |{:>10}{:>7} |{:>11}{:>7} |{:>10}{:>11}",
+        "{:30}{:>9}{:>13}{:>7}{:>11} |{:>10}{:>7} |{:>11}{:>7} |{:>11}{:>7} |{:>10}{:>11}",
         "",
         "archive",
         "independent",
@@ -156,6 +179,8 @@ fn print_head(seed: u64) {
         "arch/indep",
         "limit",
         "arch/copy",
+        "limit",
+        "arch/check",
         "limit",
         "indep/copy",
         "arch/file"

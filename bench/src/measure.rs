@@ -27,6 +27,7 @@ const LARGE: usize = 10_000;
 pub struct Samples {
     archive: Vec<f64>,
     independent: Vec<f64>,
+    check: Vec<f64>,
     copy: Vec<f64>,
     file_copy: Vec<f64>,
 }
@@ -35,6 +36,8 @@ pub struct Samples {
 pub struct Times {
     pub archive: f64,
     pub independent: f64,
+    /// The archive's check of the same images.
+    pub check: f64,
     /// A copy of an image.
     pub copy: f64,
     /// A copy of as many bytes as the file has.
@@ -46,6 +49,7 @@ impl Samples {
         Times {
             archive: median(self.archive),
             independent: median(self.independent),
+            check: median(self.check),
             copy: median(self.copy),
             file_copy: median(self.file_copy),
         }
@@ -89,6 +93,7 @@ pub fn measure(disk: &Disk, call: Call, samples: &mut Samples) {
     let file_copies = turns_per_batch(|turns| elapsed(turns, || file.run()));
     let per_call = |spent: Duration, calls: usize| spent.as_nanos() as f64 / calls as f64;
     let calls = turns * lent.images().len();
+    let checks = turns_per_batch(|turns| spent(turns, &mut lent, &Archive, Call::Check));
     for batch in 0..BATCHES {
         // Neither side always comes after the copies.
         for archive in [batch % 2 == 0, batch % 2 == 1] {
@@ -100,6 +105,10 @@ pub fn measure(disk: &Disk, call: Call, samples: &mut Samples) {
                 samples.independent.push(per_call(spent, calls));
             }
         }
+        let checked = spent(checks, &mut lent, &Archive, Call::Check);
+        samples
+            .check
+            .push(per_call(checked, checks * lent.images().len()));
         let copied = elapsed(copies, || copy.run());
         samples.copy.push(per_call(copied, copies));
         let copied = elapsed(file_copies, || file.run());
@@ -129,10 +138,14 @@ fn elapsed<T>(turns: usize, mut turn: impl FnMut() -> T) -> Duration {
 /// them, the independent program undoes each turn, and that is not timed.
 #[inline(always)]
 fn spent<L: EntryPoints>(turns: usize, lent: &mut Lent, library: &L, call: Call) -> Duration {
-    let Some(undo) = call.undone_by() else {
-        return elapsed(turns, || black_box(&mut *lent).run(library, call, 0));
-    };
     let images = lent.images().len();
+    let Some(undo) = call.undone_by() else {
+        return elapsed(turns, || {
+            for image in 0..images {
+                black_box(black_box(&mut *lent).run(library, call, image));
+            }
+        });
+    };
     let mut sum = Duration::ZERO;
     for _ in 0..turns {
         let start = Instant::now();
