@@ -1,3 +1,4 @@
 pub mod HostLaws
 pub mod TellLaws
 pub mod RunServed
+pub mod HostTable

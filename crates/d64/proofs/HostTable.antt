@@ -1,0 +1,77 @@
+-- Tell and the listing as host calls, computed: the one place that says their bytes and the order of their refusals apart from the definitions
+-- (01, Tell; Host calls; Sleeve listing). In order: tell's 25 bytes; both calls on the small disk of d64spec's specs/Trial.
+use Prim.Native.Nat.{ℕ}
+use mathlib.Core.Path.{_≡_, refl}
+use mathlib.Core.List.{[], _∷_, _++_, map}
+use lib.ListN.{drop, replicate, take}
+use Rattle.d64spec.specs.Lists.{ascending, Bytes, descending, range, zeros}
+use Rattle.d64spec.specs.Answers.{first}
+use Rattle.d64spec.specs.Geometry.{allocationOrder, allocationTracks, firstOn, onDisk, sectorNumber, sectorsOfTrack, sectorsOn, total, tracks}
+use Rattle.d64spec.specs.Image.{disk, image, put}
+use Rattle.d64spec.specs.Chain.{decodeDirectoryLink, decodeFileLink, directoryLink, fileLink, linkTo}
+use Rattle.d64spec.specs.Directory.{directorySectors, fileOf, files, firstLink, nameOf, occupied, padded, slotIn, slotsIn, validName, validType}
+use Rattle.d64spec.specs.Owner.{claimCount, claimList, claimsOf, freeForDirectory, freeForFiles}
+use Rattle.d64spec.specs.Map.{bitmapByte, entryCorrect, expectedBit, expectedEntry, mapBit, mapOnes, rewriteMap, wrongBits}
+use Rattle.d64spec.specs.Check.{checkDirectory, checkDisk, checkEntry, checkImage, checkSlot, rightSize}
+use Rattle.d64spec.specs.Reply.{filesNamed, reply, validKind, validNameArgument, writable}
+use Rattle.d64spec.specs.Format.{callFormat, formatHeader, formattedDisk, formattedMap, freeAfterFormat}
+use Rattle.d64spec.specs.Read.{callTell}
+use Rattle.d64spec.specs.Store.{callStore, emptySlots, growDirectory, lastOf, newEntry, overwriteSlot, placement, sectorsNeeded, slotPlaceFor, storedDisk, writeSlot}
+use Rattle.d64spec.specs.Call.{attempt, outputBuffer, perform}
+use Rattle.d64spec.specs.Listing.{callListing, digit, diskOfTrack18, freeTotal, headFrame, line, listingText, slotFrame}
+use Rattle.d64spec.specs.Host.{answerBlock, hostCall}
+use Rattle.d64spec.specs.Trial.{afterCall, freshImage, imageWithA, nameA, sent, smallLayout}
+use Rattle.d64spec.specs.Host.{HostReply}
+use Rattle.d64.specs.HostForms.{entryBytes, hostForm, hostListing, hostTell, listInto, tellInto}
+
+-- TELL'S 25 BYTES: type, name, first track and sector, then count and length, low byte first. A file of 664 sectors ($298) may have 168,656 bytes ($292D0)
+pub entry-computed : entryBytes (record { typeByte = 0xC2; nameBytes = range 0x41 16; firstTrack = 17; firstSector = 4; sectorCount = 664; byteLength = 168656 })
+    ≡ 0xC2 ∷ (range 0x41 16 ++ (17 ∷ 4 ∷ 0x98 ∷ 0x02 ∷ 0xD0 ∷ 0x92 ∷ 0x02 ∷ 0x00 ∷ []))
+unfolding entryBytes
+entry-computed = refl
+
+-- ---- the small disk, which holds A, PRG, 300 bytes in 19/0 and 19/1
+
+-- what the host sees: the number, the answer block, the output
+abbrev seen : HostReply → Bytes
+seen r = r .number ∷ (r .blockAfter ++ r .outputAfter)
+
+-- n bytes lent, none of them what a call leaves there
+abbrev lent : ℕ → Bytes
+lent n = replicate n 0xEE
+
+-- a refusal without a place
+abbrev unplacedBlock : Bytes
+unplacedBlock = 0 ∷ 0 ∷ 255 ∷ zeros 6
+
+-- TELL: done, with the rest of the entry as it was; 13 before 16; 16 for a short entry; 16 for the block before all
+pub tells-computed : map seen
+    (hostTell smallLayout imageWithA (lent 9) 0 (lent 27)
+    ∷ hostTell smallLayout imageWithA (lent 9) 1 (lent 24)
+    ∷ hostTell smallLayout imageWithA (lent 9) 0 (lent 24)
+    ∷ hostTell smallLayout [] (lent 9) 0 (lent 24)
+    ∷ hostTell smallLayout [] (lent 8) 0 (lent 24)
+    ∷ [])
+    ≡ (0 ∷ (unplacedBlock ++ (0x82 ∷ (nameA ++ (replicate 15 0xA0 ++ (19 ∷ 0 ∷ 2 ∷ 0 ∷ 44 ∷ 1 ∷ 0 ∷ 0 ∷ lent 2))))))
+    ∷ (13 ∷ (unplacedBlock ++ lent 24))
+    ∷ (16 ∷ (unplacedBlock ++ lent 24))
+    ∷ (1 ∷ (unplacedBlock ++ lent 24))
+    ∷ (16 ∷ (lent 8 ++ lent 24))
+    ∷ []
+unfolding hostTell hostForm tellInto entryBytes freshImage imageWithA afterCall sent smallLayout hostCall perform reply attempt outputBuffer answerBlock callFormat callStore callTell checkImage rightSize validNameArgument validKind writable filesNamed image disk put first sectorNumber onDisk firstOn sectorsOn total tracks mapOnes mapBit sectorsNeeded allocationOrder allocationTracks ascending descending sectorsOfTrack lastOf formattedDisk formattedMap formatHeader freeAfterFormat padded expectedEntry expectedBit bitmapByte rewriteMap claimCount claimList claimsOf directorySectors files occupied fileOf slotIn slotsIn firstLink linkTo fileLink directoryLink decodeFileLink decodeDirectoryLink freeForFiles freeForDirectory emptySlots slotPlaceFor placement storedDisk writeSlot overwriteSlot growDirectory newEntry checkDisk checkDirectory checkSlot checkEntry entryCorrect wrongBits validType validName nameOf
+tells-computed = refl
+
+-- LISTING: done, with the length of its 85 bytes and no sectors, and the rest of the text as it was; 16 for a short text; 1 before 16; 16 for the block before all
+pub listings-computed : map (λ r. r .number ∷ (r .blockAfter ++ drop 85 (r .outputAfter)))
+    (hostListing smallLayout (take 768 imageWithA) (lent 9) (lent 87)
+    ∷ hostListing smallLayout (take 768 imageWithA) (lent 9) (lent 84)
+    ∷ hostListing smallLayout (take 767 imageWithA) (lent 9) (lent 84)
+    ∷ hostListing smallLayout (take 767 imageWithA) (lent 10) (lent 84)
+    ∷ [])
+    ≡ (0 ∷ 0 ∷ 0 ∷ 255 ∷ 85 ∷ (zeros 5 ++ lent 2))
+    ∷ (16 ∷ unplacedBlock)
+    ∷ (1 ∷ unplacedBlock)
+    ∷ (16 ∷ lent 10)
+    ∷ []
+unfolding hostListing hostForm listInto callListing listingText headFrame slotFrame line digit freeTotal diskOfTrack18 freshImage imageWithA afterCall sent smallLayout hostCall perform reply attempt outputBuffer answerBlock callFormat callStore checkImage rightSize validNameArgument validKind writable filesNamed image disk put first sectorNumber onDisk firstOn sectorsOn total tracks mapOnes mapBit sectorsNeeded allocationOrder allocationTracks ascending descending sectorsOfTrack lastOf formattedDisk formattedMap formatHeader freeAfterFormat padded expectedEntry expectedBit bitmapByte rewriteMap claimCount claimList claimsOf directorySectors files occupied fileOf slotIn slotsIn firstLink linkTo fileLink directoryLink decodeFileLink decodeDirectoryLink freeForFiles freeForDirectory emptySlots slotPlaceFor placement storedDisk writeSlot overwriteSlot growDirectory newEntry checkDisk checkDirectory checkSlot checkEntry entryCorrect wrongBits validType validName nameOf
+listings-computed = refl
