@@ -20,6 +20,10 @@
  * Track, sector and slot are the place of a fault. They are 0, 0, 255 where enum d64_answer names no place, so also
  * when the call is done. Slots are numbered 0 to 143 through the directory in link order, eight to a sector, empty
  * ones counted; the slot is 255 where the fault is in no slot. A refusal has length 0 and 0 sectors.
+ *
+ * Old bytes. Sectors that d64_scratch() or d64_format() gives back are all zeros for as long as they are free. An
+ * image from elsewhere may hold old bytes in its free sectors and behind a file's end; it is accepted all the same,
+ * and only d64_format() clears all of them.
  */
 #ifndef D64_H
 #define D64_H
