@@ -5,7 +5,7 @@ ghost use mathlib.Core.Path.{_≡_};
 ghost use Rattle.d64spec.specs.Lists.{byte, zeros};
 ghost use Rattle.d64spec.specs.Image.{disk};
 ghost use Rattle.d64spec.specs.Format.{emptyDirectorySector};
-ghost use Rattle.sectors.specs.Sectors.{IsSector, withSector};
+ghost use Rattle.sectors.specs.Sectors.{IsSector, withSector, overwrittenIn};
 
 // The bytes of sector n, as a part of the image.
 pub fn sector(img: &[u8], n: usize) -> &[u8]
@@ -43,6 +43,18 @@ pub fn write_sector(img: &mut [u8], n: usize, content: &[u8])
             bytes::copy(content, &mut img[from..from + 256]);
         }
     }
+}
+
+// Writes the content over as many bytes of sector n, from its byte `at` on. Where they do not all lie in a whole sector of the image, nothing is
+// written.
+pub fn overwrite_in(img: &mut [u8], n: usize, at: usize, content: &[u8])
+    ensures { λ _. ⌜ now (img .exit) ≡ overwrittenIn (now (img .entry)) n at (now (content .entry)) ⌝ }
+{
+    if img.len() / 256 <= n {
+        return;
+    }
+    let from = 256 * n;
+    parts::overwrite(&mut img[from..from + 256], at, content);
 }
 
 // Sets every byte of sector n to 0. A sector that is not whole in the image is left as it is.
