@@ -1,6 +1,6 @@
 -- `sectors::overwrite_in` meets its contract: what comes back of the loan is the sector's place with the bytes in it, and else nothing is lent.
 use native.Mathlib.Omega.{arith}
-use mathlib.Core.Path.{sym}
+use mathlib.Core.Path.{refl, sym}
 use Rattle.sectors.proofs.SectorLaws.{overwrittenIn-lent, overwrittenIn-cut}
 use borrow.Author.Needs.{needs}
 use Rattle.sectors.proofs.overwrite_in.Statement.{statement}
@@ -35,7 +35,7 @@ same-length c = search needs
 returns-2 : tie.Need-returns-2
 returns-2 c =
     let a = c .before .before .before .before .before .before .before .args in
-    overwrittenIn-lent (a .img .now) (a .n) (a .at) (a .content .now) (omega arith) (c .before .before .overwrite .ensures)
+    overwrittenIn-lent (a .img .now) (a .n) (a .at) (a .content .now) refl (omega arith) (c .before .before .overwrite .ensures)
 
 pub overwrite-in-spec : {M : Type 1} → statement M
 overwrite-in-spec =
