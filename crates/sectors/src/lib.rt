@@ -2,7 +2,7 @@
 // A sector that the image does not have is empty, one that the image cuts off is shorter; only a whole sector is written.
 // `n` is held to the sectors that lie whole in the image before it is multiplied, so that nothing wraps.
 ghost use mathlib.Core.Path.{_≡_};
-ghost use Rattle.d64spec.specs.Lists.{byte, zeros};
+ghost use Rattle.d64spec.specs.Lists.{byte};
 ghost use Rattle.d64spec.specs.Image.{disk};
 ghost use Rattle.d64spec.specs.Format.{emptyDirectorySector};
 ghost use Rattle.sectors.specs.Sectors.{IsSector, withSector, overwrittenIn};
@@ -55,14 +55,6 @@ pub fn overwrite_in(img: &mut [u8], n: usize, at: usize, content: &[u8])
     }
     let from = 256 * n;
     parts::overwrite(&mut img[from..from + 256], at, content);
-}
-
-// Sets every byte of sector n to 0. A sector that is not whole in the image is left as it is.
-pub fn clear_sector(img: &mut [u8], n: usize)
-    ensures { λ _. ⌜ now (img .exit) ≡ withSector (now (img .entry)) n (zeros 256) ⌝ }
-{
-    let blank = [0u8; 256];
-    write_sector(img, n, &blank);
 }
 
 // An empty directory sector: 00 FF and zeros.
