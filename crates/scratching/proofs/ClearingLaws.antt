@@ -39,7 +39,7 @@ times n l = count n (map (sectorNumber layout35) l)
 
 -- zeros over a whole sector
 pub unlinked : (s : Bytes) {s′ blank : Bytes} {i : ℕ} → length s ≡ 256 → s′ ≡ overwritten s i blank → i ≡ 0 → blank ≡ zeros 256 → {link : Address} → link ≡ linkOf s → Unlinked s link s′
-unlinked s {i = i} full e start all had = record {
+unlinked s full e start all had = record {
   zeroed = e ∙ ap₂ (overwritten s) start all ∙ overwritten-inside s 0 (zeros 256) (omega arith) ∙ splice-all s (zeros 256) (sym full);
   had = had;
 }
