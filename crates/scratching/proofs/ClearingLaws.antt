@@ -1,23 +1,27 @@
 -- The loop that clears a chain (01, Scratch; Chains): what it keeps, from its start through each sector to the last.
--- In order: sectors cleared in another order; what is kept (`Clearing`); the sector at hand is as it was; it is cleared, and its mark moved.
-use Prim.Native.Nat.{ℕ, _+_, _*_, _/_, _%_, _≤_, _<_}
+-- In order: one sector cleared; sectors cleared in another order; what is kept (`Clearing`); the sector at hand is as it was; it is cleared, and its mark moved.
+use Prim.Native.Nat.{ℕ, _+_, _-_, _*_, _/_, _%_, _≤_, _<_}
 use native.Mathlib.Omega.{arith}
 use native.Mathlib.Decide.{decLt}
 use mathlib.Core.Path.{_≡_, refl, sym, ap, ap₂, _∙_, fun-ext}
 use mathlib.Core.Bool.{Bool, true, false, cond}
-use mathlib.Core.List.{List, [], _∷_, map}
-use lib.ListN.{length}
+use mathlib.Core.List.{List, [], _∷_, _++_, map}
+use lib.ListN.{length, take, drop}
 use lib.Dec.{eqb, ltb}
 use borrow.Author.Tests.{eq-eqb, ne-eqb}
-use Rattle.d64spec.specs.Lists.{Bytes, byte, count, indicator, zeros}
+use Rattle.d64spec.specs.Lists.{Bytes, count, indicator, zeros}
 use Rattle.d64spec.specs.Answers.{Address, address}
 use Rattle.d64spec.specs.Geometry.{layout35, sectorNumber}
 use Rattle.d64spec.specs.Image.{Disk, disk, put}
 use Rattle.d64spec.specs.Owner.{claimCount, isFree}
 use Rattle.d64spec.specs.Scratch.{clearSectors}
 use Rattle.d64spec.proofs.ClearLaws.{clear-in, clear-other}
-use Rattle.sectors.specs.Sectors.{withSector}
-use Rattle.sectors.proofs.SectorLaws.{byte-disk, byte-disk-first, length-withSector, disk-withSector}
+use Rattle.d64spec.proofs.SpliceLaws.{splice-all}
+use Rattle.geometry.specs.Layout.{packed, unpacked}
+use Rattle.parts.specs.Overwrites.{overwritten}
+use Rattle.parts.proofs.OverwriteLaws.{overwritten-inside}
+use Rattle.sectors.specs.Sectors.{Inside}
+use Rattle.sectors.proofs.SectorLaws.{length-withSector, disk-withSector, sector-lent, sector-back}
 use Rattle.mapentry.specs.MapEntry.{Entries}
 use Rattle.bam.specs.Bam.{movedMark}
 use Rattle.bamlaws.specs.Expected.{Expects, freeAfter}
@@ -25,11 +29,31 @@ use Rattle.bamlaws.proofs.FollowLaws.{expects-start, expects-moved, expects-agr
 use Rattle.reading.specs.ChainReads.{sectorsFrom, lastByteFrom, ChainFrom}
 use Rattle.reading.proofs.ChainStepLaws.{Visited, linkAt, Follows, sectors-first, last-alone, follows}
 use Rattle.reading.proofs.CopyLaws.{ending-last, ending-moved}
-use Rattle.scratching.specs.Scratches.{ChainOwned, ChainCleared}
+use Rattle.scratching.specs.Scratches.{linkOf, Unlinked, SectorCleared, ChainOwned, ChainCleared}
 
 -- how often sector n stands among these
 abbrev times : ℕ → List Address → ℕ
 times n l = count n (map (sectorNumber layout35) l)
+
+-- ---- one sector
+
+-- zeros over a whole sector
+pub unlinked : (s : Bytes) {s′ blank : Bytes} {i : ℕ} → length s ≡ 256 → s′ ≡ overwritten s i blank → i ≡ 0 → blank ≡ zeros 256 → {link : Address} → link ≡ linkOf s → Unlinked s link s′
+unlinked s full e start all had = record {
+  zeroed = e ∙ ap₂ (overwritten s) start all ∙ overwritten-inside s 0 (zeros 256) (omega arith) ∙ splice-all s (zeros 256) (sym full);
+  had = had;
+}
+
+-- a sector of the image lent on, and cleared there
+pub sector-cleared : (img : Bytes) (n : ℕ) {a : ℕ} (start : a ≡ 256 * n) {p : Bytes} {link : Address} → Inside img n → Unlinked (take (a + 256 - a) (drop a img)) link p
+    → SectorCleared img n link (take a img ++ (p ++ drop (a + 256 - a) (drop a img)))
+sector-cleared img n start inside u =
+    let back = sector-back img n start inside (u .zeroed) refl in
+    record {
+      zeroed = ap disk back ∙ disk-withSector img n (zeros 256) inside refl;
+      size = ap length back ∙ length-withSector img n (zeros 256);
+      had = u .had ∙ ap linkOf (sector-lent img n start);
+    }
 
 -- ---- the same sectors in another order
 
@@ -73,19 +97,6 @@ clearing-start o t s none = record {
   sector = s;
 }
 
--- one sector given back: zeroed, and free in the map
-pub record Freed (img : Bytes) (es : Entries) (r : Address) (n : ℕ) (img′ : Bytes) (es′ : Entries) : Type 0 where
-  pub zeroed : img′ ≡ withSector img n (zeros 256)
-  pub marked : es′ ≡ movedMark true r es
-
--- as the code gives it back: by its number, and by its address as one number
-pub freed : {img : Bytes} {es : Entries} {r : Address} {n : ℕ} {img′ : Bytes} {es′ : Entries} {i place : ℕ} {v : Bool} → r .sector < 256
-    → es′ ≡ movedMark v (address (place / 256) (place % 256)) es → place ≡ 256 * r .track + r .sector → v ≡ true → img′ ≡ withSector img i (zeros 256) → i ≡ n → Freed img es r n img′ es′
-freed {r = r} {place = place} narrow moved packed free zeroed here =
-    let t : place / 256 ≡ r .track = omega arith in
-    let s : place % 256 ≡ r .sector = omega arith in
-    record { zeroed = rw here at zeroed; marked = rw (t, s, free) at moved }
-
 module _ {img : Bytes} {es : Entries} {first at : Address} {img′ : Bytes} {es′ : Entries} {k : ℕ} (o : ChainOwned img es first) (w : Clearing img first at img′ es′ k) where
   -- ---- the sector at hand is as it was
 
@@ -108,57 +119,63 @@ module _ {img : Bytes} {es : Entries} {first at : Address} {img′ : Bytes} {es�
   unfolding freeAfter
   used = rw not-yet (ne-eqb (claimCount layout35 (disk img) own) 0 (λ e. omega (arith, among, w .apart own, o .owned own)))
 
+  -- its mark moved, as the code names it: by its address as one number
+  pub marked-free : {es″ : Entries} {place : ℕ} {mark : Bool} → es″ ≡ movedMark mark (unpacked place) es′ → place ≡ packed at → mark ≡ true → es″ ≡ movedMark true at es′
+  marked-free {place = place} moved is free =
+      let t : place / 256 ≡ at .track = omega (arith, w .sector) in
+      let s : place % 256 ≡ at .sector = omega (arith, w .sector) in
+      rw (t, s, free) at moved
+
   module _ {n : ℕ} (v : Visited img at n) where
-    track-as-was : byte img′ (256 * n) ≡ byte img (256 * n)
-    track-as-was = sym (byte-disk-first img′ n) ∙ ap (λ (m : ℕ). byte (disk img′ m) 0) (v .number) ∙ ap (λ (s : Bytes). byte s 0) as-was ∙ sym (v .track)
-
-    sector-as-was : byte img′ (256 * n + 1) ≡ byte img (256 * n + 1)
-    sector-as-was = sym (byte-disk img′ n 1 (omega arith)) ∙ ap (λ (m : ℕ). byte (disk img′ m) 1) (v .number) ∙ ap (λ (s : Bytes). byte s 1) as-was ∙ sym (v .sector)
-
-    pub inside′ : 256 * n + 256 ≤ length img′
+    pub inside′ : Inside img′ n
     inside′ = omega (arith, v .inside, w .size)
-
-    -- the sector that the link there names is the chain's next
-    pub next : 1 ≤ byte img′ (256 * n) → Follows img at (linkAt img′ n)
-    next h = rw (track-as-was, sector-as-was) (follows (w .chain) v (omega (arith, track-as-was)))
-
-    -- or it is the last
-    pub alone : byte img′ (256 * n) < 1 → sectorsFrom img at ≡ at ∷ []
-    alone h = last-alone (w .chain) v (omega (arith, track-as-was))
 
     -- ---- it is cleared, and its mark moved
 
-    module _ {img″ : Bytes} {es″ : Entries} (step : Freed img′ es′ at n img″ es″) {k′ : ℕ} (more : k′ ≡ k + 1) where
+    module _ {link : Address} {img″ : Bytes} (step : SectorCleared img′ n link img″) where
+      -- its link was the one that it had at the start
+      link-as-was : link ≡ linkAt img n
+      link-as-was = step .had ∙ ap linkOf (ap (disk img′) (v .number) ∙ as-was) ∙ sym (ap₂ address (v .track) (v .sector))
+
+      -- the sector that the link names is the chain's next
+      pub next : 1 ≤ link .track → Follows img at link
+      next h = rw link-as-was (follows (w .chain) v (omega (arith, ap (λ (r : Address). r .track) link-as-was)))
+
+      -- or it is the last
+      pub alone : link .track < 1 → sectorsFrom img at ≡ at ∷ []
+      alone h = last-alone (w .chain) v (omega (arith, ap (λ (r : Address). r .track) link-as-was))
+
       sectors″ : disk img″ ≡ clearSectors layout35 (at ∷ w .cleared) (disk img)
-      sectors″ = ap disk (step .zeroed) ∙ disk-withSector img′ n (zeros 256) inside′ refl ∙ ap₂ (λ (d : Disk) (m : ℕ). put d m (zeros 256)) (w .sectors) (v .number)
+      sectors″ = step .zeroed ∙ ap₂ (λ (d : Disk) (m : ℕ). put d m (zeros 256)) (w .sectors) (v .number)
 
       size″ : length img″ ≡ length img
-      size″ = ap length (step .zeroed) ∙ length-withSector img′ n (zeros 256) ∙ w .size
+      size″ = step .size ∙ w .size
 
-      marks″ : Expects (freeAfter true (at ∷ w .cleared) (isFree layout35 (disk img))) es″
-      marks″ = rw (step .marked) (expects-moved true (w .cleared) (isFree layout35 (disk img)) (w .marks) at (w .chain .on) used)
+      module _ {es″ : Entries} (marked : es″ ≡ movedMark true at es′) {k′ : ℕ} (more : k′ ≡ k + 1) where
+        marks″ : Expects (freeAfter true (at ∷ w .cleared) (isFree layout35 (disk img))) es″
+        marks″ = rw marked (expects-moved true (w .cleared) (isFree layout35 (disk img)) (w .marks) at (w .chain .on) used)
 
-      pub clearing-moved : Follows img at (linkAt img′ n) → byte img′ (256 * n) < 256 → byte img′ (256 * n + 1) < 256 → Clearing img first (linkAt img′ n) img″ es″ k′
-      clearing-moved f t s = record {
-        chain = f .rest;
-        cleared = at ∷ w .cleared;
-        sectors = sectors″;
-        size = size″;
-        marks = marks″;
-        apart = λ m. omega (arith, w .apart m, ap (times m) (f .sectors));
-        left = omega (arith, w .left, ap length (f .sectors));
-        same = ending-moved (record { chain = w .chain; same = w .same }) f .same;
-        track = t;
-        sector = s;
-      }
+        pub clearing-moved : Follows img at link → link .track < 256 → link .sector < 256 → Clearing img first link img″ es″ k′
+        clearing-moved f t s = record {
+          chain = f .rest;
+          cleared = at ∷ w .cleared;
+          sectors = sectors″;
+          size = size″;
+          marks = marks″;
+          apart = λ m. omega (arith, w .apart m, ap (times m) (f .sectors));
+          left = omega (arith, w .left, ap length (f .sectors));
+          same = ending-moved (record { chain = w .chain; same = w .same }) f .same;
+          track = t;
+          sector = s;
+        }
 
-      pub clearing-finished : {last : ℕ} → sectorsFrom img at ≡ at ∷ [] → last ≡ byte img′ (256 * n + 1) → ChainCleared img first (record { count = k′; last = last }) img″ es″
-      clearing-finished e is =
-          let all : (m : ℕ) → times m (at ∷ w .cleared) ≡ times m (sectorsFrom img first) = λ m. omega (arith, w .apart m, ap (times m) e) in
-          record {
-            sectors = sectors″ ∙ clear-same (at ∷ w .cleared) (sectorsFrom img first) all (disk img);
-            size = size″;
-            marks = expects-agree marks″ (λ r on. free-same (at ∷ w .cleared) (sectorsFrom img first) all true (isFree layout35 (disk img)) r);
-            number = omega (arith, w .left, ap length e);
-            last = is ∙ sector-as-was ∙ v .sector ∙ ending-last (record { chain = w .chain; same = w .same }) e;
-          }
+        pub clearing-finished : {last : ℕ} → sectorsFrom img at ≡ at ∷ [] → last ≡ link .sector → ChainCleared img first (record { count = k′; last = last }) img″ es″
+        clearing-finished e is =
+            let all : (m : ℕ) → times m (at ∷ w .cleared) ≡ times m (sectorsFrom img first) = λ m. omega (arith, w .apart m, ap (times m) e) in
+            record {
+              sectors = sectors″ ∙ clear-same (at ∷ w .cleared) (sectorsFrom img first) all (disk img);
+              size = size″;
+              marks = expects-agree marks″ (λ r on. free-same (at ∷ w .cleared) (sectorsFrom img first) all true (isFree layout35 (disk img)) r);
+              number = omega (arith, w .left, ap length e);
+              last = is ∙ ap (λ (r : Address). r .sector) link-as-was ∙ v .sector ∙ ending-last (record { chain = w .chain; same = w .same }) e;
+            }

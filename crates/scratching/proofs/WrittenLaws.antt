@@ -1,15 +1,14 @@
 -- The file of a slot scratched in the image (01, Scratch): its chain as the code reads it, and that what is written is document 01's disk.
--- In order: the map put into its sector; the slot's bytes; the file; its chain is owned; the image after; the report.
+-- In order: the map put into its sector; the first sector of a slot's file; the slot's bytes; the file; its chain is owned; the image after; the report.
 use Prim.Native.Nat.{ℕ, zero, suc, _+_, _-_, _*_, _≤_, _<_}
 use native.Mathlib.Omega.{arith}
 use mathlib.Core.Path.{_≡_, refl, sym, ap, ap₂, _∙_, subst}
 use mathlib.Core.Bool.{true, cond}
 use mathlib.Core.List.{List, [], map}
 use lib.ListN.{length, take, drop, length-take, length-drop}
-use lib.Seq.{getD-take, getD-drop}
 use lib.Dec.{eqb, ltb}
 use borrow.Author.Tests.{eq-eqb, lt-ltb}
-use Rattle.d64spec.specs.Lists.{Bytes, byte, count, splice, zeros}
+use Rattle.d64spec.specs.Lists.{Bytes, byte, count, part, splice, zeros}
 use Rattle.d64spec.specs.Answers.{Address, address, done}
 use Rattle.d64spec.specs.Geometry.{layout35, sectorNumber, mapAddress}
 use Rattle.d64spec.specs.Image.{Disk, disk, image, put}
@@ -29,9 +28,8 @@ use Rattle.d64spec.proofs.SlotLaws.{slot-bytes-at}
 use Rattle.d64spec.proofs.ScratchLaws
 use Rattle.d64spec.proofs.ScratchStep.{sound-of, Found, found}
 use Rattle.d64spec.proofs.RunTheorem.{valid35, sectors35}
-use Rattle.sectors.proofs.SectorLaws.{byte-disk}
-use Rattle.parts.specs.Overwrites.{overwritten}
-use Rattle.parts.proofs.OverwriteLaws.{disk-overwritten, length-overwritten}
+use Rattle.sectors.specs.Sectors.{overwrittenIn}
+use Rattle.sectors.proofs.SectorLaws.{disk-overwrittenIn, length-overwrittenIn}
 use Rattle.answers.specs.declared.Verdict.the-variants.{Fine}
 use Rattle.answers.specs.Faults.{verdictOf, answerTo, replyOf}
 use Rattle.mapentry.specs.MapEntry.{Entries}
@@ -45,7 +43,7 @@ use Rattle.reading.proofs.ChainStepLaws.{sectorsFrom-le}
 use Rattle.reading.proofs.FileLaws.{sectors-of, entry-of}
 use Rattle.scratching.specs.declared.Cleared.{Cleared}
 use Rattle.imagemap.specs.ImageMaps.{MapWritten}
-use Rattle.scratching.specs.Scratches.{ChainCleared, startAt, EntryOwned, FileCleared, slotOn, fileOn, FileThere}
+use Rattle.scratching.specs.Scratches.{ChainCleared, startOf, EntryOwned, FileCleared, slotOn, fileOn, FileThere}
 
 -- what a scratch counts of a chain cleared: at least one sector, a last byte as a file's has it, and so the file's length (01, Chains)
 pub record LengthTold (c : Cleared) (n : ℕ) : Type 0 where
@@ -56,8 +54,22 @@ pub record LengthTold (c : Cleared) (n : ℕ) : Type 0 where
   pub bytes : 254 * (c .count - 1) + c .last - 1 ≡ n
 
 -- the map put into an image whose slot is zeroed
-pub slot-cleared : (es : Entries) (img : Bytes) (at : ℕ) {img′ img″ bs : Bytes} → img′ ≡ overwritten img at bs → bs ≡ zeros 30 → MapWritten img′ es img″ → MapWritten (overwritten img at (zeros 30)) es img″
-slot-cleared es img at {img″ = img″} e all w = subst (λ (x : Bytes). MapWritten x es img″) (e ∙ ap (overwritten img at) all) w
+pub slot-cleared : (es : Entries) (img : Bytes) (holder index : ℕ) {img′ img″ bs : Bytes} {k i : ℕ} → img′ ≡ overwrittenIn img k i bs → k ≡ 357 + holder → i ≡ 32 * index + 2 → bs ≡ zeros 30
+    → MapWritten img′ es img″ → MapWritten (overwrittenIn img (357 + holder) (32 * index + 2) (zeros 30)) es img″
+slot-cleared es img holder index {img″ = img″} e there start all w = subst (λ (x : Bytes). MapWritten x es img″) (rw (there, start, all) at e) w
+
+-- the first sector of a slot's file, as the code finds it: by the sector's number, the slot there, and its second and third byte
+pub first-found : (img : Bytes) (holder index : ℕ) {sector slot : Bytes} {k x y : ℕ} → sector ≡ disk img k → k ≡ 357 + holder → slot ≡ part 0x02 0x1F (drop (32 * index) sector)
+    → x ≡ byte slot 1 → y ≡ byte slot 2 → address x y ≡ startOf img holder index
+unfolding slotOn slotIn
+first-found img holder index {slot = slot} lent there at track number =
+    let is : slot ≡ slotOn img holder 0 index .bytes = at ∙ ap (λ (b : Bytes). part 0x02 0x1F (drop (32 * index) b)) (lent ∙ ap (disk img) (there ∙ sym (number-18 holder))) in
+    ap₂ address (track ∙ ap (λ (b : Bytes). byte b 1) is) (number ∙ ap (λ (b : Bytes). byte b 2) is)
+
+-- the chain from there on cleared, and then the slot
+pub file-cleared : {img : Bytes} {holder index : ℕ} {r : Address} → r ≡ startOf img holder index → {c : Cleared} {before : Bytes} {marked : Entries} → ChainCleared img r c before marked
+    → {img′ : Bytes} → MapWritten (overwrittenIn before (357 + holder) (32 * index + 2) (zeros 30)) marked img′ → FileCleared img holder index c img′
+file-cleared e {before = before} {marked = marked} chain written = record { before = before; marked = marked; chain = rw e at chain; written = written }
 
 -- the map's sector
 abbrev m : ℕ
@@ -69,14 +81,17 @@ module _ {img : Bytes} {holder index : ℕ} (t : FileThere img holder index) whe
   size-there : length img ≡ 174848
   size-there = omega (arith, t .accepted .size, sectors35)
 
-  -- the slot, and the number of its sector
+  -- the slot, its bytes, and the number of its sector
   abbrev s : Slot
   s = slotOn img holder (t .from) index
+
+  abbrev b : Bytes
+  b = slotOn img holder 0 index .bytes
 
   abbrev n : ℕ
   n = 357 + holder
 
-  bytes-are : s .bytes ≡ take 30 (drop (32 * index + 2) (disk img n))
+  bytes-are : b ≡ take 30 (drop (32 * index + 2) (disk img n))
   unfolding slotOn slotIn
   bytes-are = slot-bytes-at (disk img (sectorNumber layout35 (address 18 holder))) index ∙ ap (λ (k : ℕ). take 30 (drop (32 * index + 2) (disk img k))) (number-18 holder)
 
@@ -87,21 +102,8 @@ module _ {img : Bytes} {holder index : ℕ} (t : FileThere img holder index) whe
   long : length (disk img n) ≡ 256
   long = whole .full n (omega (arith, t .inside, sectors35))
 
-  full : length (s .bytes) ≡ 30
+  full : length b ≡ 30
   full = let place = t .place in ap length bytes-are ∙ simp (length-take, length-drop) (omega (arith, long))
-
-  byte-at : (i : ℕ) → i < 30 → byte (s .bytes) i ≡ byte img (256 * n + (32 * index + 2 + i))
-  byte-at i h =
-      ap (λ (b : Bytes). byte b i) bytes-are ∙ getD-take 30 (drop (32 * index + 2) (disk img n)) i 0 h ∙ getD-drop (32 * index + 2) (disk img n) i 0
-      ∙ byte-disk img n (32 * index + 2 + i) (omega (arith, t .place))
-
-  -- where the code finds them
-  module _ {at : ℕ} (is : at ≡ 91392 + 256 * holder + 32 * index + 2) where
-    first-read : startAt img at ≡ firstOf (s .bytes)
-    first-read =
-        let one : at + 1 ≡ 256 * n + (32 * index + 2 + 1) = omega arith in
-        let two : at + 2 ≡ 256 * n + (32 * index + 2 + 2) = omega arith in
-        ap₂ address (ap (byte img) one ∙ sym (byte-at 1 (omega arith))) (ap (byte img) two ∙ sym (byte-at 2 (omega arith)))
 
   -- ---- the file
 
@@ -133,27 +135,26 @@ module _ {img : Bytes} {holder index : ℕ} (t : FileThere img holder index) whe
   prepared : Prepared layout35 d d2 (f .sectors)
   prepared = rw (same2, ap (λ (x : File). x .sectors) (there .is)) at (ScratchLaws.prepared2 layout35 valid35 d whole sound (there .place))
 
-  sectors-are : f .sectors ≡ sectorsFrom img (firstOf (s .bytes))
-  unfolding fileOn
+  sectors-are : f .sectors ≡ sectorsFrom img (firstOf b)
+  unfolding fileOn slotOn slotIn
   sectors-are = sectors-of img (t .accepted) s (t .element)
 
   -- ---- its chain is owned
 
   module _ (small : (i : ℕ) → byte img i < 256) where
-    entry : FileEntry img (s .bytes)
-    unfolding fileOn
+    entry : FileEntry img b
+    unfolding fileOn slotOn slotIn
     entry = entry-of img (t .accepted) s (t .element) small full
 
-    pub entry-owned : {at : ℕ} → at ≡ 91392 + 256 * holder + 32 * index + 2 → EntryOwned img at
-    entry-owned {at} is = record {
-      size = size-there;
-      inside = omega (arith, size-there, t .inside, t .place);
-      chain = rw (first-read is) (record {
+    pub entry-owned : EntryOwned img holder index
+    entry-owned = record {
+      place = t .place;
+      chain = record {
         chain = entry .chain;
         owned = λ k. omega (arith, claims k, ap (λ (l : List Address). count k (map (sectorNumber layout35) l)) sectors-are);
         once = t .accepted .content .once;
         marks = expects-loaded d (t .accepted .content) (whole .full m (omega (arith, number-18 0, sectors35))) (byte-small img small m);
-      });
+      };
     }
 
   -- ---- the image after
@@ -170,30 +171,32 @@ module _ {img : Bytes} {holder index : ℕ} (t : FileThere img holder index) whe
       go zero e = let same : claimCount layout35 d k ≡ claimCount layout35 d2 k = omega (arith, claims k) in ap (λ (x : ℕ). eqb x 0) same
       go (suc c) e = rw (lt-ltb 0 (suc c) (omega arith)) (sym (eq-eqb (claimCount layout35 d2 k) 0 (omega (arith, claims k, t .accepted .content .once k))))
 
-  module _ {at : ℕ} {c : Cleared} {img″ : Bytes} (scratched : FileCleared img at c img″) (is : at ≡ 91392 + 256 * holder + 32 * index + 2) where
+  module _ {c : Cleared} {img″ : Bytes} (scratched : FileCleared img holder index c img″) where
     abbrev img′ : Bytes
     img′ = scratched .before
 
     abbrev es′ : Entries
     es′ = scratched .marked
 
-    cleared : ChainCleared img (startAt img at) c img′ es′
+    cleared : ChainCleared img (startOf img holder index) c img′ es′
     cleared = scratched .chain
 
     first-disk : disk img′ ≡ clearSectors layout35 (f .sectors) d
-    first-disk = cleared .sectors ∙ ap (λ (r : Address). clearSectors layout35 (sectorsFrom img r) d) (first-read is) ∙ ap (λ (l : List Address). clearSectors layout35 l d) (sym sectors-are)
+    first-disk = cleared .sectors ∙ ap (λ (l : List Address). clearSectors layout35 l d) (sym sectors-are)
 
-    second-disk : disk (overwritten img′ at (zeros 30)) ≡ d2
+    -- the image with the slot zeroed
+    abbrev img₂ : Bytes
+    img₂ = overwrittenIn img′ n (32 * index + 2) (zeros 30)
+
+    second-disk : disk img₂ ≡ d2
     unfolding overwriteSlot
     second-disk =
-        let place : at ≡ 256 * n + (32 * index + 2) = omega arith in
-        ap (λ (a : ℕ). disk (overwritten img′ a (zeros 30))) place
-        ∙ disk-overwritten img′ n (32 * index + 2) (zeros 30) (omega (arith, cleared .size, size-there, t .inside)) (omega (arith, t .place))
+        disk-overwrittenIn img′ n (32 * index + 2) (zeros 30) (omega (arith, cleared .size, size-there, t .inside)) (omega (arith, t .place))
         ∙ ap₂ (λ (x : Disk) (k : ℕ). put x k (splice (x k) (32 * index + 2) (zeros 30))) first-disk (sym (number-18 holder))
 
     marks : Expects (isFree layout35 d2) es′
     marks =
-        let freed : Expects (freeAfter true (f .sectors) (isFree layout35 d)) es′ = rw (first-read is, ← sectors-are) at (cleared .marks) in
+        let freed : Expects (freeAfter true (f .sectors) (isFree layout35 d)) es′ = rw (← sectors-are) at (cleared .marks) in
         expects-agree freed (λ r on. free-after r)
 
     follows : put d2 m (storedEntries es′ (d2 m)) ≡ rewriteMap layout35 d2
@@ -203,7 +206,7 @@ module _ {img : Bytes} {holder index : ℕ} (t : FileThere img holder index) whe
     image-scratched : img″ ≡ image layout35 (scratchedDisk layout35 d f)
     unfolding scratchedDisk fileOn fileOf slotOn slotIn
     image-scratched =
-        let size2 : length (overwritten img′ at (zeros 30)) ≡ 174848 = length-overwritten img′ at (zeros 30) ∙ cleared .size ∙ size-there in
+        let size2 : length img₂ ≡ 174848 = length-overwrittenIn img′ n (32 * index + 2) (zeros 30) ∙ cleared .size ∙ size-there in
         let same : disk img″ ≡ rewriteMap layout35 d2
         = scratched .written .laid (omega arith) ∙ ap (λ (x : Disk). put x m (storedEntries es′ (x m))) second-disk ∙ follows in
         sym (disk-image layout35 img″ (omega (arith, scratched .written .size, size2, sectors35))) ∙ ap (image layout35) same
@@ -211,18 +214,18 @@ module _ {img : Bytes} {holder index : ℕ} (t : FileThere img holder index) whe
     -- ---- the report
 
     number-is : c .count ≡ length (f .sectors)
-    number-is = cleared .number ∙ ap (λ (r : Address). length (sectorsFrom img r)) (first-read is) ∙ ap length (sym sectors-are)
+    number-is = cleared .number ∙ ap length (sym sectors-are)
 
     -- what the length of the file is counted from
     pub told : ((i : ℕ) → byte img i < 256) → LengthTold c (length (chainData layout35 d (f .sectors)))
     unfolding dataFrom
     told small =
         let e = entry small in
-        let last = rw (first-read is) at (cleared .last) in
-        let bytes : length (chainData layout35 d (f .sectors)) ≡ length (dataFrom img (firstOf (s .bytes))) = ap (λ (l : List Address). length (chainData layout35 d l)) sectors-are in
+        let last = cleared .last in
+        let bytes : length (chainData layout35 d (f .sectors)) ≡ length (dataFrom img (firstOf b)) = ap (λ (l : List Address). length (chainData layout35 d l)) sectors-are in
         record {
           some = omega (arith, number-is, ap length sectors-are, e .count, e .some);
-          few = omega (arith, number-is, ap length sectors-are, sectorsFrom-le img (firstOf (s .bytes)));
+          few = omega (arith, number-is, ap length sectors-are, sectorsFrom-le img (firstOf b));
           low = omega (arith, last, e .low);
           high = omega (arith, last, e .high);
           bytes = omega (arith, bytes, number-is, ap length sectors-are, e .count, e .bytes, last);

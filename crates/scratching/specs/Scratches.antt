@@ -1,6 +1,6 @@
 -- What the parts of a scratch rely on and what they leave (01, Scratch; The map; Chains).
--- In order: a chain cleared; a slot and its file; the file of a name. Laws: proofs/ClearingLaws, WrittenLaws, FoundLaws.
-use Prim.Native.Nat.{ℕ, _+_, _≤_, _<_}
+-- In order: a sector cleared; a chain cleared; a slot and its file; the file of a name. Laws: proofs/ClearingLaws, WrittenLaws, FoundLaws.
+use Prim.Native.Nat.{ℕ, _+_, _*_, _≤_, _<_}
 use mathlib.Core.Path.{_≡_}
 use mathlib.Core.Bool.{true}
 use mathlib.Core.List.{List, List·Memᴰ, map}
@@ -8,21 +8,39 @@ use lib.ListN.{length}
 use Rattle.d64spec.specs.Lists.{Bytes, byte, count, zeros}
 use Rattle.d64spec.specs.Answers.{Address, address}
 use Rattle.d64spec.specs.Geometry.{layout35, sectorNumber, mapAddress}
-use Rattle.d64spec.specs.Image.{disk}
+use Rattle.d64spec.specs.Image.{disk, put}
 use Rattle.d64spec.specs.Directory.{Slot, File, slotIn, fileOf, files}
 use Rattle.d64spec.specs.Owner.{claimCount, isFree}
 use Rattle.d64spec.specs.Accepted.{Accepted}
 use Rattle.d64spec.specs.Reply.{validNameArgument, writable}
 use Rattle.d64spec.specs.Scratch.{clearSectors}
 use Rattle.geometry.specs.Layout.{IsFirsts}
-use Rattle.parts.specs.Overwrites.{overwritten}
+use Rattle.sectors.specs.Sectors.{overwrittenIn}
 use Rattle.mapentry.specs.MapEntry.{Entries}
 use Rattle.mapsector.specs.MapSector.{mapEntries}
 use Rattle.bamlaws.specs.Expected.{Expects, freeAfter}
 use Rattle.finding.specs.FileSlots.{CheckedSlots}
 use Rattle.reading.specs.ChainReads.{sectorsFrom, lastByteFrom, ChainFrom}
+use Rattle.reading.specs.FileSlots.{firstOf}
 use Rattle.imagemap.specs.ImageMaps.{MapWritten}
 use Rattle.scratching.specs.declared.Cleared.{Cleared}
+
+-- ---- a sector
+
+-- the address that a sector's first two bytes name (01, Chains)
+abbrev pub linkOf : Bytes → Address
+linkOf s = address (byte s 0) (byte s 1)
+
+-- every byte of a sector is 0, and this is the link that it had (01, Scratch; Chains)
+pub record Unlinked (s : Bytes) (link : Address) (s′ : Bytes) : Type 0 where
+  pub zeroed : s′ ≡ zeros 256
+  pub had : link ≡ linkOf s
+
+-- the same for sector n of an image: on the disk that is one sector put
+pub record SectorCleared (img : Bytes) (n : ℕ) (link : Address) (img′ : Bytes) : Type 0 where
+  pub zeroed : disk img′ ≡ put (disk img) n (zeros 256)
+  pub size : length img′ ≡ length img
+  pub had : link ≡ linkOf (disk img n)
 
 -- ---- a chain
 
@@ -48,30 +66,29 @@ pub record ChainCleared (img : Bytes) (r : Address) (c : Cleared) (img′ : Byte
 
 -- ---- a slot
 
--- the first sector that the entry from byte `at` of the image on names: its bytes 03-04, the second and the third of its 30 (01, The directory)
-abbrev pub startAt : Bytes → ℕ → Address
-startAt img at = address (byte img (at + 1)) (byte img (at + 2))
-
--- the 30 bytes of an entry lie in an image of the right size, its chain is owned, and the map marks exactly nobody's sectors free
-pub record EntryOwned (img : Bytes) (at : ℕ) : Type 0 where
-  pub size : length img ≡ 174848
-  pub inside : at + 30 ≤ length img
-  pub chain : ChainOwned img (mapEntries (disk img (sectorNumber layout35 mapAddress))) (startAt img at)
-
--- its chain cleared, its 30 bytes zeroed, and the map as it then is put into its sector (01, Scratch)
-pub record FileCleared (img : Bytes) (at : ℕ) (c : Cleared) (img′ : Bytes) : Type 0 where
-  pub before : Bytes
-  pub marked : Entries
-  pub chain : ChainCleared img (startAt img at) c before marked
-  pub written : MapWritten (overwritten before at (zeros 30)) marked img′
-
 -- slot `index` of the directory sector 18/holder, whose first slot has number n; a scratch does not ask that number (01, The directory)
 unfoldable pub slotOn : Bytes → ℕ → ℕ → ℕ → Slot
 slotOn img holder n index = slotIn (disk img (sectorNumber layout35 (address 18 holder))) (address 18 holder) n index
 
+-- the first sector of its file (01, The directory: 03-04)
+abbrev pub startOf : Bytes → ℕ → ℕ → Address
+startOf img holder index = firstOf (slotOn img holder 0 index .bytes)
+
 -- the file of that slot (01, The directory: 03-04; Chains)
 unfoldable pub fileOn : Bytes → ℕ → ℕ → ℕ → File
 fileOn img holder n index = fileOf layout35 (disk img) (slotOn img holder n index)
+
+-- one of the eight slots; its chain is owned, and the map marks exactly nobody's sectors free
+pub record EntryOwned (img : Bytes) (holder index : ℕ) : Type 0 where
+  pub place : index < 8
+  pub chain : ChainOwned img (mapEntries (disk img (sectorNumber layout35 mapAddress))) (startOf img holder index)
+
+-- its chain cleared, its 30 bytes zeroed, and the map as it then is put into its sector (01, Scratch)
+pub record FileCleared (img : Bytes) (holder index : ℕ) (c : Cleared) (img′ : Bytes) : Type 0 where
+  pub before : Bytes
+  pub marked : Entries
+  pub chain : ChainCleared img (startOf img holder index) c before marked
+  pub written : MapWritten (overwrittenIn before (357 + holder) (32 * index + 2) (zeros 30)) marked img′
 
 -- an accepted image, and the file of one of its occupied slots; `from` is the number of its sector's first slot (01, Scratch)
 pub record FileThere (img : Bytes) (holder index : ℕ) : Type 0 where

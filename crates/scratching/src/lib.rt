@@ -3,6 +3,7 @@
 ghost use mathlib.Core.Path.{_≡_};
 ghost use mathlib.Core.Bool.{true};
 ghost use mathlib.Core.List.{[]};
+ghost use Prim.Native.Nat.{_+_, _*_, _<_};
 ghost use lib.ListN.{length};
 ghost use Rattle.d64spec.specs.Lists.{zeros};
 ghost use Rattle.d64spec.specs.Answers.{done};
@@ -12,11 +13,11 @@ ghost use Rattle.d64spec.specs.Reply.{reply, validNameArgument};
 ghost use Rattle.d64spec.specs.Scratch.{scratchChange};
 ghost use Rattle.d64spec.specs.Call.{scratch, perform};
 ghost use Rattle.geometry.specs.Layout.{addressOf};
-ghost use Rattle.parts.specs.Overwrites.{overwritten};
+ghost use Rattle.sectors.specs.Sectors.{Inside, overwrittenIn};
 ghost use Rattle.answers.specs.Faults.{replyOf};
 ghost use Rattle.finding.specs.FileSlots.{slotNamed, CheckedSlots};
 ghost use Rattle.imagemap.specs.ImageMaps.{MapWritten};
-ghost use Rattle.scratching.specs.Scratches.{ChainOwned, ClearReady, ChainCleared, EntryOwned, FileCleared, fileOn, FileThere, MayScratch};
+ghost use Rattle.scratching.specs.Scratches.{Unlinked, SectorCleared, ChainOwned, ClearReady, ChainCleared, startOf, EntryOwned, FileCleared, fileOn, FileThere, MayScratch};
 use answers::Fault;
 use answers::Report;
 use answers::Verdict;
@@ -26,6 +27,29 @@ use geometry::Address;
 struct Cleared {
     count: usize,
     last: u8,
+}
+
+// Sets every byte of a sector to 0, and gives the link that it had.
+fn unlink(sector: &mut [u8]) -> Address
+    requires { ⌜ length (now sector) ≡ 256 ⌝ }
+    ensures { λ r. ⌜ Unlinked (now (sector .entry)) (addressOf r) (now (sector .exit)) ⌝ }
+{
+    let link = Address {
+        track: sector[0],
+        sector: sector[1],
+    };
+    let blank = [0u8; 256];
+    parts::overwrite(sector, 0, &blank);
+    link
+}
+
+// The same for sector n of an image, as a part of it.
+fn clear_linked(img: &mut [u8], n: usize) -> Address
+    requires { ⌜ Inside (now img) n ⌝ }
+    ensures { λ r. ⌜ SectorCleared (now (img .entry)) n (addressOf r) (now (img .exit)) ⌝ }
+{
+    let start = 256 * n;
+    unlink(&mut img[start..start + 256])
 }
 
 // Clears the sectors of the chain that starts at `first`, and marks them free in the map. Each link is read before its sector is cleared.
@@ -44,9 +68,9 @@ fn clear_from(
     loop {
         let n = geometry::number_by(firsts, Address { track, sector });
         bam::move_mark(map, 256 * (track as u16) + sector as u16, true);
-        track = img[256 * n];
-        sector = img[256 * n + 1];
-        sectors::clear_sector(img, n);
+        let link = clear_linked(img, n);
+        track = link.track;
+        sector = link.sector;
         count += 1;
         if track == 0 {
             return Cleared {
@@ -65,27 +89,36 @@ fn clear_chain(img: &mut [u8], first: Address, map: &mut [[u8; 4]; 35]) -> Clear
     clear_from(img, first, map, &geometry::FIRST)
 }
 
-// Zeroes the 30 bytes of a slot from byte `at` on, and puts the map into its sector.
-fn clear_slot(img: &mut [u8], at: usize, map: [[u8; 4]; 35])
-    ensures { λ _. ⌜ MapWritten (overwritten (now (img .entry)) at (zeros 30)) map (now (img .exit)) ⌝ }
+// The first sector of the file of slot `index` of 18/holder.
+fn first_of(img: &[u8], holder: u8, index: usize) -> Address
+    ensures { λ r. ⌜ addressOf r ≡ startOf (now (img .entry)) holder index ⌝ }
+{
+    let slot = entry::slot(sectors::sector(img, 357 + holder as usize), index);
+    Address {
+        track: parts::byte_at(slot, 1),
+        sector: parts::byte_at(slot, 2),
+    }
+}
+
+// Zeroes bytes 02-1F of slot `index` of 18/holder, and puts the map into its sector.
+fn clear_slot(img: &mut [u8], holder: u8, index: usize, map: [[u8; 4]; 35])
+    requires { ⌜ index < 8 ⌝ }
+    ensures { λ _. ⌜ MapWritten (overwrittenIn (now (img .entry)) (357 + holder) (32 * index + 2) (zeros 30)) map (now (img .exit)) ⌝ }
 {
     let blank = [0u8; 30];
-    parts::overwrite(img, at, &blank);
+    sectors::overwrite_in(img, 357 + holder as usize, 32 * index + 2, &blank);
     imagemap::write_map(img, map);
 }
 
-// Clears the chain that the slot from byte `at` on starts, and the slot itself; the map follows.
-fn clear_file(img: &mut [u8], at: usize) -> Cleared
-    requires { ⌜ EntryOwned (now img) at ⌝ }
-    ensures { λ r. ⌜ FileCleared (now (img .entry)) at r (now (img .exit)) ⌝ }
+// Clears the chain that this slot starts, and the slot itself; the map follows.
+fn clear_file(img: &mut [u8], holder: u8, index: usize) -> Cleared
+    requires { ⌜ EntryOwned (now img) holder index ⌝ }
+    ensures { λ r. ⌜ FileCleared (now (img .entry)) holder index r (now (img .exit)) ⌝ }
 {
-    let first = Address {
-        track: img[at + 1],
-        sector: img[at + 2],
-    };
+    let first = first_of(img, holder, index);
     let mut map = imagemap::map_of(img);
     let cleared = clear_chain(img, first, &mut map);
-    clear_slot(img, at, map);
+    clear_slot(img, holder, index, map);
     cleared
 }
 
@@ -94,8 +127,7 @@ fn scratch_slot(img: &mut [u8], holder: u8, index: usize) -> Report
     requires { ⌜ FileThere (now img) holder index ⌝ }
     ensures { λ r. ⌜ replyOf r (now (img .exit)) [] ≡ reply (now (img .entry)) [] (done (scratchChange layout35 (now (img .entry)) (fileOn (now (img .entry)) holder 0 index))) ⌝ }
 {
-    let at = 91392 + 256 * (holder as usize) + 32 * index + 2;
-    let cleared = clear_file(img, at);
+    let cleared = clear_file(img, holder, index);
     Report {
         verdict: Verdict::Fine,
         length: 254 * (cleared.count as u32 - 1) + cleared.last as u32 - 1,

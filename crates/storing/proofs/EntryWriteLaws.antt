@@ -1,5 +1,5 @@
 -- The entry, and its place in the directory (01, Store).
--- In order: the entry's bytes; the directory grown by a sector; the entry at its place; the map in its sector; the place of the definitions.
+-- In order: the entry's bytes; the directory grown by a sector; the entry at its place; the place of the definitions.
 use Prim.Native.Nat.{ℕ, _+_, _-_, _*_, _/_, _%_, _≤_}
 use native.Mathlib.Omega.{arith}
 use mathlib.Core.Path.{_≡_, sym, ap, ap₂, _∙_}
@@ -18,13 +18,11 @@ use Rattle.d64spec.specs.Store.{SlotPlace, inEmptySlot, inNewSector, newEntry, 
 use Rattle.d64spec.proofs.FormatLaws.{padded-length}
 use Rattle.d64spec.proofs.ImageLaws.{put-other}
 use Rattle.geometry.specs.Layout.{unpacked}
-use Rattle.sectors.specs.Sectors.{withSector}
-use Rattle.sectors.proofs.SectorLaws.{disk-withSector, length-withSector}
-use Rattle.parts.specs.Overwrites.{overwritten}
+use Rattle.sectors.specs.Sectors.{withSector, overwrittenIn}
+use Rattle.sectors.proofs.SectorLaws.{disk-withSector, length-withSector, disk-overwrittenIn, length-overwrittenIn}
 use Rattle.storing.specs.declared.room.EntryPlace.{EntryPlace}
 use Rattle.storing.specs.Plans.{PlaceIs}
 use Rattle.storing.specs.Writes.{grownDisk, entryDisk, GrowReady, Grown, EntryReady, EntryLaid}
-use Rattle.parts.proofs.OverwriteLaws.{length-overwritten, disk-overwritten}
 use Rattle.directory.proofs.Track18Laws.{number-18}
 
 -- ---- the entry's bytes
@@ -53,10 +51,10 @@ entry-made name kind first k {f} {p} h e c =
 -- ---- the directory grown
 
 module _ {img : Bytes} {last s : ℕ} (r : GrowReady img last s) where
-  pub directory-grown : {e img′ img″ : Bytes} → e ≡ emptyDirectorySector → img′ ≡ withSector img (357 + s) e → {at : ℕ} → img″ ≡ overwritten img′ at (18 ∷ s ∷ []) → at ≡ 91392 + 256 * last
+  pub directory-grown : {e img′ img″ : Bytes} → e ≡ emptyDirectorySector → img′ ≡ withSector img (357 + s) e → {k i : ℕ} → img″ ≡ overwrittenIn img′ k i (18 ∷ s ∷ []) → k ≡ 357 + last → i ≡ 0
       → Grown img last s img″
   unfolding grownDisk
-  directory-grown {e} {img′} {img″} empty new {at} linked is =
+  directory-grown {e} {img′} {img″} empty new {k} {i} linked holder start =
       let size = r .size in
       let low = r .lastInside in
       let high = r .sectorInside in
@@ -64,14 +62,13 @@ module _ {img : Bytes} {last s : ℕ} (r : GrowReady img last s) where
       let kept : length img′ ≡ length img = ap length new ∙ length-withSector img (357 + s) e in
       let first : disk img′ ≡ put (disk img) (357 + s) emptyDirectorySector
       = ap disk new ∙ disk-withSector img (357 + s) e (omega arith) full ∙ ap (put (disk img) (357 + s)) empty in
-      let place : at ≡ 256 * (357 + last) + 0 = omega arith in
       let apart : 357 + last ≡ 357 + s → ⊥ = λ z. r .other (omega arith) in
       let old : disk img′ (357 + last) ≡ disk img (357 + last)
       = ap (λ (d : Disk). d (357 + last)) first ∙ put-other (disk img) (357 + s) emptyDirectorySector (357 + last) apart in
       record {
-        size = ap length linked ∙ length-overwritten img′ at (18 ∷ s ∷ []) ∙ kept;
-        laid = ap disk linked ∙ ap (λ (n : ℕ). disk (overwritten img′ n (18 ∷ s ∷ []))) place
-            ∙ disk-overwritten img′ (357 + last) 0 (18 ∷ s ∷ []) (omega arith) (omega arith)
+        size = ap length linked ∙ length-overwrittenIn img′ k i (18 ∷ s ∷ []) ∙ kept;
+        laid = ap disk linked ∙ ap₂ (λ (m j : ℕ). disk (overwrittenIn img′ m j (18 ∷ s ∷ []))) holder start
+            ∙ disk-overwrittenIn img′ (357 + last) 0 (18 ∷ s ∷ []) (omega arith) (omega arith)
             ∙ ap₂ (λ (d : Disk) (b : Bytes). put d (357 + last) (splice b 0 (18 ∷ s ∷ []))) first old
             ∙ ap₂ (λ (n m : ℕ). put (put (disk img) n emptyDirectorySector) m (splice (disk img m) 0 (18 ∷ s ∷ []))) (sym (number-18 s)) (sym (number-18 last));
       }
@@ -91,15 +88,14 @@ module _ {img e : Bytes} {p : EntryPlace} {last : ℕ} (r : EntryReady img e p l
   disk-before (inl g) = ap disk (g .3) ∙ g .2 .laid ∙ ap (λ (b : Bool). cond b (grownDisk (disk img) last (p .sector)) (disk img)) (sym (g .0))
   disk-before (inr g) = ap disk (g .1) ∙ ap (λ (b : Bool). cond b (grownDisk (disk img) last (p .sector)) (disk img)) (sym (g .0))
 
-  pub entry-laid : {img′ img″ : Bytes} → Before img′ → {at : ℕ} → img″ ≡ overwritten img′ at e → at ≡ 91392 + 256 * p .sector + 32 * p .index + 2 → EntryLaid img e p last img″
+  pub entry-laid : {img′ img″ : Bytes} → Before img′ → {k i : ℕ} → img″ ≡ overwrittenIn img′ k i e → k ≡ 357 + p .sector → i ≡ 32 * p .index + 2 → EntryLaid img e p last img″
   unfolding entryDisk overwriteSlot
-  entry-laid {img′} {img″} b {at} w is =
+  entry-laid {img′} {img″} b {k} {i} w holder start =
       let kept : length img′ ≡ length img = length-before b in
-      let place : at ≡ 256 * (357 + p .sector) + (32 * p .index + 2) = omega arith in
       record {
-        size = ap length w ∙ length-overwritten img′ at e ∙ kept;
-        laid = ap disk w ∙ ap (λ (n : ℕ). disk (overwritten img′ n e)) place
-            ∙ disk-overwritten img′ (357 + p .sector) (32 * p .index + 2) e (omega (arith, r .size, r .sectorInside)) (omega (arith, r .whole, r .indexInside))
+        size = ap length w ∙ length-overwrittenIn img′ k i e ∙ kept;
+        laid = ap disk w ∙ ap₂ (λ (m j : ℕ). disk (overwrittenIn img′ m j e)) holder start
+            ∙ disk-overwrittenIn img′ (357 + p .sector) (32 * p .index + 2) e (omega (arith, r .size, r .sectorInside)) (omega (arith, r .whole, r .indexInside))
             ∙ ap₂ (λ (d : Disk) (n : ℕ). put d n (splice (d n) (32 * p .index + 2) e)) (disk-before b) (sym (number-18 (p .sector)));
       }
 

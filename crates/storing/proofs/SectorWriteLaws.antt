@@ -11,16 +11,15 @@ use lib.Seq.{take-all, take-length, drop-drop}
 use Rattle.d64spec.specs.Lists.{Bytes, splice, zeros}
 use Rattle.d64spec.specs.Geometry.{layout35, onDisk, sectorNumber}
 use Rattle.d64spec.specs.Image.{disk}
-use Rattle.d64spec.proofs.SpliceLaws.{length-splice}
 use Rattle.d64spec.proofs.BoundLaws.{sectorNumber-lt}
-use Rattle.d64spec.proofs.InPlaceLaws.{splice-disk}
 use Rattle.d64spec.proofs.RunTheorem.{sectors35}
 use Rattle.geometry.specs.Layout.{unpacked, numberBy, IsFirsts}
+use Rattle.sectors.specs.Sectors.{Inside, withSector}
+use Rattle.sectors.proofs.SectorLaws.{length-withSector, disk-withSector, sector-back}
 use Rattle.mapentry.specs.MapEntry.{Entries}
 use Rattle.bam.specs.Bam.{movedMark}
 use Rattle.parts.proofs.PartLaws.{drop-replicate}
 use Rattle.storing.specs.Writes.{lastSector, StartsAt, SectorReady, SectorWritten}
-use Rattle.parts.proofs.OverwriteLaws.{lent-back}
 
 -- what comes back of a loan of the bytes of t from a on when c is copied over the first of them
 module _ (t c : Bytes) (a : ℕ) (fits : a + length c ≤ length t) where
@@ -79,11 +78,11 @@ module _ {img : Bytes} {place start : ℕ} {firsts : List ℕ} (r : SectorReady 
       → SectorWritten img place s es (take start img ++ (p ++ drop width (drop start img))) es′
   sector-written {s} {p} {es} e size marks used =
       let n : ℕ = sectorNumber layout35 (unpacked place) in
-      let fits : 256 * n + 256 ≤ length img = omega (arith, r .size, at .start, at .inside) in
-      let back : take start img ++ (p ++ drop width (drop start img)) ≡ splice img (256 * n) s
-      = lent-back img start width p (omega (arith, ap length e)) ∙ ap₂ (λ (i : ℕ) (x : Bytes). splice img i x) (at .start) e in
+      let fits : Inside img n = omega (arith, r .size, at .start, at .inside) in
+      let back : take start img ++ (p ++ drop width (drop start img)) ≡ withSector img n s
+      = sector-back img n (at .start) fits e size in
       record {
-        size = ap length back ∙ length-splice img (256 * n) s (omega arith);
-        laid = ap disk back ∙ splice-disk img n s fits size;
+        size = ap length back ∙ length-withSector img n s;
+        laid = ap disk back ∙ disk-withSector img n s fits size;
         marks = marks ∙ ap (λ (b : Bool). movedMark b (unpacked place) es) used;
       }

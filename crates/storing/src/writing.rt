@@ -134,7 +134,7 @@ fn grow_directory(img: &mut [u8], last: u8, sector: u8)
         357 + sector as usize,
         &sectors::empty_directory_sector(),
     );
-    parts::overwrite(img, 91392 + 256 * (last as usize), &[18, sector]);
+    sectors::overwrite_in(img, 357 + last as usize, 0, &[18, sector]);
 }
 
 // Writes the entry at its place, after the directory has grown where it must.
@@ -145,8 +145,12 @@ fn write_entry(img: &mut [u8], entry: &[u8; 30], place: EntryPlace, last: u8)
     if place.grown {
         grow_directory(img, last, place.sector);
     }
-    let start = 91392 + 256 * (place.sector as usize) + 32 * (place.index as usize);
-    parts::overwrite(img, start + 2, entry);
+    sectors::overwrite_in(
+        img,
+        357 + place.sector as usize,
+        32 * (place.index as usize) + 2,
+        entry,
+    );
 }
 
 // Writes a file: its data in the sectors at these places, its entry, and the map, which was loaded from the image.

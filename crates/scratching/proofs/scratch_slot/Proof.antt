@@ -16,49 +16,34 @@ use Rattle.scratching.proofs.scratch_slot.Tie as tie
 small : (c : tie.After-slice-known) → (i : ℕ) → byte (c .before .args .img .now) i < 256
 small c i = omega (arith, c .slice-known .given i)
 
-mul-at : tie.Need-mul-at
-mul-at c = search needs
-
-add-at : tie.Need-add-at
-add-at c = search needs
-
-mul-at-2 : tie.Need-mul-at-2
-mul-at-2 c = search needs
-
-add-at-2 : tie.Need-add-at-2
-add-at-2 c = search needs
-
-add-at-3 : tie.Need-add-at-3
-add-at-3 c = search needs
-
 clear-file-requires : tie.Need-clear-file-requires
-clear-file-requires c κs = entry-owned (c .before .before .pre) (small (c .before)) (omega arith)
+clear-file-requires c κs = entry-owned (c .before .before .pre) (small (c .before))
 
 -- the chain cleared, as the report counts it
 counted : (c : tie.After-clear-file)
     → LengthTold (c .clear-file .result) (length (chainData layout35 (disk (c .before .before .before .args .img .now)) (fileOn (c .before .before .before .args .img .now) (c .before .before .before .args .holder) (c .before .before .before .pre .from) (c .before .before .before .args .index) .sectors)))
-counted c = told (c .before .before .before .pre) (c .clear-file .ensures) (omega arith) (small (c .before .before))
+counted c = told (c .before .before .before .pre) (c .clear-file .ensures) (small (c .before .before))
+
+cast-t8 : tie.Need-cast-t8
+cast-t8 c = omega (arith, counted (c .before .before .before) .few)
+
+sub-t9 : tie.Need-sub-t9
+sub-t9 c = omega (arith, counted (c .before .before .before) .some)
+
+mul-t10 : tie.Need-mul-t10
+mul-t10 c = omega (arith, counted (c .before .before .before) .few)
+
+cast-t11 : tie.Need-cast-t11
+cast-t11 c = search needs
+
+add-t12 : tie.Need-add-t12
+add-t12 c = omega (arith, counted (c .before .before .before .before) .few, counted (c .before .before .before .before) .high)
+
+sub-t13 : tie.Need-sub-t13
+sub-t13 c = omega (arith, counted (c .before .before .before .before) .low)
 
 cast-t14 : tie.Need-cast-t14
-cast-t14 c = omega (arith, counted (c .before .before .before) .few)
-
-sub-t15 : tie.Need-sub-t15
-sub-t15 c = omega (arith, counted (c .before .before .before) .some)
-
-mul-t16 : tie.Need-mul-t16
-mul-t16 c = omega (arith, counted (c .before .before .before) .few)
-
-cast-t17 : tie.Need-cast-t17
-cast-t17 c = search needs
-
-add-t18 : tie.Need-add-t18
-add-t18 c = omega (arith, counted (c .before .before .before .before) .few, counted (c .before .before .before .before) .high)
-
-sub-t19 : tie.Need-sub-t19
-sub-t19 c = omega (arith, counted (c .before .before .before .before) .low)
-
-cast-t20 : tie.Need-cast-t20
-cast-t20 c = omega (arith, counted (c .before .before .before .before .before) .few)
+cast-t14 c = omega (arith, counted (c .before .before .before .before .before) .few)
 
 same-length : tie.Need-same-length
 same-length c = search needs
@@ -66,24 +51,19 @@ same-length c = search needs
 returns : tie.Need-returns
 returns c =
     let k = c .before .before .before .before .before in
-    scratch-replied (k .before .before .before .pre) (k .clear-file .ensures) (omega arith) (small (k .before .before))
+    scratch-replied (k .before .before .before .pre) (k .clear-file .ensures) (small (k .before .before))
 
 pub scratch-slot-spec : {M : Type 1} → statement M
 scratch-slot-spec =
     tie.close
     (tie.spec
-    mul-at
-    add-at
-    mul-at-2
-    add-at-2
-    add-at-3
     clear-file-requires
+    cast-t8
+    sub-t9
+    mul-t10
+    cast-t11
+    add-t12
+    sub-t13
     cast-t14
-    sub-t15
-    mul-t16
-    cast-t17
-    add-t18
-    sub-t19
-    cast-t20
     same-length
     returns)

@@ -17,17 +17,14 @@ slice-aggregate-write-sector c = omega arith
 write-sector-requires : tie.Need-write-sector-requires
 write-sector-requires c κs = search needs
 
-mul-overwrite : tie.Need-mul-overwrite
-mul-overwrite c = omega arith
+add-overwrite-in : tie.Need-add-overwrite-in
+add-overwrite-in c = omega arith
 
-add-overwrite : tie.Need-add-overwrite
-add-overwrite c = omega arith
+slice-aggregate-overwrite-in : tie.Need-slice-aggregate-overwrite-in
+slice-aggregate-overwrite-in c = omega arith
 
-slice-aggregate-overwrite : tie.Need-slice-aggregate-overwrite
-slice-aggregate-overwrite c = omega arith
-
-overwrite-requires : tie.Need-overwrite-requires
-overwrite-requires c κs = search needs
+overwrite-in-requires : tie.Need-overwrite-in-requires
+overwrite-in-requires c κs = search needs
 
 same-length : tie.Need-same-length
 same-length c = omega arith
@@ -35,7 +32,7 @@ same-length c = omega arith
 returns : tie.Need-returns
 returns c =
     let b = c .before .before .before .before .before .before .before .before .before .before .before .before in
-    directory-grown (b .pre) (c .before .before .before .before .before .before .before .before .before .empty-directory-sector .ensures) (c .before .before .before .before .before .before .before .write-sector .ensures) (c .before .before .overwrite .ensures) (omega arith)
+    directory-grown (b .pre) (c .before .before .before .before .before .before .before .before .before .empty-directory-sector .ensures) (c .before .before .before .before .before .before .before .write-sector .ensures) (c .before .before .overwrite-in .ensures) (omega arith) (omega arith)
 
 pub grow-directory-spec : {M : Type 1} → statement M
 grow-directory-spec =
@@ -45,9 +42,8 @@ grow-directory-spec =
     empty-directory-sector-requires
     slice-aggregate-write-sector
     write-sector-requires
-    mul-overwrite
-    add-overwrite
-    slice-aggregate-overwrite
-    overwrite-requires
+    add-overwrite-in
+    slice-aggregate-overwrite-in
+    overwrite-in-requires
     same-length
     returns)
