@@ -33,7 +33,7 @@ slotNamed b ss name k (suc n) = cond (holdsFile b ss name k) k (slotNamed b ss n
 -- x and y are the bytes of a name that fits, filled up: eight each, as one number
 pub record NameWords (name : Bytes) (x y : ℕ) : Type 0 where
   pub fits : length name ≤ 16
-  pub small : (i : ℕ) → byte (padded name) i < 256
+  pub small : (i : ℕ) → byte name i < 256
   pub first : x ≡ eightOf (padded name) 0
   pub second : y ≡ eightOf (padded name) 8
 

@@ -3,8 +3,8 @@
 -- A field is given as any list f that is a slot's bytes 05 to 14. Laws of the bytes alone: PaddingLaws. Assumes nothing.
 use mathlib.Core.Path.{_≡_, refl, sym, ap, ap₂, _∙_}
 use mathlib.Core.Bool.{Bool, true, false, _&&_, not, and-false}
-use mathlib.Core.List.{_++_, append-nil}
-use Prim.Native.Nat.{ℕ, _+_, _-_, _≤_, _<_}
+use mathlib.Core.List.{[], _∷_, _++_, append-nil}
+use Prim.Native.Nat.{ℕ, zero, suc, _+_, _-_, _≤_, _<_}
 use native.Mathlib.Omega.{arith}
 use native.Mathlib.Decide.{decLe}
 use lib.ListN.{length, getD, take, drop, replicate, length-append, length-take, length-drop, length-replicate, take-append-drop}
@@ -56,7 +56,7 @@ module _ (s : Bytes) (whole : 19 ≤ length s) where
 
 -- ---- a field against a name filled up
 
-length-padded : (m : Bytes) → length (padded m) ≡ length m + (16 - length m)
+pub length-padded : (m : Bytes) → length (padded m) ≡ length m + (16 - length m)
 unfolding padded
 length-padded m = length-append m (replicate (16 - length m) 0xA0) ∙ ap (λ (n : ℕ). length m + n) (length-replicate {A = ℕ} (16 - length m) 0xA0)
 
@@ -87,6 +87,18 @@ equal-padded-misfit b m misfit =
 -- its 16 bytes, of a name that fits
 pub padded-whole : (m : Bytes) → length m ≤ 16 → take 16 (padded m) ≡ padded m
 padded-whole m short = take-all 16 (padded m) (omega (arith, length-padded m))
+
+-- its bytes are bytes, where the name's are
+pub byte-padded-lt : (m : Bytes) → ((i : ℕ) → byte m i < 256) → (i : ℕ) → byte (padded m) i < 256
+unfolding padded
+byte-padded-lt m = go m (16 - length m)
+  where
+    go : (l : Bytes) (n : ℕ) → ((i : ℕ) → byte l i < 256) → (i : ℕ) → byte (l ++ replicate n 0xA0) i < 256
+    go [] zero small i = omega arith
+    go [] (suc n) small zero = omega arith
+    go [] (suc n) small (suc i) = go [] n small i
+    go (c ∷ l) n small zero = small 0
+    go (c ∷ l) n small (suc i) = go l n (λ j. small (suc j)) i
 
 -- the first 16 bytes are the name's, and then padding
 padded-front : (m : Bytes) → take 16 (padded m) ≡ take 16 m ++ replicate (16 - length m) 0xA0
