@@ -26,7 +26,8 @@ pub record Thirty (s : Bytes) : Type 0 where
   pub small : (i : ℕ) → byte s i < 256
 
 -- name fields are equal exactly where both words are
-equal-words : (s t : Bytes) → Thirty s → Thirty t → (eqb (eightOf s 3) (eightOf t 3) && eqb (eightOf s 11) (eightOf t 11)) ≡ equal (nameField s) (nameField t)
+equal-words : (s t : Bytes) → Thirty s → Thirty t
+    → (eqb (eightOf s 3) (eightOf t 3) && eqb (eightOf s 11) (eightOf t 11)) ≡ equal (nameField s) (nameField t)
 equal-words s t of-s of-t = equal-sixteen s t (of-s .small) (of-t .small) 3 3 (omega (arith, of-s .long)) (omega (arith, of-t .long))
 
 pub hash-lt : (x y : ℕ) → hashOf x y < 4096

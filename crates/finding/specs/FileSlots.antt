@@ -31,15 +31,15 @@ slotNamed b ss name k zero = k
 slotNamed b ss name k (suc n) = cond (holdsFile b ss name k) k (slotNamed b ss name (suc k) n)
 
 -- x and y are the bytes of a name that fits, filled up: eight each, as one number
-pub record NameWords (name : Bytes) (x y : ℕ) : Type 0 where
+pub record IsWords (name : Bytes) (x y : ℕ) : Type 0 where
   pub fits : length name ≤ 16
   pub small : (i : ℕ) → byte name i < 256
   pub first : x ≡ eightOf (padded name) 0
   pub second : y ≡ eightOf (padded name) 8
 
--- r says whether a slot with the bytes p is occupied and holds the name whose words are x and y
+-- r says whether a slot with these bytes holds the name whose words are x and y
 pub record WordsCompared (p : Bytes) (x y : ℕ) (r : Bool) : Type 0 where
-  pub answer : (name : Bytes) → NameWords name x y → r ≡ holdsName p name
+  pub answer : (name : Bytes) → IsWords name x y → r ≡ holdsName p name
 
 -- the slot of the occupied one at this position among the n from k on, or k + n where there are not so many (01, Tell)
 abbrev pub slotPlaced : Bytes → List ℕ → ℕ → ℕ → ℕ → ℕ

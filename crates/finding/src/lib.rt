@@ -3,7 +3,7 @@
 ghost use mathlib.Core.Path.{_≡_};
 ghost use Rattle.finding.specs.FileSlots.{slotNamed, slotPlaced, slotEmpty, WordsCompared};
 
-// Whether an occupied slot has the name that, filled up to 16 bytes, is these two numbers.
+// Whether a slot is occupied and has the name that, filled up to 16 bytes, is these two numbers: eight bytes each.
 fn has_words(slot: &[u8], x: u64, y: u64) -> bool
     ensures { λ r. ⌜ WordsCompared (now (slot .entry)) x y r ⌝ }
 {

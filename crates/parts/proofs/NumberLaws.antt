@@ -1,8 +1,8 @@
 -- Four bytes and eight bytes as one number (`fourOf`, `eightOf`): their digits to the base 256.
--- In order: one digit; a fact of four places; equal numbers are equal bytes, of four, of eight, of sixteen by two numbers. Assumes nothing.
+-- In order: one digit; a fact of four places; equal numbers are equal bytes: four, and sixteen by two numbers of eight. Assumes nothing.
 use mathlib.Core.Path.{_≡_, sym, ap, _∙_}
 use mathlib.Core.Bool.{Bool, _&&_, and-true}
-use mathlib.Core.List.{[], _∷_}
+use mathlib.Core.List.{List, [], _∷_}
 use Prim.Native.Nat.{ℕ, zero, suc, _+_, _*_, _-_, _≤_, _<_}
 use native.Mathlib.Omega.{arith}
 use native.Mathlib.Decide.{decLe}
@@ -39,7 +39,8 @@ pub bytes-of-four : (s : Bytes) (f : ℕ → ℕ) → ((i : ℕ) → byte s i < 
     → fourOf s a ≡ f 0 + 256 * f 1 + 65536 * f 2 + 16777216 * f 3 → (k : ℕ) → k < 4 → byte s (a + k) ≡ f k
 unfolding fourOf
 bytes-of-four s f small digits a e k h =
-    let first = digit-eq (byte s a) (byte s (a + 1) + 256 * (byte s (a + 2) + 256 * byte s (a + 3))) (f 0) (f 1 + 256 * (f 2 + 256 * f 3)) (small a) (digits 0) (omega arith) in
+    let rest = byte s (a + 1) + 256 * (byte s (a + 2) + 256 * byte s (a + 3)) in
+    let first = digit-eq (byte s a) rest (f 0) (f 1 + 256 * (f 2 + 256 * f 3)) (small a) (digits 0) (omega arith) in
     let second = digit-eq (byte s (a + 1)) (byte s (a + 2) + 256 * byte s (a + 3)) (f 1) (f 2 + 256 * f 3) (small (a + 1)) (digits 1) (first .1) in
     let third = digit-eq (byte s (a + 2)) (byte s (a + 3)) (f 2) (f 3) (small (a + 2)) (digits 2) (second .1) in
     let z : a + 0 ≡ a = omega arith in
@@ -49,7 +50,17 @@ four-lt : (s : Bytes) → ((i : ℕ) → byte s i < 256) → (a : ℕ) → fourO
 unfolding fourOf
 four-lt s small a = omega (arith, small a, small (a + 1), small (a + 2), small (a + 3))
 
--- ---- two lists: eight bytes, and sixteen, by their numbers
+-- ---- sixteen bytes by two numbers
+
+-- the sixteen bytes from a on, and the two numbers of eight
+abbrev sixteen : Bytes → ℕ → Bytes
+sixteen s a = take 16 (drop a s)
+
+abbrev two : Bytes → ℕ → List ℕ
+two s a = eightOf s a ∷ eightOf s (a + 8) ∷ []
+
+byte-sixteen : (s : Bytes) (a k : ℕ) → k < 16 → byte (sixteen s a) k ≡ byte s (a + k)
+byte-sixteen s a k h = getD-take 16 (drop a s) k 0 h ∙ getD-drop a s k 0
 
 module _ (s t : Bytes) where
   -- the n bytes of s from a on are those of t from b on
@@ -105,21 +116,19 @@ module _ (s t : Bytes) where
         → (eqb (eightOf s a) (eightOf t b) && eqb (eightOf s (a + 8)) (eightOf t (b + 8))) ≡ equal (take 16 (drop a s)) (take 16 (drop b t))
     equal-sixteen a b whole-s whole-t =
         ap (λ (x : Bool). eqb (eightOf s a) (eightOf t b) && x) (sym (and-true (eqb (eightOf s (a + 8)) (eightOf t (b + 8)))))
-        ∙ equal-iff (eightOf s a ∷ eightOf s (a + 8) ∷ []) (eightOf t b ∷ eightOf t (b + 8) ∷ []) (take 16 (drop a s)) (take 16 (drop b t)) there back
+        ∙ equal-iff (two s a) (two t b) (sixteen s a) (sixteen t b) there back
       where
-        part-byte : (l : Bytes) (c k : ℕ) → k < 16 → byte (take 16 (drop c l)) k ≡ byte l (c + k)
-        part-byte l c k h = getD-take 16 (drop c l) k 0 h ∙ getD-drop c l k 0
-
-        there : _≡_ {A = Bytes} (eightOf s a ∷ eightOf s (a + 8) ∷ []) (eightOf t b ∷ eightOf t (b + 8) ∷ []) → take 16 (drop a s) ≡ take 16 (drop b t)
+        there : two s a ≡ two t b → sixteen s a ≡ sixteen t b
         there same =
             let alike = alike-join a b 8 8 (alike-of-eight a b (cc)) (alike-of-eight (a + 8) (b + 8) (cc)) in
-            let long-s : length (take 16 (drop a s)) ≡ 16 = simp (length-take, length-drop) (omega arith) in
-            let long-t : length (take 16 (drop b t)) ≡ 16 = simp (length-take, length-drop) (omega arith) in
-            ext-getD 0 (take 16 (drop a s)) (take 16 (drop b t)) (omega arith) (λ k h. part-byte s a k (omega arith) ∙ alike k (omega arith) ∙ sym (part-byte t b k (omega arith)))
+            let long-s : length (sixteen s a) ≡ 16 = simp (length-take, length-drop) (omega arith) in
+            let long-t : length (sixteen t b) ≡ 16 = simp (length-take, length-drop) (omega arith) in
+            ext-getD 0 (sixteen s a) (sixteen t b) (omega arith)
+            (λ k h. byte-sixteen s a k (omega arith) ∙ alike k (omega arith) ∙ sym (byte-sixteen t b k (omega arith)))
 
-        back : take 16 (drop a s) ≡ take 16 (drop b t) → _≡_ {A = Bytes} (eightOf s a ∷ eightOf s (a + 8) ∷ []) (eightOf t b ∷ eightOf t (b + 8) ∷ [])
+        back : sixteen s a ≡ sixteen t b → two s a ≡ two t b
         back same =
-            let alike : Alike a b 16 = λ k h. sym (part-byte s a k h) ∙ ap (λ (l : Bytes). byte l k) same ∙ part-byte t b k h in
+            let alike : Alike a b 16 = λ k h. sym (byte-sixteen s a k h) ∙ ap (λ (l : Bytes). byte l k) same ∙ byte-sixteen t b k h in
             let low = eight-alike a b (λ k h. alike k (omega arith)) in
             let high = eight-alike (a + 8) (b + 8) (alike-rest a b 8 8 alike) in
             cc

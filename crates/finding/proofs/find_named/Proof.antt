@@ -1,11 +1,10 @@
 -- `finding::find_named` meets its contract: a name of more than 16 bytes is in no slot; else the loop keeps that the slots before k do not hold the name.
 -- The slots that are left fall.
-use Prim.Native.Nat.{ℕ, _-_, _<_}
+use Prim.Native.Nat.{_-_}
 use native.Mathlib.Omega.{arith}
-use mathlib.Core.Path.{refl, sym, _∙_}
+use mathlib.Core.Path.{_≡_, refl, sym, _∙_}
 use borrow.Author.Needs.{needs}
-use Rattle.d64spec.specs.Lists.{byte}
-use Rattle.finding.specs.FileSlots.{slotNamed, NameWords}
+use Rattle.finding.specs.FileSlots.{holdsName, slotNamed, IsWords}
 use Rattle.finding.proofs.WordLaws.{name-words}
 use Rattle.finding.proofs.FindLaws.{Searching, searching-start, searching-next, searching-end, named-long, named-other, named-here}
 use Rattle.finding.proofs.find_named.Statement.{statement}
@@ -13,10 +12,16 @@ use Rattle.finding.proofs.find_named.Tie as tie
 
 -- the slots before k do not hold the name, whose words are x and y
 abbrev Inv-loop : tie.InvT-loop
-Inv-loop b ss name end x y k₀ k = Searching end k (slotNamed b ss name k (end - k)) (slotNamed b ss name 0 end) × NameWords name x y
+Inv-loop b ss name end x y k₀ k = Searching end k (slotNamed b ss name k (end - k)) (slotNamed b ss name 0 end) × IsWords name x y
 
 abbrev μ-loop : tie.MeasureT-loop
 μ-loop b ss name end x y k₀ k = end - k
+
+-- what the slot at hand was asked
+asked : (c : tie.After-has-words Inv-loop μ-loop) →
+    let l = c .before .before .before in
+    c .has-words .result ≡ holdsName (c .before .slot-at .result .now) (l .before .before .before .before .before .before .before .before .before .args .name .now)
+asked c = c .has-words .ensures .answer _ (c .before .before .before .loop .inv .1)
 
 returns : tie.Need-returns Inv-loop μ-loop
 returns c =
@@ -56,7 +61,7 @@ returns-2 : tie.Need-returns-2 Inv-loop μ-loop
 returns-2 c =
     let l = c .before .before .before .before in
     let a = l .before .before .before .before .before .before .before .before .before .args in
-    sym (named-here (a .track18 .now) (a .sectors .now) (omega arith) (c .before .before .slot-at .ensures) (a .name .now) (c .before .has-words .ensures .answer (a .name .now) (l .loop .inv .1)) (c .if2 .taken))
+    sym (named-here (a .track18 .now) (a .sectors .now) (omega arith) (c .before .before .slot-at .ensures) (a .name .now) (asked (c .before)) (c .if2 .taken))
     ∙ l .loop .inv .0 .same
 
 add-k : tie.Need-add-k Inv-loop μ-loop
@@ -70,7 +75,7 @@ loop-again c =
     let l = c .before .before .before .before in
     let a = l .before .before .before .before .before .before .before .before .before .args in (
       searching-next (l .loop .inv .0) (omega arith)
-          (named-other (a .track18 .now) (a .sectors .now) (omega arith) (c .before .before .slot-at .ensures) (a .name .now) (c .before .has-words .ensures .answer (a .name .now) (l .loop .inv .1)) (c .if2 .left)),
+          (named-other (a .track18 .now) (a .sectors .now) (omega arith) (c .before .before .slot-at .ensures) (a .name .now) (asked (c .before)) (c .if2 .left)),
       l .loop .inv .1,
     )
 

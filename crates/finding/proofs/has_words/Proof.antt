@@ -1,9 +1,11 @@
 -- `finding::has_words` meets its contract: a slot that is cut off or empty has no name; else its two words decide. Assumes nothing.
 use Prim.Native.Nat.{ℕ, _<_}
 use native.Mathlib.Omega.{arith}
-use mathlib.Core.Path.{refl, sym, _∙_}
+use mathlib.Core.Path.{_≡_, refl, sym, _∙_}
+use mathlib.Core.Bool.{false}
 use borrow.Author.Needs.{needs}
 use Rattle.d64spec.specs.Lists.{byte}
+use Rattle.d64spec.specs.Directory.{isEmpty}
 use Rattle.finding.proofs.WordLaws.{compared-short, compared-empty, compared-first, compared-second}
 use Rattle.finding.proofs.has_words.Statement.{statement}
 use Rattle.finding.proofs.has_words.Tie as tie
@@ -11,6 +13,10 @@ use Rattle.finding.proofs.has_words.Tie as tie
 -- the slot's bytes are bytes
 small : (c : tie.After-shared-slice-known) → (i : ℕ) → byte (c .before .args .slot .now) i < 256
 small c i = omega (arith, c .shared-slice-known .given i)
+
+-- it is occupied
+occupied : (c : tie.Else2) → isEmpty (c .before .before .before .before .args .slot .now) ≡ false
+occupied c = sym (c .before .is-empty .ensures) ∙ c .if2 .left
 
 returns : tie.Need-returns
 returns c = compared-short (c .before .before .args .slot .now) (omega arith)
@@ -27,7 +33,7 @@ eight-at-requires c κs = search needs
 returns-3 : tie.Need-returns-3
 returns-3 c =
     let k = c .before .before .before .before .before in
-    compared-first (k .before .args .slot .now) (omega arith) (small k) (sym (c .before .before .before .is-empty .ensures) ∙ c .before .before .if2 .left) (c .before .eight-at .ensures) refl (λ e. omega arith)
+    compared-first (k .before .args .slot .now) (omega arith) (small k) (occupied (c .before .before)) (c .before .eight-at .ensures) refl (λ e. omega arith)
 
 eight-at-requires-2 : tie.Need-eight-at-requires-2
 eight-at-requires-2 c κs = search needs
@@ -35,7 +41,7 @@ eight-at-requires-2 c κs = search needs
 returns-4 : tie.Need-returns-4
 returns-4 c =
     let k = c .before .before .before .before .before .before in
-    compared-second (k .before .args .slot .now) (omega arith) (small k) (sym (c .before .before .before .before .is-empty .ensures) ∙ c .before .before .before .if2 .left)
+    compared-second (k .before .args .slot .now) (omega arith) (small k) (occupied (c .before .before .before))
     (c .before .before .eight-at .ensures) (c .eight-at2 .ensures) refl refl (omega arith) refl
 
 pub has-words-spec : {M : Type 1} → statement M
