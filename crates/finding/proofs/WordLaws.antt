@@ -3,12 +3,12 @@
 use Prim.Native.Nat.{ℕ, _≤_, _<_}
 use native.Mathlib.Omega.{arith}
 use mathlib.Core.Path.{_≡_, sym, ap, _∙_}
-use mathlib.Core.Bool.{Bool, true, false, not, _&&_, and-false}
+use mathlib.Core.Bool.{Bool, false, _&&_, and-false}
 use lib.ListN.{length, take, drop, length-take, length-drop}
 use lib.Dec.{eqb}
 use borrow.Author.Tests.{eq-eqb, ne-eqb}
 use Rattle.d64spec.specs.Lists.{Bytes, byte, equal}
-use Rattle.d64spec.specs.Directory.{isEmpty, nameField, padded}
+use Rattle.d64spec.specs.Directory.{nameField, padded}
 use Rattle.parts.specs.Numbers.{eightOf, IsEight}
 use Rattle.parts.proofs.NumberLaws.{equal-sixteen}
 use Rattle.names.proofs.NameLaws.{length-padded, equal-padded-misfit, padded-whole, byte-padded-lt}
@@ -36,15 +36,15 @@ module _ (p : Bytes) {x y : ℕ} where
       misfit name = equal-padded-misfit p name (λ e h. omega (arith, length-take 16 (drop 3 p), length-drop 3 p))
 
   -- an empty one has no name
-  pub compared-empty : isEmpty p ≡ true → WordsCompared p x y false
-  compared-empty e = record { answer = λ name w. sym (rw e) }
+  pub compared-empty : byte p 0 ≡ 0 → WordsCompared p x y false
+  compared-empty none = record { answer = λ name w. sym (rw (eq-eqb (byte p 0) 0 none)) }
 
-  module _ (whole : 19 ≤ length p) (small : (i : ℕ) → byte p i < 256) (occupied : isEmpty p ≡ false) where
+  module _ (whole : 19 ≤ length p) (small : (i : ℕ) → byte p i < 256) (occupied : byte p 0 ≡ 0 → ⊥) where
     holds-words : (name : Bytes) → IsWords name x y → holdsName p name ≡ (eqb (eightOf p 3) x && eqb (eightOf p 11) y)
     holds-words name w =
         let long : length (padded name) ≡ 16 = length-padded name ∙ omega (arith, w .fits) in
         let same = equal-sixteen p (padded name) small (byte-padded-lt name (w .small)) 3 0 (omega arith) (omega arith) in
-        rw (occupied, w .first, w .second) (sym (same ∙ ap (equal (nameField p)) (padded-whole name (w .fits))))
+        rw (ne-eqb (byte p 0) 0 occupied, w .first, w .second) (sym (same ∙ ap (equal (nameField p)) (padded-whole name (w .fits))))
 
     -- the first word is another one
     pub compared-first : {i u : ℕ} → IsEight p i u → i ≡ 3 → (u ≡ x → ⊥) → WordsCompared p x y false

@@ -1,5 +1,6 @@
 // The slot of a file, by its name or by its position among the occupied slots, and the first empty slot.
 // `end` is a number of slots and `sectors` are the directory's on track 18: any bytes, any sectors and any numbers are taken.
+// A slot is lent as its bytes 02 to 1F, so byte i of document 01 is at i - 2: its type is at 0, its name from 3 on.
 ghost use mathlib.Core.Path.{_≡_};
 ghost use Rattle.finding.specs.FileSlots.{slotNamed, slotPlaced, slotEmpty, WordsCompared};
 
@@ -10,7 +11,7 @@ fn has_words(slot: &[u8], x: u64, y: u64) -> bool
     if slot.len() < 19 {
         return false;
     }
-    if entry::is_empty(slot) {
+    if slot[0] == 0 {
         return false;
     }
     if parts::eight_at(slot, 3) != x {
