@@ -1,5 +1,5 @@
 -- The slot of a file by its name or its position, the first empty slot, and the slots of a checked image (01, Read; Tell; Store; Scratch).
--- `b` are track 18's bytes and `ss` the directory's sectors on it. Laws: proofs/FindLaws, CheckedSlotLaws, EmptyLaws.
+-- `b` are track 18's bytes and `ss` the directory's sectors on it. Laws: proofs/WordLaws, FindLaws, CheckedSlotLaws, EmptyLaws.
 use Prim.Native.Nat.{ℕ, zero, suc, _≤_, _<_}
 use mathlib.Core.Path.{_≡_}
 use mathlib.Core.Bool.{Bool, cond, not, _&&_}

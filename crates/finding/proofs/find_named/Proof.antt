@@ -19,8 +19,8 @@ abbrev μ-loop : tie.MeasureT-loop
 
 -- what the slot at hand was asked
 asked : (c : tie.After-has-words Inv-loop μ-loop) →
-    let l = c .before .before .before in
-    c .has-words .result ≡ holdsName (c .before .slot-at .result .now) (l .before .before .before .before .before .before .before .before .before .args .name .now)
+    let a = c .before .before .before .before .before .before .before .before .before .before .before .before .args in
+    c .has-words .result ≡ holdsName (c .before .slot-at .result .now) (a .name .now)
 asked c = c .has-words .ensures .answer _ (c .before .before .before .loop .inv .1)
 
 returns : tie.Need-returns Inv-loop μ-loop
@@ -75,7 +75,8 @@ loop-again c =
     let l = c .before .before .before .before in
     let a = l .before .before .before .before .before .before .before .before .before .args in (
       searching-next (l .loop .inv .0) (omega arith)
-          (named-other (a .track18 .now) (a .sectors .now) (omega arith) (c .before .before .slot-at .ensures) (a .name .now) (asked (c .before)) (c .if2 .left)),
+          (named-other (a .track18 .now) (a .sectors .now) (omega arith) (c .before .before .slot-at .ensures) (a .name .now) (asked (c .before))
+          (c .if2 .left)),
       l .loop .inv .1,
     )
 
