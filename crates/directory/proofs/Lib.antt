@@ -4,7 +4,6 @@ pub mod SlotBytesLaws
 pub mod SlotListLaws
 pub mod RepeatLaws
 pub mod EntryLaws
-pub mod WordLaws
 pub mod PairLaws
 pub mod SearchLaws
 pub mod ReadLaws

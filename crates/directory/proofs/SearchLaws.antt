@@ -1,5 +1,5 @@
 -- The search for the first repeated name field, in one pass over the slots (src/repeats.rt): its invariant and what each turn keeps.
--- In order: the hash's bound; sectors of track 18; what the loop keeps; at the start; at slot k; at the end. Assumes nothing.
+-- In order: a slot's bytes, and its words; the hash's bound; sectors of track 18; what the loop keeps; at the start; at slot k; at the end. Assumes nothing.
 use mathlib.Core.Path.{_≡_, refl, sym, ap, ap₂, _∙_}
 use mathlib.Core.Bool.{Bool, true, false, _&&_, _||_, or-true, or-false}
 use mathlib.Core.List.{List, [], _∷_}
@@ -7,17 +7,28 @@ use Prim.Native.Nat.{ℕ, zero, suc, _+_, _-_, _≤_, _<_}
 use native.Mathlib.Omega.{arith}
 use native.Mathlib.Numerals.{add-one}
 use native.Mathlib.Decide.{ℕ-discrete}
-use lib.ListN.{length, getD, set, length-set, length-replicate}
+use lib.ListN.{length, getD, set, length-set}
 use lib.Seq.{getD-set-same, getD-set-other}
 use lib.Dec.{eqb, ltb}
 use borrow.Author.Tests.{eq-eqb, ne-eqb, eqb-true, lt-ltb}
-use Rattle.d64spec.specs.Lists.{Bytes, All, indicator, equal, nameCount, zeros}
+use Rattle.d64spec.specs.Lists.{Bytes, All, indicator, byte, equal, nameCount}
 use Rattle.d64spec.specs.Directory.{isEmpty, nameField}
 use Rattle.d64spec.proofs.MapLaws.{and-true}
+use Rattle.parts.specs.Numbers.{eightOf, IsEight}
+use Rattle.parts.proofs.NumberLaws.{equal-sixteen}
 use Rattle.directory.specs.Directories.{slotBytes, fieldsBelow, repeats, firstRepeated}
-use Rattle.directory.specs.NameWords.{wordOf, hashOf, holdsPair}
-use Rattle.directory.proofs.WordLaws.{Thirty, equal-words}
+use Rattle.directory.specs.NameWords.{hashOf, holdsPair}
 use Rattle.directory.proofs.PairLaws.{holds-add}
+
+-- thirty bytes: what a slot has
+pub record Thirty (s : Bytes) : Type 0 where
+  pub long : length s ≡ 30
+  pub small : (i : ℕ) → byte s i < 256
+
+-- name fields are equal exactly where both words are
+equal-words : (s t : Bytes) → Thirty s → Thirty t
+    → (eqb (eightOf s 3) (eightOf t 3) && eqb (eightOf s 11) (eightOf t 11)) ≡ equal (nameField s) (nameField t)
+equal-words s t of-s of-t = equal-sixteen s t (of-s .small) (of-t .small) 3 3 (omega (arith, of-s .long)) (omega (arith, of-t .long))
 
 pub hash-lt : (x y : ℕ) → hashOf x y < 4096
 unfolding hashOf
@@ -38,7 +49,7 @@ pub record Searching (b : Bytes) (ss : List ℕ) (end size room : ℕ) (seen xs 
   pub fits : end ≤ room
   pub firsts : length xs ≡ room
   pub seconds : length ys ≡ room
-  pub held : (s : Bytes) → Thirty s → holdsPair xs ys n (wordOf s 3) (wordOf s 11) ≡ ltb 0 (nameCount (nameField s) (fieldsBelow b ss k))
+  pub held : (s : Bytes) → Thirty s → holdsPair xs ys n (eightOf s 3) (eightOf s 11) ≡ ltb 0 (nameCount (nameField s) (fieldsBelow b ss k))
   pub noted : (x y : ℕ) → holdsPair xs ys n x y ≡ true → hashOf x y < size → 1 ≤ getD seen (hashOf x y) 0
   pub first : firstRepeated b ss k (end - k) ≡ firstRepeated b ss 0 end
 
@@ -100,7 +111,13 @@ module _ {b : Bytes} {ss : List ℕ} {end size room : ℕ} {seen xs ys : List �
       }
 
   -- an occupied slot, whose name field has the words x and y
-  module _ (some : getD s 0 0 ≡ 0 → ⊥) (x y : ℕ) (low : x ≡ wordOf s 3) (high : y ≡ wordOf s 11) where
+  module _ (some : getD s 0 0 ≡ 0 → ⊥) (x y : ℕ) (is-first : IsEight s 3 x) (is-second : IsEight s 11 y) where
+    low : x ≡ eightOf s 3
+    low = is-first .value (omega (arith, thirty .long))
+
+    high : y ≡ eightOf s 11
+    high = is-second .value (omega (arith, thirty .long))
+
     occupied : isEmpty (slotBytes b ss k) ≡ false
     occupied = rw here at (ne-eqb (getD s 0 0) 0 some)
 
@@ -127,7 +144,7 @@ module _ {b : Bytes} {ss : List ℕ} {end size room : ℕ} {seen xs ys : List �
           firsts = length-set xs n x ∙ inv .firsts;
           seconds = length-set ys n y ∙ inv .seconds;
           held = λ t other.
-              holds-add xs ys n x y (wordOf t 3) (wordOf t 11) room-x room-y
+              holds-add xs ys n x y (eightOf t 3) (eightOf t 11) room-x room-y
               ∙ ap₂ _||_ (inv .held t other) (rw (low, high) (equal-words t s other thirty))
               ∙ one-more (equal (nameField t) (nameField s)) (nameCount (nameField t) (fieldsBelow b ss k))
               ∙ rw (add-one, occupied) (ap (λ (u : Bytes). ltb 0 (indicator (equal (nameField t) (nameField u)) + nameCount (nameField t) (fieldsBelow b ss k))) here);

@@ -1,17 +1,11 @@
 -- A name field as two numbers of 64 bits, and a hash of them: how equal names are found without comparing each with each.
 -- Nothing of document 01 is said here; that the code finds document 01's repeated names is `firstRepeated` (specs/Directories).
--- Laws: proofs/WordLaws (equal words are equal bytes), PairLaws, SearchLaws.
+-- A word is eight bytes as one number (parts, `eightOf`). Laws: proofs/PairLaws, SearchLaws.
 use Prim.Native.Nat.{ℕ, zero, suc, _+_, _*_, _/_, _%_}
 use mathlib.Core.Bool.{Bool, false, _&&_, _||_}
 use mathlib.Core.List.{List}
 use lib.ListN.{getD}
 use lib.Dec.{eqb}
-use Rattle.d64spec.specs.Lists.{Bytes}
-use Rattle.parts.specs.Numbers.{fourOf}
-
--- the number of the eight bytes from a on, low byte first
-unfoldable pub wordOf : Bytes → ℕ → ℕ
-wordOf b a = fourOf b a + 4294967296 * fourOf b (a + 4)
 
 -- a hash of two words, below 4096
 unfoldable pub hashOf : ℕ → ℕ → ℕ

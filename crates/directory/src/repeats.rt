@@ -2,19 +2,11 @@
 // A name field is held as two 64-bit numbers. Where there are more slots than one sector has, a table of hashes is asked before names are compared:
 // equal names have equal hashes, so that where the hash is new the name is new.
 ghost use mathlib.Core.Path.{_≡_};
-ghost use Prim.Native.Nat.{_≤_, _+_, _<_};
+ghost use Prim.Native.Nat.{_≤_, _<_};
 ghost use lib.ListN.{length};
 ghost use Rattle.d64spec.specs.Lists.{All};
 ghost use Rattle.directory.specs.Directories.{firstRepeated};
-ghost use Rattle.directory.specs.NameWords.{wordOf, hashOf, holdsPair};
-
-// The number of eight bytes, low byte first; by halves, each of which compiles to one load.
-fn word(bytes: &[u8], at: usize) -> u64
-    requires { ⌜ at + 8 ≤ length (now bytes) ⌝ }
-    ensures { λ r. ⌜ r ≡ wordOf (now (bytes .entry)) at ⌝ }
-{
-    parts::four_at(bytes, at) + 4294967296 * parts::four_at(bytes, at + 4)
-}
+ghost use Rattle.directory.specs.NameWords.{hashOf, holdsPair};
 
 // A hash of a name's two words: one product, by an odd number near 2^28 over the golden ratio.
 fn hash(x: u64, y: u64) -> usize
@@ -54,8 +46,8 @@ fn first_of_eight(track18: &[u8], sectors: &[u8; 18], end: usize) -> usize
     while k < end {
         let slot = crate::slot_at(track18, sectors, k);
         if slot[0] != 0 {
-            let x = word(slot, 3);
-            let y = word(slot, 11);
+            let x = parts::eight_at(slot, 3);
+            let y = parts::eight_at(slot, 11);
             if among(&xs, &ys, n, x, y) {
                 return k;
             }
@@ -81,8 +73,8 @@ fn first_of_many(track18: &[u8], sectors: &[u8; 18], end: usize) -> usize
     while k < end {
         let slot = crate::slot_at(track18, sectors, k);
         if slot[0] != 0 {
-            let x = word(slot, 3);
-            let y = word(slot, 11);
+            let x = parts::eight_at(slot, 3);
+            let y = parts::eight_at(slot, 11);
             let h = hash(x, y);
             if seen[h] != 0 {
                 if among(&xs, &ys, n, x, y) {

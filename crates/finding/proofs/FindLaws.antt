@@ -6,7 +6,7 @@ use native.Mathlib.Numerals.{add-one}
 use mathlib.Core.Path.{_≡_, refl, sym, ap, _∙_}
 use mathlib.Core.Bool.{Bool, true, false, cond, not, _&&_, and-false}
 use mathlib.Core.List.{List, _∷_, map}
-use lib.ListN.{drop}
+use lib.ListN.{length, drop}
 use lib.Dec.{eqb}
 use borrow.Author.Tests.{eq-eqb, ne-eqb}
 use Rattle.d64spec.specs.Lists.{Bytes, All, equal}
@@ -16,10 +16,10 @@ use Rattle.d64spec.specs.Image.{disk}
 use Rattle.d64spec.specs.Directory.{Slot, File, isEmpty, nameField, padded, validName, fileOf}
 use Rattle.d64spec.specs.Listing.{bytesOfTrack18}
 use Rattle.d64spec.specs.Reply.{validNameArgument, filesNamed}
-use Rattle.names.proofs.NameLaws.{equal-nameField-padded}
+use Rattle.names.proofs.NameLaws.{equal-padded-misfit, equal-nameField-padded}
 use Rattle.directory.specs.Directories.{slotBytes, occupiedFrom, IsSlot}
 use Rattle.diskcheck.specs.SlotChecks.{imageSlot, imageOccupied}
-use Rattle.finding.specs.FileSlots.{holdsFile, slotNamed, slotPlaced, slotEmpty}
+use Rattle.finding.specs.FileSlots.{holdsName, holdsFile, slotNamed, slotPlaced, slotEmpty}
 
 -- ---- the loops
 
@@ -42,31 +42,22 @@ module _ (b ss : List ℕ) {end k : ℕ} (more : k < end) where
   left-over : end - k ≡ suc (end - (k + 1))
   left-over = omega arith
 
-  -- t is the test whether the slot at hand is empty
+  -- r is the test whether the slot at hand holds the name
+  module _ {p : Bytes} (slot : IsSlot b ss k p) (name : Bytes) {r : Bool} (compared : r ≡ holdsName p name) where
+    named-next : slotNamed b ss name k (end - k) ≡ cond r k (slotNamed b ss name (k + 1) (end - (k + 1)))
+    unfolding holdsFile
+    named-next = rw (left-over, add-one k) (rw (compared, slot .bytes))
+
+    pub named-here : r ≡ true → slotNamed b ss name k (end - k) ≡ k
+    named-here e = named-next ∙ rw e
+
+    pub named-other : r ≡ false → slotNamed b ss name k (end - k) ≡ slotNamed b ss name (k + 1) (end - (k + 1))
+    named-other e = named-next ∙ rw e
+
+  -- t is the test whether it is empty
   module _ {p : Bytes} (slot : IsSlot b ss k p) {t : Bool} (asked : t ≡ isEmpty p) where
     empty-here : {u : Bool} → t ≡ u → isEmpty (slotBytes b ss k) ≡ u
     empty-here e = sym (rw (slot .bytes) at asked) ∙ e
-
-    module _ (name : Bytes) where
-      named-next : slotNamed b ss name k (end - k) ≡ cond (holdsFile b ss name k) k (slotNamed b ss name (k + 1) (end - (k + 1)))
-      named-next = rw (left-over, add-one k)
-
-      pub named-empty : t ≡ true → slotNamed b ss name k (end - k) ≡ slotNamed b ss name (k + 1) (end - (k + 1))
-      unfolding holdsFile
-      named-empty e = named-next ∙ rw (empty-here e)
-
-      -- u is the test of the name
-      module _ {u : Bool} (compared : u ≡ equal (nameField p) (padded name)) where
-        name-here : u ≡ equal (nameField (slotBytes b ss k)) (padded name)
-        name-here = rw (slot .bytes) at compared
-
-        pub named-other : u ≡ false → slotNamed b ss name k (end - k) ≡ slotNamed b ss name (k + 1) (end - (k + 1))
-        unfolding holdsFile
-        named-other differs = named-next ∙ rw (← name-here, differs) (rw and-false)
-
-        pub named-here : t ≡ false → u ≡ true → slotNamed b ss name k (end - k) ≡ k
-        unfolding holdsFile
-        named-here occupied is = named-next ∙ rw (← name-here, is) (rw (empty-here occupied))
 
     pub placed-empty : (left : ℕ) → t ≡ true → slotPlaced b ss left k (end - k) ≡ slotPlaced b ss left (k + 1) (end - (k + 1))
     placed-empty zero e = rw (left-over, add-one k) (rw (empty-here e))
@@ -89,6 +80,13 @@ module _ (b ss : List ℕ) {end k : ℕ} (more : k < end) where
 -- ---- how far a search goes
 
 module _ (b ss : List ℕ) where
+  -- no name field holds a name of more than 16 bytes
+  pub named-long : (name : Bytes) → 16 < length name → (k n : ℕ) → slotNamed b ss name k n ≡ k + n
+  unfolding holdsFile
+  named-long name long k zero = omega arith
+  named-long name long k (suc n) =
+      rw (equal-padded-misfit (slotBytes b ss k) name (λ e h. omega arith), and-false) (named-long name long (suc k) n ∙ omega arith)
+
   pub slotNamed-le : (name : Bytes) (k n : ℕ) → slotNamed b ss name k n ≤ k + n
   slotNamed-le name k zero = omega arith
   slotNamed-le name k (suc n) = go (holdsFile b ss name k) (slotNamed-le name (suc k) n)

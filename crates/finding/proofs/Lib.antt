@@ -1,3 +1,4 @@
+pub mod WordLaws
 pub mod FindLaws
 pub mod CheckedSlotLaws
 pub mod EmptyLaws

@@ -3,8 +3,8 @@
 -- A field is given as any list f that is a slot's bytes 05 to 14. Laws of the bytes alone: PaddingLaws. Assumes nothing.
 use mathlib.Core.Path.{_≡_, refl, sym, ap, ap₂, _∙_}
 use mathlib.Core.Bool.{Bool, true, false, _&&_, not, and-false}
-use mathlib.Core.List.{_++_, append-nil}
-use Prim.Native.Nat.{ℕ, _+_, _-_, _≤_, _<_}
+use mathlib.Core.List.{[], _∷_, _++_, append-nil}
+use Prim.Native.Nat.{ℕ, zero, suc, _+_, _-_, _≤_, _<_}
 use native.Mathlib.Omega.{arith}
 use native.Mathlib.Decide.{decLe}
 use lib.ListN.{length, getD, take, drop, replicate, length-append, length-take, length-drop, length-replicate, take-append-drop}
@@ -19,7 +19,7 @@ use Rattle.d64spec.proofs.ListLaws.{eq-of-equal}
 use Rattle.d64spec.proofs.RuleLaws.{name-exact, name-argument-exact}
 use Rattle.parts.specs.Numbers.{fourOf}
 use Rattle.parts.proofs.PartLaws.{drop-replicate}
-use Rattle.parts.proofs.EqualLaws.{equal-iff, equal-lengths-differ, equal-append}
+use Rattle.parts.proofs.EqualLaws.{equal-iff, equal-lengths-differ}
 use Rattle.names.proofs.PaddingLaws.{letters, count-letters, nameLength-append-padding, letters-append-padding, letters-of-padding, length-take-nameLength, nameLength-drop-padding, nameLength-drop-letter, paddedOnce-nameLength, paddedOnce-last, paddedOnce-rest, four-padding}
 
 -- ---- the field of a slot
@@ -56,7 +56,7 @@ module _ (s : Bytes) (whole : 19 ≤ length s) where
 
 -- ---- a field against a name filled up
 
-length-padded : (m : Bytes) → length (padded m) ≡ length m + (16 - length m)
+pub length-padded : (m : Bytes) → length (padded m) ≡ length m + (16 - length m)
 unfolding padded
 length-padded m = length-append m (replicate (16 - length m) 0xA0) ∙ ap (λ (n : ℕ). length m + n) (length-replicate {A = ℕ} (16 - length m) 0xA0)
 
@@ -76,28 +76,29 @@ equal-padded-letters f = equal-iff f (padded (letters f)) (drop (nameLength f) f
         let n : length (letters f) ≡ nameLength f = ap length kept ∙ length-take-nameLength f in
         sym (take-append-drop (nameLength f) f) ∙ ap₂ (λ (x y : Bytes). x ++ y) (sym kept) (e ∙ ap (λ (k : ℕ). replicate (16 - k) 0xA0) (sym n))
 
-module _ (b f : Bytes) (field : f ≡ nameField b) where
-  -- the name is compared first, then the padding
-  pub equal-padded-parts : (m : Bytes) → length m ≤ length f → {t : Bool} → t ≡ equal (take (length m) f) m
-      → equal (nameField b) (padded m) ≡ (t && equal (drop (length m) f) (replicate (16 - length m) 0xA0))
-  unfolding padded
-  equal-padded-parts m fits e =
-      ap (λ (x : Bytes). equal x (padded m)) (sym field)
-      ∙ equal-append f m (replicate (16 - length m) 0xA0) fits
-      ∙ ap (λ (t : Bool). t && equal (drop (length m) f) (replicate (16 - length m) 0xA0)) (sym e)
-
-  -- a field of other than 16 bytes, or a name of more
-  pub equal-padded-misfit : (m : Bytes) → (length f ≡ 16 → length m ≤ 16 → ⊥) → equal (nameField b) (padded m) ≡ false
-  equal-padded-misfit m misfit =
-      let short : length (nameField b) ≤ 16 = simp length-take (omega arith) in
-      equal-lengths-differ (nameField b) (padded m)
-      (λ e. let long = length-padded m in let same = ap length field in misfit (omega arith) (omega arith))
+-- a field of other than 16 bytes, or a name of more
+pub equal-padded-misfit : (b m : Bytes) → (length (nameField b) ≡ 16 → length m ≤ 16 → ⊥) → equal (nameField b) (padded m) ≡ false
+equal-padded-misfit b m misfit =
+    let short : length (nameField b) ≤ 16 = simp length-take (omega arith) in
+    equal-lengths-differ (nameField b) (padded m) (λ e. let long = length-padded m in misfit (omega arith) (omega arith))
 
 -- ---- a name filled up
 
 -- its 16 bytes, of a name that fits
 pub padded-whole : (m : Bytes) → length m ≤ 16 → take 16 (padded m) ≡ padded m
 padded-whole m short = take-all 16 (padded m) (omega (arith, length-padded m))
+
+-- its bytes are bytes, where the name's are
+pub byte-padded-lt : (m : Bytes) → ((i : ℕ) → byte m i < 256) → (i : ℕ) → byte (padded m) i < 256
+unfolding padded
+byte-padded-lt m = go m (16 - length m)
+  where
+    go : (l : Bytes) (n : ℕ) → ((i : ℕ) → byte l i < 256) → (i : ℕ) → byte (l ++ replicate n 0xA0) i < 256
+    go [] zero small i = omega arith
+    go [] (suc n) small zero = omega arith
+    go [] (suc n) small (suc i) = go [] n small i
+    go (c ∷ l) n small zero = small 0
+    go (c ∷ l) n small (suc i) = go l n (λ j. small (suc j)) i
 
 -- the first 16 bytes are the name's, and then padding
 padded-front : (m : Bytes) → take 16 (padded m) ≡ take 16 m ++ replicate (16 - length m) 0xA0
@@ -127,7 +128,7 @@ module _ (b f : Bytes) (field : f ≡ nameField b) where
   pub validName-misfit : (length f ≡ 16 → ⊥) → validName b ≡ false
   unfolding validName
   validName-misfit misfit =
-      ap (λ (t : Bool). not (eqb (length (nameOf b)) 0) && t) (equal-padded-misfit b f field (nameOf b) (λ e h. misfit e)) ∙ and-false (not (eqb (length (nameOf b)) 0))
+      ap (λ (t : Bool). not (eqb (length (nameOf b)) 0) && t) (equal-padded-misfit b (nameOf b) (λ e h. misfit (ap length field ∙ e))) ∙ and-false (not (eqb (length (nameOf b)) 0))
 
   -- THE NAME RULE BY THE FIRST $A0: it is not the field's first byte, and only padding follows it
   validName-nameLength : validName b ≡ (not (eqb (nameLength f) 0) && equal (drop (nameLength f) f) (replicate (16 - nameLength f) 0xA0))

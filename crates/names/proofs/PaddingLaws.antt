@@ -168,4 +168,6 @@ paddedOnce-rest f (suc n) i e all =
 
 -- four bytes whose number is that of four $A0 are $A0
 pub four-padding : (s : Bytes) → ((i : ℕ) → byte s i < 256) → (a : ℕ) → fourOf s a ≡ 0xA0A0A0A0 → (i : ℕ) → a ≤ i → i < a + 4 → byte s i ≡ 0xA0
-four-padding s small a e = bytes-of-four s (λ i. 0xA0) small (λ i. omega arith) a e
+four-padding s small a e i l h =
+    let at : a + (i - a) ≡ i = omega arith in
+    rw at at (bytes-of-four s (λ k. 0xA0) small (λ k. omega arith) a e (i - a) (omega arith))

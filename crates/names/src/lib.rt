@@ -2,8 +2,8 @@
 // A slot is lent as its bytes 02 to 1F, so byte i of document 01 is at i - 2.
 // Every public function takes any slice: what it gives is the definition's value there.
 ghost use mathlib.Core.Path.{_≡_};
-ghost use Prim.Native.Nat.{_-_, _≤_};
-ghost use lib.ListN.{length, take, drop, replicate};
+ghost use Prim.Native.Nat.{_≤_};
+ghost use lib.ListN.{length, take};
 ghost use Rattle.d64spec.specs.Lists.{equal};
 ghost use Rattle.d64spec.specs.Directory.{nameField, padded, validName};
 ghost use Rattle.d64spec.specs.Reply.{validNameArgument};
@@ -24,14 +24,6 @@ fn name_length(s: &[u8]) -> usize
         i += 1;
     }
     i
-}
-
-// Whether only $A0 stand in a name field from its byte n on.
-fn padded_from(field: &[u8], n: usize) -> bool
-    requires { ⌜ (length (now field) ≡ 16) × (n ≤ 16) ⌝ }
-    ensures { λ r. ⌜ r ≡ equal (drop n (now (field .entry))) (replicate (16 - n) 0xA0) ⌝ }
-{
-    parts::equal_bytes(&field[n..], &PADDING[n..])
 }
 
 // The 16 bytes of a slot's name, 05 to 14: fewer where the slot is short.
@@ -82,24 +74,6 @@ pub fn valid_name(slot: &[u8]) -> bool
         return false;
     }
     padded_once(slot)
-}
-
-// Whether a slot has the name asked for, where both names keep the rule: its name field is then that name, filled up.
-pub fn has_name(slot: &[u8], name: &[u8]) -> bool
-    ensures { λ r. ⌜ r ≡ equal (nameField (now (slot .entry))) (padded (now (name .entry))) ⌝ }
-{
-    let field = name_field(slot);
-    let n = name.len();
-    if field.len() != 16 {
-        return false;
-    }
-    if 16 < n {
-        return false;
-    }
-    if !parts::equal_bytes(&field[..n], name) {
-        return false;
-    }
-    padded_from(field, n)
 }
 
 // Whether a call takes this name: 1 to 16 bytes, none of them $A0.

@@ -1,12 +1,12 @@
--- Whether two lists of numbers are equal, by the test `equal`: against equality, by their lengths, part by part, number by number.
+-- Whether two lists of numbers are equal, by the test `equal`: against equality, by their lengths, number by number.
 -- Not here: equal-refl, eq-of-equal (d64spec, ListLaws). Assumes nothing.
 use mathlib.Core.Path.{_≡_, refl, sym}
 use mathlib.Core.Bool.{Bool, true, false, _&&_}
-use mathlib.Core.List.{List, [], _∷_, _++_}
+use mathlib.Core.List.{List, [], _∷_}
 use Prim.Native.Nat.{ℕ, _+_, _≤_, _<_}
 use native.Mathlib.Omega.{arith}
 use native.Mathlib.Numerals.{add-one}
-use lib.ListN.{length, getD, take, drop, drop-of-length-le}
+use lib.ListN.{length, getD, drop, drop-of-length-le}
 use lib.Seq.{drop-cons}
 use lib.Dec.{eqb}
 use borrow.Author.Tests.{eq-eqb, ne-eqb}
@@ -29,7 +29,7 @@ equal-iff a b c d there back = go (equal a b) refl (equal c d) refl
         let z : equal a b ≡ true = rw (back (eq-of-equal c d h)) (equal-refl b) in
         absurd (let w : _≡_ {A = ℕ} 0 1 = cc in omega arith)
 
--- ---- by length, and part by part
+-- ---- by length
 
 pub equal-lengths-differ : (a b : List ℕ) → (length a ≡ length b → ⊥) → equal a b ≡ false
 equal-lengths-differ [] [] h = absurd (h refl)
@@ -38,16 +38,6 @@ equal-lengths-differ (x ∷ l) [] h = refl
 equal-lengths-differ (x ∷ l) (y ∷ m) h = go (eqb x y) (equal-lengths-differ l m (λ e. h (omega arith)))
   where
     go : (t : Bool) → equal l m ≡ false → (t && equal l m) ≡ false
-    go true e = e
-    go false e = refl
-
-pub equal-append : (a b c : List ℕ) → length b ≤ length a → equal a (b ++ c) ≡ (equal (take (length b) a) b && equal (drop (length b) a) c)
-equal-append a [] c h = refl
-equal-append [] (y ∷ b) c h = absurd (omega arith)
-equal-append (x ∷ a) (y ∷ b) c h = go (eqb x y) (equal-append a b c (omega arith))
-  where
-    go : (t : Bool) → equal a (b ++ c) ≡ (equal (take (length b) a) b && equal (drop (length b) a) c)
-        → (t && equal a (b ++ c)) ≡ ((t && equal (take (length b) a) b) && equal (drop (length b) a) c)
     go true e = e
     go false e = refl
 

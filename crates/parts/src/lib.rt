@@ -3,7 +3,7 @@
 ghost use mathlib.Core.Path.{_≡_};
 ghost use lib.ListN.{take, drop};
 ghost use Rattle.d64spec.specs.Lists.{byte, equal};
-ghost use Rattle.parts.specs.Numbers.{IsFour};
+ghost use Rattle.parts.specs.Numbers.{IsFour, IsEight};
 ghost use Rattle.parts.specs.Overwrites.{overwritten};
 
 // Byte `at`, or 0 past the end.
@@ -27,6 +27,19 @@ pub fn four_at(bytes: &[u8], at: usize) -> u64
         + 256 * (bytes[at + 1] as u64)
         + 65536 * (bytes[at + 2] as u64)
         + 16777216 * (bytes[at + 3] as u64)
+}
+
+// The number of the eight bytes from index `at` on, low byte first, or 0 where there are not eight: compiles to one load for each half.
+pub fn eight_at(bytes: &[u8], at: usize) -> u64
+    ensures { λ r. ⌜ IsEight (now (bytes .entry)) at r ⌝ }
+{
+    if bytes.len() < 8 {
+        return 0;
+    }
+    if bytes.len() - 8 < at {
+        return 0;
+    }
+    four_at(bytes, at) + 4294967296 * four_at(bytes, at + 4)
 }
 
 // At most `count` bytes from index `start` on: fewer where the slice ends before.

@@ -36,7 +36,7 @@ returns : tie.Need-returns Inv-loop μ-loop
 returns c =
     let l = c .before .before .before .before .before in
     let a = l .before .args in
-    sym (holds-found (a .xs .now) (a .ys .now) (a .x) (a .y) (l .loop .i) (a .n) (omega arith) (c .before .before .if1 .taken) (c .if2 .taken))
+    sym (holds-found (a .xs .now) (a .ys .now) (a .x) (a .y) (l .loop .i) (a .n) (omega arith) (omega arith) (omega arith))
 
 add-i : tie.Need-add-i Inv-loop μ-loop
 add-i c = search needs

@@ -7,8 +7,7 @@ use Prim.Native.Nat.{_-_, _/_, _<_}
 use native.Mathlib.Omega.{arith}
 use borrow.Author.Count.{falls}
 use borrow.Author.Needs.{needs}
-use Rattle.directory.proofs.WordLaws.{Thirty}
-use Rattle.directory.proofs.SearchLaws.{Searching, sector-lt, searching-start, searching-empty, searching-found, searching-new, searching-end}
+use Rattle.directory.proofs.SearchLaws.{Thirty, Searching, sector-lt, searching-start, searching-empty, searching-found, searching-new, searching-end}
 use Rattle.directory.proofs.repeats.first_of_eight.Statement.{statement}
 use Rattle.directory.proofs.repeats.first_of_eight.Tie as tie
 
@@ -37,11 +36,11 @@ slot-at-requires c κs = search needs
 shared-slice-read-if1 : tie.Need-shared-slice-read-if1 Inv-loop μ-loop
 shared-slice-read-if1 c = omega (arith, thirty c .long)
 
-word-requires : tie.Need-word-requires Inv-loop μ-loop
-word-requires c κs = omega (arith, thirty (c .before) .long)
+eight-at-requires : tie.Need-eight-at-requires Inv-loop μ-loop
+eight-at-requires c κs = search needs
 
-word-requires-2 : tie.Need-word-requires-2 Inv-loop μ-loop
-word-requires-2 c κs = omega (arith, thirty (c .before .before) .long)
+eight-at-requires-2 : tie.Need-eight-at-requires-2 Inv-loop μ-loop
+eight-at-requires-2 c κs = search needs
 
 slice-aggregate-among : tie.Need-slice-aggregate-among Inv-loop μ-loop
 slice-aggregate-among c = search needs
@@ -57,7 +56,7 @@ among-requires c κs =
 returns : tie.Need-returns Inv-loop μ-loop
 returns c =
     let l = c .before .before .before .before .before .before .before .before .before .before in
-    searching-found (l .loop .inv) (omega (arith, c .before .before .before .before .before .before .before .before .before .loop-test .taken)) _ (thirty (c .before .before .before .before .before .before .before)) (c .before .before .before .before .before .before .before .before .slot-at .ensures .bytes) (c .before .before .before .before .before .before .if1 .taken) _ _ (c .before .before .before .before .before .word .ensures) (c .before .before .before .before .word2 .ensures) (sym (c .before .among .ensures) ∙ c .if2 .taken)
+    searching-found (l .loop .inv) (omega (arith, c .before .before .before .before .before .before .before .before .before .loop-test .taken)) _ (thirty (c .before .before .before .before .before .before .before)) (c .before .before .before .before .before .before .before .before .slot-at .ensures .bytes) (c .before .before .before .before .before .before .if1 .taken) _ _ (c .before .before .before .before .before .eight-at .ensures) (c .before .before .before .before .eight-at2 .ensures) (sym (c .before .among .ensures) ∙ c .if2 .taken)
 
 mul-xs : tie.Need-mul-xs Inv-loop μ-loop
 mul-xs c = search needs
@@ -104,8 +103,8 @@ first-of-eight-spec =
     loop-holds
     slot-at-requires
     shared-slice-read-if1
-    word-requires
-    word-requires-2
+    eight-at-requires
+    eight-at-requires-2
     slice-aggregate-among
     slice-aggregate-among-2
     among-requires

@@ -9,8 +9,7 @@ use native.Mathlib.Omega.{arith}
 use borrow.Author.Count.{falls}
 use borrow.Author.Needs.{needs}
 use Rattle.directory.specs.NameWords.{holdsPair}
-use Rattle.directory.proofs.WordLaws.{Thirty}
-use Rattle.directory.proofs.SearchLaws.{Searching, hash-lt, sector-lt, searching-start, searching-empty, searching-found, searching-new, searching-end, new-hash}
+use Rattle.directory.proofs.SearchLaws.{Thirty, Searching, hash-lt, sector-lt, searching-start, searching-empty, searching-found, searching-new, searching-end, new-hash}
 use Rattle.directory.proofs.repeats.first_of_many.Statement.{statement}
 use Rattle.directory.proofs.repeats.first_of_many.Tie as tie
 
@@ -34,13 +33,13 @@ thirty c =
 new : (c : tie.Joined2 Inv-loop μ-loop) →
     let h = c .before in
     let l = h .before .before .before .before .before .before .before in
-    holdsPair (l .loop .xs) (l .loop .ys) (l .loop .n) (h .before .before .word .result) (h .before .word2 .result) ≡ false
+    holdsPair (l .loop .xs) (l .loop .ys) (l .loop .n) (h .before .before .eight-at .result) (h .before .eight-at2 .result) ≡ false
 new c =
     let h = c .before in
     let l = h .before .before .before .before .before .before .before in
     elim (c .if2 .came) [
       | inl asked ↦ sym (asked .3 .ensures) ∙ asked .4 .left
-      | inr left ↦ new-hash (l .loop .inv) _ _ _ (h .hash .ensures) (omega (arith, h .hash .ensures, hash-lt (h .before .before .word .result) (h .before .word2 .result))) (left .left)
+      | inr left ↦ new-hash (l .loop .inv) _ _ _ (h .hash .ensures) (omega (arith, h .hash .ensures, hash-lt (h .before .before .eight-at .result) (h .before .eight-at2 .result))) (left .left)
     ]
 
 -- there is room for one more pair
@@ -58,17 +57,17 @@ slot-at-requires c κs = search needs
 shared-slice-read-if1 : tie.Need-shared-slice-read-if1 Inv-loop μ-loop
 shared-slice-read-if1 c = omega (arith, thirty c .long)
 
-word-requires : tie.Need-word-requires Inv-loop μ-loop
-word-requires c κs = omega (arith, thirty (c .before) .long)
+eight-at-requires : tie.Need-eight-at-requires Inv-loop μ-loop
+eight-at-requires c κs = search needs
 
-word-requires-2 : tie.Need-word-requires-2 Inv-loop μ-loop
-word-requires-2 c κs = omega (arith, thirty (c .before .before) .long)
+eight-at-requires-2 : tie.Need-eight-at-requires-2 Inv-loop μ-loop
+eight-at-requires-2 c κs = search needs
 
 hash-requires : tie.Need-hash-requires Inv-loop μ-loop
 hash-requires c κs = search needs
 
 array-read-if2 : tie.Need-array-read-if2 Inv-loop μ-loop
-array-read-if2 c = omega (arith, c .hash .ensures, hash-lt (c .before .before .word .result) (c .before .word2 .result))
+array-read-if2 c = omega (arith, c .hash .ensures, hash-lt (c .before .before .eight-at .result) (c .before .eight-at2 .result))
 
 slice-aggregate-among : tie.Need-slice-aggregate-among Inv-loop μ-loop
 slice-aggregate-among c = search needs
@@ -87,10 +86,10 @@ returns c =
     let h = m .before .before .before .before in
     let o = h .before .before .before in
     let l = o .before .before .before .before in
-    searching-found (l .loop .inv) (omega arith) _ (thirty (o .before)) (o .before .before .slot-at .ensures .bytes) (o .if1 .taken) _ _ (h .before .before .word .ensures) (h .before .word2 .ensures) (sym (m .among .ensures) ∙ c .if3 .taken)
+    searching-found (l .loop .inv) (omega arith) _ (thirty (o .before)) (o .before .before .slot-at .ensures .bytes) (o .if1 .taken) _ _ (h .before .before .eight-at .ensures) (h .before .eight-at2 .ensures) (sym (m .among .ensures) ∙ c .if3 .taken)
 
 array-write-seen : tie.Need-array-write-seen Inv-loop μ-loop
-array-write-seen c = let h = c .before in omega (arith, h .hash .ensures, hash-lt (h .before .before .word .result) (h .before .word2 .result))
+array-write-seen c = let h = c .before in omega (arith, h .hash .ensures, hash-lt (h .before .before .eight-at .result) (h .before .eight-at2 .result))
 
 mul-xs : tie.Need-mul-xs Inv-loop μ-loop
 mul-xs c = omega (arith, room c)
@@ -118,7 +117,7 @@ loop-again c =
     let l = c .before .before .before .before in
     elim (c .if1 .came) [
       | inl met ↦
-          let fresh = new (record { before = record { before = record { before = record { before = record { before = c .before; if1 = met .0 }; word = met .1 }; word2 = met .2 }; hash = met .3 }; if2 = met .4 }) in
+          let fresh = new (record { before = record { before = record { before = record { before = record { before = c .before; if1 = met .0 }; eight-at = met .1 }; eight-at2 = met .2 }; hash = met .3 }; if2 = met .4 }) in
           rw (met .5, met .6, met .7, met .8)
           (searching-new (l .loop .inv) (omega arith) _ (thirty (c .before)) (c .before .before .slot-at .ensures .bytes) (met .0 .taken) _ _ (met .1 .ensures) (met .2 .ensures) _ (met .3 .ensures) fresh)
       | inr left ↦
@@ -138,8 +137,8 @@ first-of-many-spec =
     loop-holds
     slot-at-requires
     shared-slice-read-if1
-    word-requires
-    word-requires-2
+    eight-at-requires
+    eight-at-requires-2
     hash-requires
     array-read-if2
     slice-aggregate-among
