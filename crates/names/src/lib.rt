@@ -4,7 +4,6 @@
 ghost use mathlib.Core.Path.{_≡_};
 ghost use Prim.Native.Nat.{_≤_};
 ghost use lib.ListN.{length, take};
-ghost use Rattle.d64spec.specs.Lists.{equal};
 ghost use Rattle.d64spec.specs.Directory.{nameField, padded, validName};
 ghost use Rattle.d64spec.specs.Reply.{validNameArgument};
 ghost use Rattle.names.specs.Names.{nameLength, paddedOnce, RestFits};
@@ -24,13 +23,6 @@ fn name_length(s: &[u8]) -> usize
         i += 1;
     }
     i
-}
-
-// The 16 bytes of a slot's name, 05 to 14: fewer where the slot is short.
-pub fn name_field(slot: &[u8]) -> &[u8]
-    ensures { λ r. ⌜ now r ≡ nameField (now (slot .entry)) ⌝ }
-{
-    parts::clipped(slot, 3, 16)
 }
 
 // Whether no other byte stands behind a $A0 in a slot's name, where none does from byte `end` of the name on: two neighbours are asked at a time.

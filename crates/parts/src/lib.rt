@@ -1,8 +1,8 @@
-// Bytes of a slice, read, compared and overwritten for any slice and any numbers: what the crates above share.
+// Bytes of a slice, read and overwritten for any slice and any numbers: what the crates above share.
 // Nothing wraps and nothing is out of range: a byte past the end reads as 0, a part ends where the slice ends.
 ghost use mathlib.Core.Path.{_≡_};
 ghost use lib.ListN.{take, drop};
-ghost use Rattle.d64spec.specs.Lists.{byte, equal};
+ghost use Rattle.d64spec.specs.Lists.{byte};
 ghost use Rattle.parts.specs.Numbers.{IsFour, IsEight};
 ghost use Rattle.parts.specs.Overwrites.{overwritten};
 
@@ -53,23 +53,6 @@ pub fn clipped(bytes: &[u8], start: usize, count: usize) -> &[u8]
         return &bytes[start..];
     }
     &bytes[start..start + count]
-}
-
-// Whether two slices hold the same bytes.
-pub fn equal_bytes(a: &[u8], b: &[u8]) -> bool
-    ensures { λ r. ⌜ r ≡ equal (now (a .entry)) (now (b .entry)) ⌝ }
-{
-    if a.len() != b.len() {
-        return false;
-    }
-    let mut i: usize = 0;
-    while i < a.len() {
-        if a[i] != b[i] {
-            return false;
-        }
-        i += 1;
-    }
-    true
 }
 
 // Writes the content over as many bytes from index `at` on. Where the slice ends before, nothing is written.
