@@ -62,9 +62,11 @@ pub record Passed : Type 0 where
 
 unfoldable pub claimedAfter : ℕ → Passed → List ℕ → Result (List Address) → Result Claimed
 claimedAfter id p own (refused f) = refused f
-claimedAfter id p own (done l) = done (record { count = p .count + length l; last = lastOf (p .last) l; table = withOwner id (map (sectorNumber layout35) l) own })
+claimedAfter id p own (done l) =
+    done (record { count = p .count + length l; last = lastOf (p .last) l; table = withOwner id (map (sectorNumber layout35) l) own })
 
-claimed-first : (id : ℕ) (own : List ℕ) (holder : Address) (x : Result (List Address)) → claimedAfter id (record { count = 0; last = holder }) own x ≡ claimed id own holder x
+claimed-first : (id : ℕ) (own : List ℕ) (holder : Address) (x : Result (List Address))
+    → claimedAfter id (record { count = 0; last = holder }) own x ≡ claimed id own holder x
 unfolding claimedAfter claimed
 claimed-first id own holder (refused f) = refl
 claimed-first id own holder (done l) =
@@ -77,7 +79,8 @@ unfolding claimedAfter lastOf
 claimed-next id p own r (refused f) = refl
 claimed-next id p own r (done l) =
     let e : p .count + suc (length l) ≡ p .count + 1 + length l = omega arith in
-    ap (λ (n : ℕ). done (record { count = n; last = lastOf r l; table = withOwner id (map (sectorNumber layout35) l) (set own (sectorNumber layout35 r) id) })) e
+    let own′ : List ℕ = set own (sectorNumber layout35 r) id in
+    ap (λ (n : ℕ). done (record { count = n; last = lastOf r l; table = withOwner id (map (sectorNumber layout35) l) own′ })) e
 
 -- ---- the invariant
 
@@ -96,7 +99,8 @@ pub record Claims (img : Bytes) (id slot : ℕ) (o : Result Claimed) (own : List
   pub long : length own ≡ 683
   pub few : passed + freeCount own ≤ 683
 
-pub claims-start : (img own : List ℕ) (id slot : ℕ) (from : CodeAddress) (t s : ℕ) → Ready img own id → Claims img id slot (chainClaim img own id slot from t s) own from t s 0
+pub claims-start : (img own : List ℕ) (id slot : ℕ) (from : CodeAddress) (t s : ℕ) → Ready img own id
+    → Claims img id slot (chainClaim img own id slot from t s) own from t s 0
 unfolding chainWalk linkAfter
 claims-start img own id slot from t s ready =
     let long : length own ≡ 683 = ready .long in
@@ -104,7 +108,8 @@ claims-start img own id slot from t s ready =
     record {
       walking =
           rw (← claimed-first)
-          (walking-start layout35 (fileLink layout35) (disk img) (claimedAfter id) slot (fileLink-on layout35) (record { count = 0; last = addressOf from }) own (addressOf from) k (long ∙ sym sectors35) (linkTo-on layout35 t s));
+          (walking-start layout35 (fileLink layout35) (disk img) (claimedAfter id) slot (fileLink-on layout35)
+          (record { count = 0; last = addressOf from }) own (addressOf from) k (long ∙ sym sectors35) (linkTo-on layout35 t s));
       long = long;
       few = omega (arith, freeCount-le own);
     }
@@ -118,10 +123,12 @@ pub record Named (t s n : ℕ) : Type 0 where
 -- by the layout's table of first numbers
 pub named-on : {firsts : List ℕ} {t s n : ℕ} → IsFirsts firsts → onDisk layout35 (address t s) ≡ true → n ≡ numberBy firsts (address t s) → Named t s n
 named-on {t = t} {s = s} fs on is =
-    record { on = on; number = is ∙ fs .agrees (address t s) on; inside = omega (arith, is ∙ fs .agrees (address t s) on, sectorNumber-lt layout35 (address t s) on, sectors35) }
+    let number = is ∙ fs .agrees (address t s) on in
+    record { on = on; number = number; inside = omega (arith, number, sectorNumber-lt layout35 (address t s) on, sectors35) }
 
 -- and by that of counts
-pub named : {counts firsts : List ℕ} {t s n : ℕ} → IsCounts counts → IsFirsts firsts → onDiskBy counts (address t s) ≡ true → n ≡ numberBy firsts (address t s) → Named t s n
+pub named : {counts firsts : List ℕ} {t s n : ℕ} → IsCounts counts → IsFirsts firsts → onDiskBy counts (address t s) ≡ true
+    → n ≡ numberBy firsts (address t s) → Named t s n
 named {t = t} {s = s} cs fs e is = named-on fs (sym (cs .agrees (address t s)) ∙ e) is
 
 -- t and s had no owner and are claimed now: the walk is at the first two bytes of the sector, which is lent as `part`
@@ -160,12 +167,14 @@ module _ (t s n : ℕ) (holder : CodeAddress) (slot : ℕ) where
   off-end h k m = rw (eq-eqb t 0 (omega arith), lt-ltb 0 s k, lt-ltb 0 n m)
 
 module _ {img : Bytes} {id slot : ℕ} {o : Result Claimed} {own : List ℕ} {holder : CodeAddress} where
-  bad-off : {t s passed : ℕ} → Claims img id slot o own holder t s passed → linkAfter passed t s ≡ bad → claimOf (claim.Refused (BadLink (heldBy holder slot))) own ≡ o
+  bad-off : {t s passed : ℕ} → Claims img id slot o own holder t s passed → linkAfter passed t s ≡ bad
+      → claimOf (claim.Refused (BadLink (heldBy holder slot))) own ≡ o
   unfolding claimOf faultOf claimedAfter
   bad-off w e = walking-bad layout35 (fileLink layout35) (disk img) (claimedAfter id) slot (rw e at (w .walking))
 
   -- a link off the disk ends the chain, or is bad
-  off : (t s passed : ℕ) → Claims img id slot o own holder t s passed → onDisk layout35 (address t s) ≡ false → claimOf (claimOff t s passed holder slot) own ≡ o
+  off : (t s passed : ℕ) → Claims img id slot o own holder t s passed → onDisk layout35 (address t s) ≡ false
+      → claimOf (claimOff t s passed holder slot) own ≡ o
   unfolding claimOf claimedAfter linkAfter lastOf
   off t s zero w e = rw (off-first t s 0 holder slot (omega arith)) (bad-off w (linkTo-off layout35 t s e))
   off (suc t) s (suc n) w e =
@@ -175,10 +184,12 @@ module _ {img : Bytes} {id slot : ℕ} {o : Result Claimed} {own : List ℕ} {ho
       let z : suc n ≡ suc n + 0 = omega arith in
       rw (off-end 0 (suc s) (suc n) holder slot (omega arith) (omega arith) (omega arith))
       (ap (λ (k : ℕ). done (record { count = k; last = addressOf holder; table = own })) z
-      ∙ walking-ends layout35 (fileLink layout35) (disk img) (claimedAfter id) slot (rw (file-ends layout35 0 (suc s) (omega arith) (omega arith)) at (w .walking)))
+      ∙ walking-ends layout35 (fileLink layout35) (disk img) (claimedAfter id) slot
+      (rw (file-ends layout35 0 (suc s) (omega arith) (omega arith)) at (w .walking)))
 
   module _ {t s passed : ℕ} (w : Claims img id slot o own holder t s passed) where
-    pub claims-off : {q : CodeAddress} {r : claims.Claim} → r ≡ claimOff t s passed q slot → q ≡ holder → {counts : List ℕ} → IsCounts counts → onDiskBy counts (address t s) ≡ false → claimOf r own ≡ o
+    pub claims-off : {q : CodeAddress} {r : claims.Claim} → r ≡ claimOff t s passed q slot → q ≡ holder → {counts : List ℕ} → IsCounts counts
+        → onDiskBy counts (address t s) ≡ false → claimOf r own ≡ o
     claims-off is held cs e = rw (is, held) (off t s passed w (sym (cs .agrees (address t s)) ∙ e))
 
     module _ {n : ℕ} (r : Named t s n) where
@@ -197,11 +208,14 @@ module _ {img : Bytes} {id slot : ℕ} {o : Result Claimed} {own : List ℕ} {ho
           let k : Link = fileLink layout35 (disk img n) in
           let number : sectorNumber layout35 (address t s) ≡ n = sym (r .number) in
           let free : getD own (sectorNumber layout35 (address t s)) 0 ≡ 0 = rw number none in
-          let fewer : freeCount own ≡ suc (freeCount (set own n id)) = rw number at (walking-fewer layout35 (fileLink layout35) (disk img) (claimedAfter id) slot id here free owner) in
+          let fewer : freeCount own ≡ suc (freeCount (set own n id))
+          = rw number at (walking-fewer layout35 (fileLink layout35) (disk img) (claimedAfter id) slot id here free owner) in
           let few : passed + freeCount own ≤ 683 = w .few in
           let moved : Along img id slot o (passed + 1) (set own n id) (record { track = t; sector = s }) k
-          = rw number at (walking-moved layout35 (fileLink layout35) (disk img) (claimedAfter id) slot id (record { count = passed + 1; last = address t s }) k here free owner
-          (rw number refl) (fileLink-on layout35 (disk img n)) (λ x. claimed-next id (record { count = passed; last = addressOf holder }) own (address t s) x)) in
+          = rw number at (walking-moved layout35 (fileLink layout35) (disk img) (claimedAfter id) slot id
+          (record { count = passed + 1; last = address t s }) k here free owner
+          (rw number refl) (fileLink-on layout35 (disk img n))
+          (λ x. claimed-next id (record { count = passed; last = addressOf holder }) own (address t s) x)) in
           record {
             fewer = fewer;
             next = rw lent (record {

@@ -56,7 +56,8 @@ image-sound img c e =
 
 -- what a check that finds something has met
 found-done : (img : Bytes) (x : Result DirectoryContents) (f : Found) → done f ≡ foundIn img x
-    → (c : DirectoryContents) × (x ≡ done c) × (f ≡ record { directory = c .walked; tables = tables (ownerTable layout35 (c .walked) (c .found)) (endTable img (c .found)) })
+    → (c : DirectoryContents) × (x ≡ done c)
+    × (f ≡ record { directory = c .walked; tables = tables (ownerTable layout35 (c .walked) (c .found)) (endTable img (c .found)) })
 unfolding foundIn
 found-done img (refused g) f e = refused≢done g f (sym e)
 found-done img (done c) f e = (c, refl, done-inj e)
@@ -79,7 +80,8 @@ module _ {img : Bytes} {r : Checked} (checked : ImageChecked img r) where
       let told = rw e at (checked .told) in
       let f = found-done img (checkImage layout35 img) _ told in
       let s = image-sound img (f .0) (f .1) in
-      let sectors : sectorsOf (r .sectors) (r .count) ≡ directorySectors layout35 (disk img) = ap (λ (x : Found). x .directory) (f .2) ∙ ap (λ (c : DirectoryContents). c .walked) (sym (s .1)) in
+      let sectors : sectorsOf (r .sectors) (r .count) ≡ directorySectors layout35 (disk img)
+      = ap (λ (x : Found). x .directory) (f .2) ∙ ap (λ (c : DirectoryContents). c .walked) (sym (s .1)) in
       let counted : r .count ≡ length (sectorsOf (r .sectors) (r .count)) = checked .count ∙ ap directoryCount (sym told) in
       let whole : r .count ≤ length (r .sectors) = sectorsOf-whole (r .sectors) (r .count) counted in
       record {
@@ -106,14 +108,16 @@ module _ (img : Bytes) (a : Accepted layout35 img) where
   number-lt f m = omega (arith, ownerNumber-le35 img a (theFile f) m)
 
   -- A FILE'S ENTRY OF THE TABLE IS ITS END
-  pub file-end : (f : File) → List·Memᴰ f (files layout35 (disk img)) → getD (endTable img (files layout35 (disk img))) (f .slot .number) 0 ≡ endOf img (f .sectors)
+  pub file-end : (f : File) → List·Memᴰ f (files layout35 (disk img))
+      → getD (endTable img (files layout35 (disk img))) (f .slot .number) 0 ≡ endOf img (f .sectors)
   unfolding endTable
   file-end f m =
       getD-withEnds-same img (f .slot .number) (endOf img (f .sectors)) (files layout35 (disk img)) (zeros 144) (number-lt f m)
       (λ y k e. ap (λ (x : File). endOf img (x .sectors)) (file-of-slot layout35 (disk img) y f k m e)) m refl
 
   -- a slot without a file has 0
-  pub no-file-end : (n : ℕ) → n < 144 → ((f : File) → List·Memᴰ f (files layout35 (disk img)) → f .slot .number ≡ n → ⊥) → getD (endTable img (files layout35 (disk img))) n 0 ≡ 0
+  pub no-file-end : (n : ℕ) → n < 144 → ((f : File) → List·Memᴰ f (files layout35 (disk img)) → f .slot .number ≡ n → ⊥)
+      → getD (endTable img (files layout35 (disk img))) n 0 ≡ 0
   unfolding endTable
   no-file-end n b none =
       getD-withEnds-kept img n 0 (files layout35 (disk img)) (zeros 144) b (λ f m e. absurd (none f m e)) (getD-replicate {A = ℕ} 144 n 0 0 b)

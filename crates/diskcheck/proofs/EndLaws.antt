@@ -3,7 +3,7 @@
 use Prim.Native.Nat.{ℕ, _<_}
 use native.Mathlib.Omega.{arith}
 use native.Mathlib.Decide.{ℕ-discrete}
-use mathlib.Core.Path.{_≡_, refl, sym, ap, _∙_, subst}
+use mathlib.Core.Path.{_≡_, refl, sym, ap, _∙_}
 use mathlib.Core.Bool.{Bool, true, false, cond}
 use mathlib.Core.List.{List, [], _∷_, List·Memᴰ, List·Memᴰ·head, List·Memᴰ·tail}
 use lib.ListN.{length, getD, set, length-set}
@@ -12,7 +12,7 @@ use Rattle.d64spec.specs.Lists.{Bytes, byte}
 use Rattle.d64spec.specs.Answers.{Address, address, done}
 use Rattle.d64spec.specs.Geometry.{layout35, onDisk, sectorNumber}
 use Rattle.d64spec.specs.Image.{disk}
-use Rattle.d64spec.specs.Chain.{Link, ends, to, bad, linkTo, fileLink, steps, Chain}
+use Rattle.d64spec.specs.Chain.{ends, to, bad, linkTo, fileLink, steps, Chain}
 use Rattle.d64spec.specs.Directory.{File}
 use Rattle.d64spec.specs.Store.{lastOf}
 use Rattle.d64spec.proofs.BoundLaws.{fileLink-on, linkTo-on}
@@ -39,13 +39,15 @@ linkTo-ends t s e = go (onDisk layout35 (address t s)) e
 
 module _ (img : Bytes) where
   -- links lead to sectors of the disk
-  last-on : (r : Address) (l : List Address) → onDisk layout35 r ≡ true → Chain layout35 (fileLink layout35) (disk img) (fileLink layout35 (disk img (sectorNumber layout35 r))) l
+  last-on : (r : Address) (l : List Address) → onDisk layout35 r ≡ true
+      → Chain layout35 (fileLink layout35) (disk img) (fileLink layout35 (disk img (sectorNumber layout35 r))) l
       → onDisk layout35 (lastOf r l) ≡ true
   unfolding lastOf
   last-on r [] on c = on
   last-on r (q ∷ l) on c = last-on q l (rw (c .0) at (fileLink-on layout35 (disk img (sectorNumber layout35 r)))) (c .1)
 
-  pub last-sector : (holder : Address) (t s : ℕ) (l : List Address) → Chain layout35 (fileLink layout35) (disk img) (linkTo layout35 t s) l → LastSector img holder l
+  pub last-sector : (holder : Address) (t s : ℕ) (l : List Address) → Chain layout35 (fileLink layout35) (disk img) (linkTo layout35 t s) l
+      → LastSector img holder l
   unfolding endOf lastOf
   last-sector holder t s [] c = absurd (linkTo-ends t s c)
   last-sector holder t s (r ∷ l) c = record { on = last-on r l (rw (c .0) at (linkTo-on layout35 t s)) (c .1); end = refl }
@@ -53,7 +55,8 @@ module _ (img : Bytes) where
   -- of the definition's walk
   pub walk-last : (own : List ℕ) (holder : Address) (slot t s : ℕ) (l : List Address) → chainWalk img own holder slot t s ≡ done l → LastSector img holder l
   unfolding chainWalk
-  walk-last own holder slot t s l e = last-sector holder t s l (walk-sound layout35 (fileLink layout35) (disk img) (steps layout35) (owned own) holder slot (linkTo layout35 t s) l e .chain)
+  walk-last own holder slot t s l e = last-sector holder t s l
+      (walk-sound layout35 (fileLink layout35) (disk img) (steps layout35) (owned own) holder slot (linkTo layout35 t s) l e .chain)
 
 -- ---- entries of the table
 
@@ -62,26 +65,32 @@ module _ (img : Bytes) (n x : ℕ) where
   abbrev EndsAt : List File → Type 0
   EndsAt l = (f : File) → List·Memᴰ f l → f .slot .number ≡ n → endOf img (f .sectors) ≡ x
 
-  -- the entry stays, where each file of that slot es there
+  -- an end noted at slot n
+  getD-noted : (es : List ℕ) (k y : ℕ) → n < length es → k ≡ n → getD (set es k y) n 0 ≡ y
+  getD-noted es k y b e = rw e (getD-set-same es n y 0 b)
+
+  -- the entry stays, where each file of that slot ends there
   pub getD-withEnds-kept : (l : List File) (es : List ℕ) → n < length es → EndsAt l → getD es n 0 ≡ x → getD (withEnds img l es) n 0 ≡ x
   getD-withEnds-kept [] es b same h = h
   getD-withEnds-kept (f ∷ l) es b same h =
       let k : ℕ = f .slot .number in
-      let e : ℕ = endOf img (f .sectors) in
-      getD-withEnds-kept l (set es k e) (omega (arith, length-set es k e)) (λ y m. same y (List·Memᴰ·tail m))
+      let y : ℕ = endOf img (f .sectors) in
+      getD-withEnds-kept l (set es k y) (omega (arith, length-set es k y)) (λ g m. same g (List·Memᴰ·tail m))
       (elim (ℕ-discrete k n) [
-        | yes z ↦ ap (λ (i : ℕ). getD (set es k e) i 0) (sym z) ∙ getD-set-same es k e 0 (subst (λ (i : ℕ). i < length es) (sym z) b) ∙ same f (List·Memᴰ·head refl) z
-        | no z ↦ getD-set-other es k n e 0 (λ y. z (sym y)) ∙ h
+        | yes e ↦ getD-noted es k y b e ∙ same f (List·Memᴰ·head refl) e
+        | no e ↦ getD-set-other es k n y 0 (λ z. e (sym z)) ∙ h
       ])
 
   -- a file's entry is its end
-  pub getD-withEnds-same : {f : File} (l : List File) (es : List ℕ) → n < length es → EndsAt l → List·Memᴰ f l → f .slot .number ≡ n → getD (withEnds img l es) n 0 ≡ x
-  getD-withEnds-same {f} (y ∷ l) es b same (List·Memᴰ·head e) at =
-      let k : ℕ = y .slot .number in
-      let here : k ≡ n = ap (λ (z : File). z .slot .number) (sym e) ∙ at in
-      getD-withEnds-kept l (set es k (endOf img (y .sectors))) (omega (arith, length-set es k (endOf img (y .sectors)))) (λ z m. same z (List·Memᴰ·tail m))
-      (ap (λ (i : ℕ). getD (set es k (endOf img (y .sectors))) i 0) (sym here) ∙ getD-set-same es k (endOf img (y .sectors)) 0 (subst (λ (i : ℕ). i < length es) (sym here) b)
-      ∙ same y (List·Memᴰ·head refl) here)
-  getD-withEnds-same (y ∷ l) es b same (List·Memᴰ·tail m) at =
-      let k : ℕ = y .slot .number in
-      getD-withEnds-same l (set es k (endOf img (y .sectors))) (omega (arith, length-set es k (endOf img (y .sectors)))) (λ z h. same z (List·Memᴰ·tail h)) m at
+  pub getD-withEnds-same : {f : File} (l : List File) (es : List ℕ) → n < length es → EndsAt l → List·Memᴰ f l → f .slot .number ≡ n
+      → getD (withEnds img l es) n 0 ≡ x
+  getD-withEnds-same {f} (g ∷ l) es b same (List·Memᴰ·head e) here =
+      let k : ℕ = g .slot .number in
+      let y : ℕ = endOf img (g .sectors) in
+      let at : k ≡ n = ap (λ (z : File). z .slot .number) (sym e) ∙ here in
+      getD-withEnds-kept l (set es k y) (omega (arith, length-set es k y)) (λ z m. same z (List·Memᴰ·tail m))
+      (getD-noted es k y b at ∙ same g (List·Memᴰ·head refl) at)
+  getD-withEnds-same (g ∷ l) es b same (List·Memᴰ·tail m) here =
+      let k : ℕ = g .slot .number in
+      let y : ℕ = endOf img (g .sectors) in
+      getD-withEnds-same l (set es k y) (omega (arith, length-set es k y)) (λ z h. same z (List·Memᴰ·tail h)) m here

@@ -80,7 +80,8 @@ module _ (img : Bytes) where
   slotsFromClaims ds = checkSlots layout35 (disk img) (sectorNumber layout35 mapAddress ∷ map (sectorNumber layout35) ds) [] (occupiedIn layout35 (disk img) ds)
 
   module _ (ds : List Address) (on : All (λ x. x < total layout35) (map (sectorNumber layout35) ds)) where
-    files-found : (x : Result (List File)) → slotsAfter ds ≡ x → foundIn img (afterFiles ds x) ≡ (tablesWithFiles img (walkedTables ds) x >>= (λ t. mapAfter ds t))
+    files-found : (x : Result (List File)) → slotsAfter ds ≡ x
+        → foundIn img (afterFiles ds x) ≡ (tablesWithFiles img (walkedTables ds) x >>= (λ t. mapAfter ds t))
     unfolding foundIn tablesWithFiles ownerTable endTable
     files-found (refused f) e = refl
     files-found (done fs) e =
@@ -101,25 +102,30 @@ module _ (img : Bytes) where
   unfolding checkDisk checkDirectory foundIn
   disk-found = go (checkDirectory layout35 (disk img)) refl
     where
-      go : (w : Result (List Address)) → checkDirectory layout35 (disk img) ≡ w → foundIn img (w >>= (λ ds. afterFiles ds (slotsFromClaims ds))) ≡ (w >>= (λ ds. afterDirectory ds))
+      go : (w : Result (List Address)) → checkDirectory layout35 (disk img) ≡ w
+          → foundIn img (w >>= (λ ds. afterFiles ds (slotsFromClaims ds))) ≡ (w >>= (λ ds. afterDirectory ds))
       go (refused f) e = refl
       go (done ds) e =
           slots-found ds
-          (walk-lt layout35 (directoryLink layout35) (disk img) (directoryLink-on layout35) (steps layout35) (sectorNumber layout35 mapAddress ∷ []) mapAddress 255 (to directoryStart) ds
+          (walk-lt layout35 (directoryLink layout35) (disk img) (directoryLink-on layout35) (steps layout35)
+          (sectorNumber layout35 mapAddress ∷ []) mapAddress 255 (to directoryStart) ds
           (valid35 .directory) e)
 
   -- the rest by slot numbers
   rest-found : (ss : List ℕ) (n : ℕ) → All (λ s. s < 19) ss → n ≤ length ss
-      → afterDirectory (sectorsOf ss n) ≡ (restStep img (walkedTables (sectorsOf ss n)) ss n >>= (λ t. done (record { directory = sectorsOf ss n; tables = t })))
+      → afterDirectory (sectorsOf ss n)
+      ≡ (restStep img (walkedTables (sectorsOf ss n)) ss n >>= (λ t. done (record { directory = sectorsOf ss n; tables = t })))
   unfolding restStep slotsStep
   rest-found ss n inside whole =
       let ds : List Address = sectorsOf ss n in
       let own : List ℕ = directoryTable layout35 ds in
-      ap (λ (l : List Slot). tablesWithFiles img (walkedTables ds) (checkSlots layout35 (disk img) (owned own) [] l) >>= (λ t. mapAfter ds t)) (occupied-by-track18 img ss n inside whole)
+      ap (λ (l : List Slot). tablesWithFiles img (walkedTables ds) (checkSlots layout35 (disk img) (owned own) [] l) >>= (λ t. mapAfter ds t))
+      (occupied-by-track18 img ss n inside whole)
       ∙ regroup (tablesWithFiles img (walkedTables ds) (checkSlots layout35 (disk img) (owned own) [] (imageOccupied img ss 0 (8 * n))))
       (λ t. mapVerdict (disk img (sectorNumber layout35 mapAddress)) (t .owners)) (λ t. record { directory = ds; tables = t })
     where
-      regroup : (x : Result Tables) (m : Tables → Result (Unit {0})) (f : Tables → Found) → (x >>= (λ o. m o >> done (f o))) ≡ ((x >>= (λ o. m o >> done o)) >>= (λ o. done (f o)))
+      regroup : (x : Result Tables) (m : Tables → Result (Unit {0})) (f : Tables → Found)
+          → (x >>= (λ o. m o >> done (f o))) ≡ ((x >>= (λ o. m o >> done o)) >>= (λ o. done (f o)))
       regroup (refused g) m f = refl
       regroup (done o) m f = go (m o)
         where
@@ -136,7 +142,8 @@ module _ (img : Bytes) (t : Tables) (ss : List ℕ) (n : ℕ) (t′ : Tables) wh
   slots-refused f e = ap (λ (x : Result Tables). x >>= (λ o. mapVerdict (disk img (sectorNumber layout35 mapAddress)) (o .owners) >> done o)) e
 
   -- no fault there: the map decides
-  pub slots-fine : (v : Verdict) (m : Bytes) → whereFine Fine t′ ≡ slotsStep img t ss 0 (8 * n) → verdictOf v ≡ mapVerdict m (t′ .owners) → m ≡ take 256 (drop 91392 img) → whereFine v t′ ≡ restStep img t ss n
+  pub slots-fine : (v : Verdict) (m : Bytes) → whereFine Fine t′ ≡ slotsStep img t ss 0 (8 * n) → verdictOf v ≡ mapVerdict m (t′ .owners)
+      → m ≡ take 256 (drop 91392 img) → whereFine v t′ ≡ restStep img t ss n
   unfolding whereFine restStep verdictOf
   slots-fine v m e decides sector =
       given v
@@ -154,7 +161,8 @@ zeros-inside zero = tt
 zeros-inside (suc n) = (omega arith, zeros-inside n)
 
 -- a fault of the definition, handed back with no sector, no owner and no end
-pub checked-refused : {img : Bytes} {f : code.Fault} {r : Checked} → r ≡ record { verdict = Refused f; sectors = zeros 18; count = 0; owners = zeros 683; ends = zeros 144 }
+pub checked-refused : {img : Bytes} {f : code.Fault} {r : Checked}
+    → r ≡ record { verdict = Refused f; sectors = zeros 18; count = 0; owners = zeros 683; ends = zeros 144 }
     → foundIn img (checkImage layout35 img) ≡ refused (faultOf f) → ImageChecked img r
 unfolding whereFine directoryCount tablesFound
 checked-refused e h = rw e (record {
@@ -210,7 +218,11 @@ module _ (img : Bytes) {d : Directory} (size : length img ≡ 174848) (read : Di
     -- what steps 3 and 4 ask
     pub directory-ready : SlotsReady img (tables (d .owners) (zeros 144)) (d .sectors) (d .count) (d .repeated)
     directory-ready = record {
-      sized = record { size = size; long = ap length (directory-fine .owners) ∙ length-directoryTable layout35 (sectorsOf (d .sectors) (d .count)) ∙ sectors35; room = refl };
+      sized = record {
+        size = size;
+        long = ap length (directory-fine .owners) ∙ length-directoryTable layout35 (sectorsOf (d .sectors) (d .count)) ∙ sectors35;
+        room = refl;
+      };
       inside = read .inside;
       few = read .few;
       first = read .repeated ∙ ap (λ (b : Bytes). firstRepeated b (d .sectors) 0 (8 * d .count)) (track18-lent img);
@@ -236,7 +248,9 @@ module _ (img : Bytes) {d : Directory} (size : length img ≡ 174848) (read : Di
           ∙ sym (rest-found img (d .sectors) (d .count) (read .inside) (w .whole))
           ∙ sym (size-right ∙ rw (w .walked))
         where
-          at-directory : (v : Verdict) → whereFine {A = Found} v given ≡ (whereFine v (tables own ends) >>= (λ t. done (record { directory = sectorsOf (d .sectors) (d .count); tables = t })))
+          at-directory : (v : Verdict)
+              → whereFine {A = Found} v given
+              ≡ (whereFine v (tables own ends) >>= (λ t. done (record { directory = sectorsOf (d .sectors) (d .count); tables = t })))
           at-directory Fine = refl
           at-directory (Refused f) = refl
 

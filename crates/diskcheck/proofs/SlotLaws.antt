@@ -39,8 +39,10 @@ counted : Bytes → ℕ → List ℕ → ℕ → Fault → Result Claimed → Re
 counted img number ends n f r =
     r >>= (λ c. need (eqb n (c .count)) f >> done (tables (c .table) (set ends number (byte (disk img (sectorNumber layout35 (c .last))) 1))))
 
-counted-claimed : (img : Bytes) (number : ℕ) (t : Tables) (n : ℕ) (f : Fault) (holder : Address) (w : Result (List Address)) → ((l : List Address) → w ≡ done l → LastSector img holder l)
-    → counted img number (t .ends) n f (claimed (fileOwner number) (t .owners) holder w) ≡ tablesWith img number t (w >>= (λ l. need (eqb n (length l)) f >> done l))
+counted-claimed : (img : Bytes) (number : ℕ) (t : Tables) (n : ℕ) (f : Fault) (holder : Address) (w : Result (List Address))
+    → ((l : List Address) → w ≡ done l → LastSector img holder l)
+    → counted img number (t .ends) n f (claimed (fileOwner number) (t .owners) holder w)
+    ≡ tablesWith img number t (w >>= (λ l. need (eqb n (length l)) f >> done l))
 unfolding counted claimed tablesWith
 counted-claimed img number t n f holder (refused g) last = refl
 counted-claimed img number t n f holder (done l) last = go (eqb n (length l))
@@ -48,7 +50,9 @@ counted-claimed img number t n f holder (done l) last = go (eqb n (length l))
     owners : List ℕ
     owners = withOwner (fileOwner number) (map (sectorNumber layout35) l) (t .owners)
 
-    go : (b : Bool) → (need b f >> done (tables owners (set (t .ends) number (byte (disk img (sectorNumber layout35 (lastOf holder l))) 1)))) ≡ tablesWith img number t (need b f >> done l)
+    go : (b : Bool)
+        → (need b f >> done (tables owners (set (t .ends) number (byte (disk img (sectorNumber layout35 (lastOf holder l))) 1))))
+        ≡ tablesWith img number t (need b f >> done l)
     go true = ap (λ (e : ℕ). done (tables owners (set (t .ends) number e))) (last l refl .end)
     go false = refl
 
@@ -61,18 +65,21 @@ abbrev Claims : Bytes → List ℕ → List ℕ → Bytes → Place → Claim �
 Claims img own own′ b at c = claimOf c own′ ≡ claimed (fileOwner (at .slot)) own (sectorOf at) (walked img own b at)
 
 -- a chain that ends does so in a sector of the disk
-pub file-last : (img own own′ b : List ℕ) (at : Place) (n : ℕ) (last : CodeAddress) → Claims img own own′ b at (claim.Ended n last) → onDisk layout35 (addressOf last) ≡ true
+pub file-last : (img own own′ b : List ℕ) (at : Place) (n : ℕ) (last : CodeAddress) → Claims img own own′ b at (claim.Ended n last)
+    → onDisk layout35 (addressOf last) ≡ true
 unfolding claimOf claimed
 file-last img own own′ b at n last ended = go (walked img own b at) refl ended
   where
-    go : (w : Result (List Address)) → walked img own b at ≡ w → claimOf (claim.Ended n last) own′ ≡ claimed (fileOwner (at .slot)) own (sectorOf at) w → onDisk layout35 (addressOf last) ≡ true
+    go : (w : Result (List Address)) → walked img own b at ≡ w
+        → claimOf (claim.Ended n last) own′ ≡ claimed (fileOwner (at .slot)) own (sectorOf at) w → onDisk layout35 (addressOf last) ≡ true
     go (refused f) is e = refused≢done f _ (sym e)
     go (done l) is e =
         let same : addressOf last ≡ lastOf (sectorOf at) l = ap (λ (c : Claimed). c .last) (done-inj e) in
         rw same (walk-last img own (sectorOf at) (at .slot) (entryByte b 0x03) (entryByte b 0x04) l is .on)
 
 module _ (img : Bytes) (t : Tables) (own′ b : List ℕ) (at : Place) where
-  file-counted : (c : Claim) → Claims img (t .owners) own′ b at c → counted img (at .slot) (t .ends) (countOf b) (wrongCount (sectorOf at) (at .slot)) (claimOf c own′) ≡ fileStep img t b (sectorOf at) (at .slot)
+  file-counted : (c : Claim) → Claims img (t .owners) own′ b at c
+      → counted img (at .slot) (t .ends) (countOf b) (wrongCount (sectorOf at) (at .slot)) (claimOf c own′) ≡ fileStep img t b (sectorOf at) (at .slot)
   unfolding fileStep checkChain
   file-counted c e =
       ap (counted img (at .slot) (t .ends) (countOf b) (wrongCount (sectorOf at) (at .slot))) e
@@ -80,7 +87,8 @@ module _ (img : Bytes) (t : Tables) (own′ b : List ℕ) (at : Place) where
       (walk-last img (t .owners) (sectorOf at) (at .slot) (entryByte b 0x03) (entryByte b 0x04))
 
   -- a refused chain is the file's fault
-  pub file-refused : (ends′ : List ℕ) (f : code.Fault) → Claims img (t .owners) own′ b at (claim.Refused f) → whereFine (Refused f) (tables own′ ends′) ≡ fileStep img t b (sectorOf at) (at .slot)
+  pub file-refused : (ends′ : List ℕ) (f : code.Fault) → Claims img (t .owners) own′ b at (claim.Refused f)
+      → whereFine (Refused f) (tables own′ ends′) ≡ fileStep img t b (sectorOf at) (at .slot)
   unfolding claimOf whereFine counted
   file-refused ends′ f e = file-counted (claim.Refused f) e
 
@@ -92,7 +100,8 @@ module _ (img : Bytes) (t : Tables) (own′ b : List ℕ) (at : Place) where
     file-fine same is number = rw (is, number) (sym (rw (eq-eqb (countOf b) n same)) ∙ file-counted (claim.Ended n last) ended)
 
     -- or not
-    pub file-miscounted : (ends′ : List ℕ) → (countOf b ≡ n → ⊥) → whereFine (Refused (WrongCount at)) (tables own′ ends′) ≡ fileStep img t b (sectorOf at) (at .slot)
+    pub file-miscounted : (ends′ : List ℕ) → (countOf b ≡ n → ⊥)
+        → whereFine (Refused (WrongCount at)) (tables own′ ends′) ≡ fileStep img t b (sectorOf at) (at .slot)
     unfolding claimOf whereFine counted faultOf
     file-miscounted ends′ other = sym (rw (ne-eqb (countOf b) n other)) ∙ file-counted (claim.Ended n last) ended
 
@@ -100,7 +109,8 @@ module _ (img : Bytes) (t : Tables) (own′ b : List ℕ) (at : Place) where
 
 module _ (img : Bytes) (t t′ : Tables) (b : Bytes) (holder : Address) (number : ℕ) (repeated : Bool) where
   -- a refused entry
-  pub occupied-refused : (f : code.Fault) → verdictOf (Refused f) ≡ entryVerdict b holder number repeated → whereFine (Refused f) t′ ≡ occupiedStep img t b holder number repeated
+  pub occupied-refused : (f : code.Fault) → verdictOf (Refused f) ≡ entryVerdict b holder number repeated
+      → whereFine (Refused f) t′ ≡ occupiedStep img t b holder number repeated
   unfolding verdictOf whereFine occupiedStep
   occupied-refused f e = ap (λ (v : Result (Unit {0})). v >> fileStep img t b holder number) e
 
@@ -116,7 +126,8 @@ module _ (img : Bytes) (t t′ : Tables) (b : Bytes) (holder : Address) (number 
 abbrev holderOf : List ℕ → ℕ → Address
 holderOf ss k = address 18 (getD ss (k / 8) 0)
 
-tablesWith-then : (img : Bytes) (number : ℕ) (t : Tables) (x : Result (Unit {0})) (y : Result (List Address)) → tablesWith img number t (x >> y) ≡ (x >> tablesWith img number t y)
+tablesWith-then : (img : Bytes) (number : ℕ) (t : Tables) (x : Result (Unit {0})) (y : Result (List Address))
+    → tablesWith img number t (x >> y) ≡ (x >> tablesWith img number t y)
 unfolding tablesWith
 tablesWith-then img number t (refused f) y = refl
 tablesWith-then img number t (done u) y = refl
@@ -135,6 +146,8 @@ module _ (img : Bytes) (t : Tables) (ss b : List ℕ) (k repeated : ℕ) (ready 
       let own : List ℕ = t .owners in
       let e : isEmpty (s .bytes) ≡ false = ne-eqb _ _ (λ z. occupied (ap (λ (x : Bytes). getD x 0 0) is ∙ z)) in
       sym (rw e (tablesWith-then img k t (checkEntry (imageNames img ss k) s) (checkChain img own (s .bytes) (s .holder) (s .number))
-      ∙ ap (λ (v : Result (Unit {0})). v >> tablesWith img k t (checkChain img own (s .bytes) (s .holder) (s .number))) (entry-verdict (imageNames img ss k) s (eqb k repeated) (ready .name e))
-      ∙ ap (λ (n : ℕ). entryVerdict (s .bytes) (s .holder) n (eqb k repeated) >> tablesWith img k t (checkChain img own (s .bytes) (s .holder) n)) (number-at _ ss k)
+      ∙ ap (λ (v : Result (Unit {0})). v >> tablesWith img k t (checkChain img own (s .bytes) (s .holder) (s .number)))
+      (entry-verdict (imageNames img ss k) s (eqb k repeated) (ready .name e))
+      ∙ ap (λ (n : ℕ). entryVerdict (s .bytes) (s .holder) n (eqb k repeated) >> tablesWith img k t (checkChain img own (s .bytes) (s .holder) n))
+      (number-at _ ss k)
       ∙ ap₂ (λ (x : Bytes) (r : Address). entryVerdict x r k (eqb k repeated) >> fileStep img t x r k) (sym is) (holder-at _ ss k)))

@@ -30,7 +30,8 @@ use Rattle.directory.specs.Directories.{firstRepeated, occupiedFrom}
 use Rattle.directory.proofs.EntryLaws.{number-at}
 use Rattle.directory.proofs.RepeatLaws.{ValidBelow, new-name, past-empty}
 use Rattle.diskcheck.specs.EndTable.{endOf}
-use Rattle.diskcheck.specs.SlotChecks.{imageSlot, imageNames, imageOccupied, Tables, tables, tablesWith, slotStep, tablesWithFiles, slotsStep, Sized, SlotReady, SlotsReady}
+use Rattle.diskcheck.specs.SlotChecks.{imageSlot, imageNames, imageOccupied, Tables, tables, tablesWith, slotStep, tablesWithFiles, slotsStep}
+use Rattle.diskcheck.specs.SlotChecks.{Sized, SlotReady, SlotsReady}
 
 -- ---- slot by slot
 
@@ -42,7 +43,8 @@ tablesWithFiles-next img t s c (refused f) = refl
 tablesWithFiles-next img t s c (done fs) = refl
 
 -- SLOT BY SLOT: the check of the slots from k on is slot k, then the rest with the tables after it
-pub slots-next : (img : Bytes) (t : Tables) (ss : List ℕ) (k n : ℕ) → length (t .owners) ≡ 683 → slotsStep img t ss k (suc n) ≡ (slotStep img t ss k >>= (λ t′. slotsStep img t′ ss (suc k) n))
+pub slots-next : (img : Bytes) (t : Tables) (ss : List ℕ) (k n : ℕ) → length (t .owners) ≡ 683
+    → slotsStep img t ss k (suc n) ≡ (slotStep img t ss k >>= (λ t′. slotsStep img t′ ss (suc k) n))
 unfolding slotsStep slotStep tablesWithFiles tablesWith occupiedFrom
 slots-next img t ss k n long = go (isEmpty (s .bytes)) refl
   where
@@ -68,16 +70,21 @@ slots-next img t ss k n long = go (isEmpty (s .bytes)) refl
     after (done c) e =
         let l : List ℕ = map (sectorNumber layout35) c in
         let own′ : List ℕ = withOwner (fileOwner k) l own in
-        let inside : All (λ x. x < length own) l = subst (λ (m : ℕ). All (λ x. x < m) l) (sectors35 ∙ sym long) (slot-lt layout35 (disk img) (owned own) (imageNames img ss k) s c e) in
+        let inside : All (λ x. x < length own) l
+        = subst (λ (m : ℕ). All (λ x. x < m) l) (sectors35 ∙ sym long) (slot-lt layout35 (disk img) (owned own) (imageNames img ss k) s c e) in
         tablesWithFiles-next img t s c (later (l ++ owned own))
-        ∙ ap (λ (i : ℕ). tablesWithFiles img (tables (withOwner (fileOwner i) l own) (set (t .ends) i (endOf img c))) (later (l ++ owned own))) (number-at _ ss k)
+        ∙ ap (λ (i : ℕ). tablesWithFiles img (tables (withOwner (fileOwner i) l own) (set (t .ends) i (endOf img c))) (later (l ++ owned own)))
+        (number-at _ ss k)
         ∙ ap (tablesWithFiles img (tables own′ (set (t .ends) k (endOf img c))))
-        (slots-alike layout35 (disk img) (l ++ owned own) (owned own′) names (imageOccupied img ss (suc k) n) (alike-withOwner (fileOwner k) (omega arith) l own inside))
+        (slots-alike layout35 (disk img) (l ++ owned own) (owned own′) names (imageOccupied img ss (suc k) n)
+        (alike-withOwner (fileOwner k) (omega arith) l own inside))
 
     go : (b : Bool) → isEmpty (s .bytes) ≡ b
-        → tablesWithFiles img t (checkSlots layout35 (disk img) (owned own) (imageNames img ss k) (cond (not (isEmpty (s .bytes))) (s ∷ imageOccupied img ss (suc k) n) (imageOccupied img ss (suc k) n)))
+        → tablesWithFiles img t (checkSlots layout35 (disk img) (owned own) (imageNames img ss k)
+        (cond (not (isEmpty (s .bytes))) (s ∷ imageOccupied img ss (suc k) n) (imageOccupied img ss (suc k) n)))
         ≡ (cond (isEmpty (s .bytes)) (done t) (tablesWith img k t chain)
-        >>= (λ t′. tablesWithFiles img t′ (checkSlots layout35 (disk img) (owned (t′ .owners)) (cond (isEmpty (s .bytes)) (imageNames img ss k) names) (imageOccupied img ss (suc k) n))))
+        >>= (λ t′. tablesWithFiles img t′ (checkSlots layout35 (disk img) (owned (t′ .owners))
+        (cond (isEmpty (s .bytes)) (imageNames img ss k) names) (imageOccupied img ss (suc k) n))))
     go true e = rw e
     go false e = rw e (after chain refl)
 
@@ -100,7 +107,8 @@ passed img t t′ ss k e = go (isEmpty (imageSlot img ss k .bytes)) refl chain r
     chain : Result (List Address)
     chain = checkSlot layout35 (disk img) (owned (t .owners)) (imageNames img ss k) (imageSlot img ss k)
 
-    go : (b : Bool) → isEmpty (imageSlot img ss k .bytes) ≡ b → (x : Result (List Address)) → chain ≡ x → cond b (done t) (tablesWith img k t x) ≡ done t′ → Passed img t t′ ss k
+    go : (b : Bool) → isEmpty (imageSlot img ss k .bytes) ≡ b → (x : Result (List Address)) → chain ≡ x
+        → cond b (done t) (tablesWith img k t x) ≡ done t′ → Passed img t t′ ss k
     go true z x s h = rw (← (done-inj h)) (record { long = refl; room = refl; entry = λ f. let z : _≡_ {A = ℕ} 0 1 = cc in absurd (omega arith) })
     go false z (refused f) s h = refused≢done f t′ h
     go false z (done l) s h =
@@ -124,7 +132,13 @@ pub record Checking (img : Bytes) (t₀ : Tables) (ss : List ℕ) (count : ℕ) 
 pub checking-start : (img : Bytes) (t : Tables) (ss : List ℕ) (count repeated : ℕ) → SlotsReady img t ss count repeated → Checking img t ss count t 0
 checking-start img t ss count repeated r =
     let all : 8 * count - 0 ≡ 8 * count = omega arith in
-    record { within = omega arith; sized = r .sized; new = omega arith; valid = λ i h. let z : ⊥ = omega arith in absurd z; same = ap (slotsStep img t ss 0) all }
+    record {
+      within = omega arith;
+      sized = r .sized;
+      new = omega arith;
+      valid = λ i h. let z : ⊥ = omega arith in absurd z;
+      same = ap (slotsStep img t ss 0) all;
+    }
 
 module _ (img : Bytes) (t₀ : Tables) (ss : List ℕ) (count : ℕ) (t : Tables) (k : ℕ) (c : Checking img t₀ ss count t k) where
   pub checking-slot : (repeated : ℕ) → SlotsReady img t₀ ss count repeated → k < 8 * count → SlotReady img t ss k repeated
@@ -134,7 +148,8 @@ module _ (img : Bytes) (t₀ : Tables) (ss : List ℕ) (count : ℕ) (t : Tables
         sized = c .sized;
         inside = r .inside;
         within = omega arith;
-        name = λ occupied name. new-name (bytesOfTrack18 layout35 img) ss (8 * count) k h (c .new) occupied name (c .valid) ∙ ap (λ (n : ℕ). not (eqb k n)) (sym (r .first));
+        name = λ occupied name. new-name (bytesOfTrack18 layout35 img) ss (8 * count) k h (c .new) occupied name (c .valid)
+            ∙ ap (λ (n : ℕ). not (eqb k n)) (sym (r .first));
       }
 
   module _ (h : k < 8 * count) (v : Verdict) (t′ : Tables) (e : whereFine v t′ ≡ slotStep img t ss k) where

@@ -39,7 +39,8 @@ tablesFound (done f) = f .tables
 
 -- what the check of any bytes gives: steps 1 to 4
 pub record ImageChecked (img : Bytes) (r : Checked) : Type 0 where
-  pub told : whereFine (r .verdict) (record { directory = sectorsOf (r .sectors) (r .count); tables = tables (r .owners) (r .ends) }) ≡ foundIn img (checkImage layout35 img)
+  pub told : whereFine (r .verdict) (record { directory = sectorsOf (r .sectors) (r .count); tables = tables (r .owners) (r .ends) })
+      ≡ foundIn img (checkImage layout35 img)
   pub count : r .count ≡ directoryCount (foundIn img (checkImage layout35 img))
   pub owners : r .owners ≡ tablesFound (foundIn img (checkImage layout35 img)) .owners
   pub ends : r .ends ≡ tablesFound (foundIn img (checkImage layout35 img)) .ends

@@ -1,5 +1,6 @@
 -- Step 3 of the check by slot numbers, with the tables that it fills in (01, Order of the check, 3).
--- In order: slots by number; the tables; a file's chain and count; an occupied slot; any slot; all slots; what the steps rely on. Laws: proofs/SlotLaws, SlotsLaws.
+-- In order: slots by number; the tables; a file's chain and count; an occupied slot; any slot; all slots; what the steps rely on.
+-- Laws: proofs/SlotLaws, SlotsLaws.
 use Prim.Native.Nat.{ℕ, _*_, _≤_, _<_}
 use mathlib.Core.Path.{_≡_}
 use mathlib.Core.Bool.{Bool, true, false, cond, not}

@@ -59,7 +59,9 @@ pub(crate) fn claim_chain(
     firsts: &[u16; 35],
 ) -> Claim
     requires { ⌜ Ready (now img) (now own) id × IsCounts (now counts) × IsFirsts (now firsts) ⌝ }
-    ensures { λ r. ⌜ claimOf r (now (own .exit)) ≡ claimed id (now (own .entry)) (addressOf from) (chainWalk (now (img .entry)) (now (own .entry)) (addressOf from) slot (first .track) (first .sector)) ⌝ }
+    ensures { λ r. ⌜ claimOf r (now (own .exit))
+        ≡ claimed id (now (own .entry)) (addressOf from)
+        (chainWalk (now (img .entry)) (now (own .entry)) (addressOf from) slot (first .track) (first .sector)) ⌝ }
 {
     let mut holder = from;
     let mut track = first.track;

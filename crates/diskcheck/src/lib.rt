@@ -48,7 +48,8 @@ fn check_rest(
     repeated: usize,
 ) -> Verdict
     requires { ⌜ SlotsReady (now img) (tables (now own) (now ends)) (now sectors) count repeated ⌝ }
-    ensures { λ r. ⌜ whereFine r (tables (now (own .exit)) (now (ends .exit))) ≡ restStep (now (img .entry)) (tables (now (own .entry)) (now (ends .entry))) (now (sectors .entry)) count ⌝ }
+    ensures { λ r. ⌜ whereFine r (tables (now (own .exit)) (now (ends .exit)))
+        ≡ restStep (now (img .entry)) (tables (now (own .entry)) (now (ends .entry))) (now (sectors .entry)) count ⌝ }
 {
     let verdict = slots::check_slots(img, own, ends, sectors, count, repeated);
     match verdict {

@@ -7,6 +7,8 @@ ghost use Rattle.answers.specs.Faults.{sectorOf, whereFine};
 ghost use Rattle.geometry.specs.Layout.{IsCounts, IsFirsts};
 ghost use Rattle.diskcheck.specs.SlotChecks.{tables, FileReady, fileStep, occupiedStep, LentSlot, SlotReady, slotStep, SlotsReady, slotsStep};
 use crate::chain::Claim;
+use crate::chain::claim_chain;
+use crate::chain::end_in;
 use answers::Fault;
 use answers::Place;
 use answers::Verdict;
@@ -23,7 +25,8 @@ fn check_file(
     firsts: &[u16; 35],
 ) -> Verdict
     requires { ⌜ FileReady (now img) (tables (now own) (now ends)) (now slot) (at .slot) × IsCounts (now counts) × IsFirsts (now firsts) ⌝ }
-    ensures { λ r. ⌜ whereFine r (tables (now (own .exit)) (now (ends .exit))) ≡ fileStep (now (img .entry)) (tables (now (own .entry)) (now (ends .entry))) (now (slot .entry)) (sectorOf at) (at .slot) ⌝ }
+    ensures { λ r. ⌜ whereFine r (tables (now (own .exit)) (now (ends .exit)))
+        ≡ fileStep (now (img .entry)) (tables (now (own .entry)) (now (ends .entry))) (now (slot .entry)) (sectorOf at) (at .slot) ⌝ }
 {
     let first = Address {
         track: slot[1],
@@ -33,22 +36,13 @@ fn check_file(
         track: at.track,
         sector: at.sector,
     };
-    let claim = crate::chain::claim_chain(
-        img,
-        own,
-        at.slot + 3,
-        at.slot,
-        from,
-        first,
-        counts,
-        firsts,
-    );
+    let claim = claim_chain(img, own, at.slot + 3, at.slot, from, first, counts, firsts);
     match claim {
         Claim::Refused(fault) => Verdict::Refused(fault),
         Claim::Ended(count, last) => {
             if count == entry::sector_count(slot) as usize {
                 let k = at.slot as usize;
-                ends[k] = crate::chain::end_in(img, last, firsts);
+                ends[k] = end_in(img, last, firsts);
                 Verdict::Fine
             } else {
                 Verdict::Refused(Fault::WrongCount(at))
@@ -69,7 +63,8 @@ fn check_occupied(
     firsts: &[u16; 35],
 ) -> Verdict
     requires { ⌜ FileReady (now img) (tables (now own) (now ends)) (now slot) (at .slot) × IsCounts (now counts) × IsFirsts (now firsts) ⌝ }
-    ensures { λ r. ⌜ whereFine r (tables (now (own .exit)) (now (ends .exit))) ≡ occupiedStep (now (img .entry)) (tables (now (own .entry)) (now (ends .entry))) (now (slot .entry)) (sectorOf at) (at .slot) repeated ⌝ }
+    ensures { λ r. ⌜ whereFine r (tables (now (own .exit)) (now (ends .exit)))
+        ≡ occupiedStep (now (img .entry)) (tables (now (own .entry)) (now (ends .entry))) (now (slot .entry)) (sectorOf at) (at .slot) repeated ⌝ }
 {
     let entry = directory::check_entry(slot, at, repeated);
     match entry {
@@ -98,7 +93,8 @@ fn check_slot(
     firsts: &[u16; 35],
 ) -> Verdict
     requires { ⌜ SlotReady (now img) (tables (now own) (now ends)) (now sectors) k repeated × IsCounts (now counts) × IsFirsts (now firsts) ⌝ }
-    ensures { λ r. ⌜ whereFine r (tables (now (own .exit)) (now (ends .exit))) ≡ slotStep (now (img .entry)) (tables (now (own .entry)) (now (ends .entry))) (now (sectors .entry)) k ⌝ }
+    ensures { λ r. ⌜ whereFine r (tables (now (own .exit)) (now (ends .exit)))
+        ≡ slotStep (now (img .entry)) (tables (now (own .entry)) (now (ends .entry))) (now (sectors .entry)) k ⌝ }
 {
     let slot = slot_of(img, sectors, k);
     if slot[0] == 0 {
@@ -125,7 +121,8 @@ fn check_all(
     firsts: &[u16; 35],
 ) -> Verdict
     requires { ⌜ SlotsReady (now img) (tables (now own) (now ends)) (now sectors) count repeated × IsCounts (now counts) × IsFirsts (now firsts) ⌝ }
-    ensures { λ r. ⌜ whereFine r (tables (now (own .exit)) (now (ends .exit))) ≡ slotsStep (now (img .entry)) (tables (now (own .entry)) (now (ends .entry))) (now (sectors .entry)) 0 (8 * count) ⌝ }
+    ensures { λ r. ⌜ whereFine r (tables (now (own .exit)) (now (ends .exit)))
+        ≡ slotsStep (now (img .entry)) (tables (now (own .entry)) (now (ends .entry))) (now (sectors .entry)) 0 (8 * count) ⌝ }
 {
     let end = 8 * count;
     let mut k: usize = 0;
@@ -152,7 +149,8 @@ pub(crate) fn check_slots(
     repeated: usize,
 ) -> Verdict
     requires { ⌜ SlotsReady (now img) (tables (now own) (now ends)) (now sectors) count repeated ⌝ }
-    ensures { λ r. ⌜ whereFine r (tables (now (own .exit)) (now (ends .exit))) ≡ slotsStep (now (img .entry)) (tables (now (own .entry)) (now (ends .entry))) (now (sectors .entry)) 0 (8 * count) ⌝ }
+    ensures { λ r. ⌜ whereFine r (tables (now (own .exit)) (now (ends .exit)))
+        ≡ slotsStep (now (img .entry)) (tables (now (own .entry)) (now (ends .entry))) (now (sectors .entry)) 0 (8 * count) ⌝ }
 {
     check_all(
         img,

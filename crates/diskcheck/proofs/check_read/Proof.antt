@@ -44,7 +44,8 @@ returns-2 c =
     let t = r .before .before .before .before .before .before in
     let e = t .before .before .before in
     let p = e .pre in
-    checked-refused (c .refuse2 .ensures) (rest-refused (e .args .img .now) (p .0) (p .1) (t .enum-told .given .1) _ _ _ (rw (v .rest .given .1) at (r .check-rest .ensures)))
+    checked-refused (c .refuse2 .ensures) (rest-refused (e .args .img .now) (p .0) (p .1) (t .enum-told .given .1) _ _ _
+    (rw (v .rest .given .1) at (r .check-rest .ensures)))
 
 returns-3 : tie.Need-returns-3
 returns-3 c =

@@ -12,7 +12,8 @@ use Rattle.diskcheck.proofs.chain.claim_chain.Statement.{statement}
 use Rattle.diskcheck.proofs.chain.claim_chain.Tie as tie
 
 abbrev Inv-loop : tie.InvT-loop
-Inv-loop img own₀ id slot counts firsts holder₀ track₀ sector₀ count₀ own holder track sector count = Claims img id slot (chainClaim img own₀ id slot holder₀ track₀ sector₀) own holder track sector count
+Inv-loop img own₀ id slot counts firsts holder₀ track₀ sector₀ count₀ own holder track sector count =
+    Claims img id slot (chainClaim img own₀ id slot holder₀ track₀ sector₀) own holder track sector count
 
 abbrev μ-loop : tie.MeasureT-loop
 μ-loop img own₀ id slot counts firsts holder₀ track₀ sector₀ count₀ own holder track sector count = freeCount own
@@ -29,7 +30,8 @@ claim-off-requires c κs = search needs
 returns : tie.Need-returns Inv-loop μ-loop
 returns c =
     let o = c .before .before in
-    claims-off (o .before .loop .inv) (c .claim-off .ensures) refl (o .before .before .before .pre .1) (sym (o .on-disk-by .ensures) ∙ not-true _ (c .before .if1 .taken))
+    claims-off (o .before .loop .inv) (c .claim-off .ensures) refl (o .before .before .before .pre .1)
+    (sym (o .on-disk-by .ensures) ∙ not-true _ (c .before .if1 .taken))
 
 number-by-requires : tie.Need-number-by-requires Inv-loop μ-loop
 number-by-requires c κs = search needs
@@ -48,7 +50,9 @@ place-of-requires : tie.Need-place-of-requires Inv-loop μ-loop
 place-of-requires c κs = search needs
 
 returns-2 : tie.Need-returns-2 Inv-loop μ-loop
-returns-2 c = let n = c .before .before .before in claims-owned (n .before .before .before .loop .inv) (on-disk n) (c .place-of .ensures) (c .before .if2 .taken)
+returns-2 c =
+    let n = c .before .before .before in
+    claims-owned (n .before .before .before .loop .inv) (on-disk n) (c .place-of .ensures) (c .before .if2 .taken)
 
 element-write-own : tie.Need-element-write-own Inv-loop μ-loop
 element-write-own c = let r = on-disk (c .before .before) in omega arith
@@ -85,7 +89,8 @@ moved : (c : tie.Else2 Inv-loop μ-loop)
     → let n = c .before .before in
     let l = n .before .before .before in
     let a = l .before .before .args in
-    Moved (a .img .now) (a .id) (a .slot) (chainClaim (a .img .now) (a .own .now) (a .id) (a .slot) (a .from) (a .first .track) (a .first .sector)) (l .loop .own) (l .loop .track) (l .loop .sector) (n .number-by .result)
+    Moved (a .img .now) (a .id) (a .slot) (chainClaim (a .img .now) (a .own .now) (a .id) (a .slot) (a .from) (a .first .track) (a .first .sector))
+    (l .loop .own) (l .loop .track) (l .loop .sector) (n .number-by .result)
     (take (256 * n .number-by .result + 256 - 256 * n .number-by .result) (drop (256 * n .number-by .result) (a .img .now))) (l .loop .count)
 moved c =
     let n = c .before .before in

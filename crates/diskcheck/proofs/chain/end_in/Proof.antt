@@ -1,6 +1,6 @@
 -- `diskcheck::chain::end_in` meets its contract: the sector is lent whole, and its second byte is handed back.
 use native.Mathlib.Omega.{arith}
-use mathlib.Core.Path.{ap, ap₂, _∙_}
+use mathlib.Core.Path.{ap, _∙_}
 use borrow.Author.Needs.{needs}
 use Rattle.d64spec.specs.Lists.{Bytes, byte}
 use Rattle.d64spec.specs.Image.{disk}
