@@ -1,25 +1,26 @@
 -- A file's chain under way: claimed sector by sector in the owner table.
 -- In order: the links on the way; the outcome of a claim that has passed some sectors; the invariant, its start, its ends and its step.
-use Prim.Native.Nat.{ℕ, zero, suc, _+_, _*_, _≤_, _<_}
+use Prim.Native.Nat.{ℕ, zero, suc, _+_, _*_, _-_, _≤_, _<_}
 use native.Mathlib.Omega.{arith}
-use mathlib.Core.Path.{_≡_, refl, sym, ap, ap₂, _∙_}
+use native.Mathlib.Nat.{add-sub-cancel-left}
+use mathlib.Core.Path.{_≡_, refl, sym, ap, _∙_}
 use mathlib.Core.Bool.{Bool, true, false, cond, _&&_}
 use mathlib.Core.List.{List, _∷_, map}
-use lib.ListN.{length, getD, set, length-set}
+use lib.ListN.{length, take, drop, getD, set, length-set}
 use lib.Dec.{eqb, ltb}
 use borrow.Author.Tests.{eq-eqb, ne-eqb, lt-ltb, le-ltb}
-use Rattle.d64spec.specs.Lists.{Bytes}
+use Rattle.d64spec.specs.Lists.{Bytes, byte}
 use Rattle.d64spec.specs.Answers.{Address, address, Result, refused, done, _>>=_}
-use Rattle.d64spec.specs.Geometry.{Geometry, layout35, sectorNumber, onDisk}
+use Rattle.d64spec.specs.Geometry.{layout35, sectorNumber, onDisk}
 use Rattle.d64spec.specs.Image.{disk}
 use Rattle.d64spec.specs.Chain.{Link, to, bad, linkTo, decodeFileLink, fileLink}
+use Rattle.d64spec.specs.Store.{lastOf}
 use Rattle.d64spec.proofs.BoundLaws.{sectorNumber-lt, fileLink-on, linkTo-on}
 use Rattle.d64spec.proofs.RunTheorem.{sectors35}
-use Rattle.sectors.proofs.SectorLaws.{byte-disk, byte-disk-first}
 use Rattle.geometry.specs.Layout.{addressOf, onDiskBy, numberBy, IsCounts, IsFirsts}
 use Rattle.geometry.specs.declared.Address.{Address as CodeAddress}
 use Rattle.geometry.proofs.LentTableLaws.{tracks-of-onDisk}
-use Rattle.links.proofs.LinkLaws.{file-ends, file-bad, file-to}
+use Rattle.links.proofs.LinkLaws.{linkTo-at, linkTo-off, file-ends, file-bad, file-to}
 use Rattle.answers.specs.Faults.{faultOf}
 use Rattle.answers.specs.declared.Place.{Place}
 use Rattle.answers.specs.declared.Fault.the-variants.{BadLink, AlreadyOwned}
@@ -28,22 +29,14 @@ use Rattle.owners.proofs.TableLaws.{freeCount, freeCount-le}
 use Rattle.owners.proofs.Walking.{Walking, walking-start, walking-ends, walking-bad, walking-owned, walking-moved, walking-fewer}
 use Rattle.diskcheck.specs.declared.chain.Claim as claims
 use Rattle.diskcheck.specs.declared.chain.Claim.the-variants as claim
-use Rattle.diskcheck.specs.Chains.{Claimed, claimOf, claimed, claimOff, chainWalk, Ready}
+use Rattle.diskcheck.specs.Chains.{Claimed, claimOf, claimed, heldBy, claimOff, chainWalk, Ready}
 
 -- ---- the links on the way
 
-link-at : (g : Geometry) (img : Bytes) (n : ℕ) → fileLink g (disk img n) ≡ decodeFileLink g (getD img (256 * n) 0) (getD img (256 * n + 1) 0)
-unfolding fileLink
-link-at g img n = ap₂ (decodeFileLink g) (byte-disk-first img n) (byte-disk img n 1 (omega arith))
-
-module _ (g : Geometry) (t s : ℕ) where
-  linkTo-off : onDisk g (address t s) ≡ false → linkTo g t s ≡ bad
-  unfolding linkTo
-  linkTo-off e = rw e
-
-  linkTo-at : onDisk g (address t s) ≡ true → linkTo g t s ≡ to (address t s)
-  unfolding linkTo
-  linkTo-at e = rw e
+-- a sector lent as a part of the image: the width is as the code has it
+pub sector-lent : (img : Bytes) (n : ℕ) → take (256 * n + 256 - 256 * n) (drop (256 * n) img) ≡ disk img n
+unfolding disk
+sector-lent img n = simp add-sub-cancel-left
 
 -- the link of the bytes t and s after n sectors of a chain: a slot's first link, then those in its sectors
 unfoldable pub linkAfter : ℕ → ℕ → ℕ → Link
@@ -62,34 +55,43 @@ after-more n t s = let e : n + 1 ≡ suc n = omega arith in rw e refl
 
 -- ---- the outcome of a claim that has passed some sectors
 
-unfoldable pub claimedAfter : ℕ → ℕ → List ℕ → Result (List Address) → Result Claimed
-claimedAfter id passed own (refused f) = refused f
-claimedAfter id passed own (done l) = done (record { count = passed + length l; table = withOwner id (map (sectorNumber layout35) l) own })
+-- the sectors passed: how many, and the last, which holds the link; before the first the directory sector
+pub record Passed : Type 0 where
+  pub count : ℕ
+  pub last : Address
 
-claimed-first : (id : ℕ) (own : List ℕ) (x : Result (List Address)) → claimedAfter id 0 own x ≡ claimed id own x
+unfoldable pub claimedAfter : ℕ → Passed → List ℕ → Result (List Address) → Result Claimed
+claimedAfter id p own (refused f) = refused f
+claimedAfter id p own (done l) =
+    done (record { count = p .count + length l; last = lastOf (p .last) l; table = withOwner id (map (sectorNumber layout35) l) own })
+
+claimed-first : (id : ℕ) (own : List ℕ) (holder : Address) (x : Result (List Address))
+    → claimedAfter id (record { count = 0; last = holder }) own x ≡ claimed id own holder x
 unfolding claimedAfter claimed
-claimed-first id own (refused f) = refl
-claimed-first id own (done l) =
+claimed-first id own holder (refused f) = refl
+claimed-first id own holder (done l) =
     let e : 0 + length l ≡ length l = omega arith in
-    ap (λ (n : ℕ). done (record { count = n; table = withOwner id (map (sectorNumber layout35) l) own })) e
+    ap (λ (n : ℕ). done (record { count = n; last = lastOf holder l; table = withOwner id (map (sectorNumber layout35) l) own })) e
 
-claimed-next : (id passed : ℕ) (own : List ℕ) (r : Address) (x : Result (List Address))
-    → claimedAfter id passed own (x >>= (λ l. done (r ∷ l))) ≡ claimedAfter id (passed + 1) (set own (sectorNumber layout35 r) id) x
-unfolding claimedAfter
-claimed-next id passed own r (refused f) = refl
-claimed-next id passed own r (done l) =
-    let e : passed + suc (length l) ≡ passed + 1 + length l = omega arith in
-    ap (λ (n : ℕ). done (record { count = n; table = withOwner id (map (sectorNumber layout35) l) (set own (sectorNumber layout35 r) id) })) e
+claimed-next : (id : ℕ) (p : Passed) (own : List ℕ) (r : Address) (x : Result (List Address))
+    → claimedAfter id p own (x >>= (λ l. done (r ∷ l))) ≡ claimedAfter id (record { count = p .count + 1; last = r }) (set own (sectorNumber layout35 r) id) x
+unfolding claimedAfter lastOf
+claimed-next id p own r (refused f) = refl
+claimed-next id p own r (done l) =
+    let e : p .count + suc (length l) ≡ p .count + 1 + length l = omega arith in
+    let own′ : List ℕ = set own (sectorNumber layout35 r) id in
+    ap (λ (n : ℕ). done (record { count = n; last = lastOf r l; table = withOwner id (map (sectorNumber layout35) l) own′ })) e
 
 -- ---- the invariant
 
 -- the definition's claim of a whole chain
 abbrev pub chainClaim : Bytes → List ℕ → ℕ → ℕ → CodeAddress → ℕ → ℕ → Result Claimed
-chainClaim img own id slot from t s = claimed id own (chainWalk img own (addressOf from) slot t s)
+chainClaim img own id slot from t s = claimed id own (addressOf from) (chainWalk img own (addressOf from) slot t s)
 
 -- the walk along a chain, where `passed` sectors are claimed and `holder` holds the link k; the outcome is o
 abbrev pub Along : Bytes → ℕ → ℕ → Result Claimed → ℕ → List ℕ → CodeAddress → Link → Type 0
-Along img id slot o passed own holder k = Walking layout35 (fileLink layout35) (disk img) (claimedAfter id) slot o passed own (addressOf holder) k
+Along img id slot o passed own holder k =
+    Walking layout35 (fileLink layout35) (disk img) (claimedAfter id) slot o (record { count = passed; last = addressOf holder }) own (addressOf holder) k
 
 -- the same at a link of the bytes t and s, on the disk or not
 pub record Claims (img : Bytes) (id slot : ℕ) (o : Result Claimed) (own : List ℕ) (holder : CodeAddress) (t s passed : ℕ) : Type 0 where
@@ -97,7 +99,8 @@ pub record Claims (img : Bytes) (id slot : ℕ) (o : Result Claimed) (own : List
   pub long : length own ≡ 683
   pub few : passed + freeCount own ≤ 683
 
-pub claims-start : (img own : List ℕ) (id slot : ℕ) (from : CodeAddress) (t s : ℕ) → Ready img own id → Claims img id slot (chainClaim img own id slot from t s) own from t s 0
+pub claims-start : (img own : List ℕ) (id slot : ℕ) (from : CodeAddress) (t s : ℕ) → Ready img own id
+    → Claims img id slot (chainClaim img own id slot from t s) own from t s 0
 unfolding chainWalk linkAfter
 claims-start img own id slot from t s ready =
     let long : length own ≡ 683 = ready .long in
@@ -105,7 +108,8 @@ claims-start img own id slot from t s ready =
     record {
       walking =
           rw (← claimed-first)
-          (walking-start layout35 (fileLink layout35) (disk img) (claimedAfter id) slot (fileLink-on layout35) 0 own (addressOf from) k (long ∙ sym sectors35) (linkTo-on layout35 t s));
+          (walking-start layout35 (fileLink layout35) (disk img) (claimedAfter id) slot (fileLink-on layout35)
+          (record { count = 0; last = addressOf from }) own (addressOf from) k (long ∙ sym sectors35) (linkTo-on layout35 t s));
       long = long;
       few = omega (arith, freeCount-le own);
     }
@@ -116,70 +120,77 @@ pub record Named (t s n : ℕ) : Type 0 where
   pub number : n ≡ sectorNumber layout35 (address t s)
   pub inside : n < 683
 
--- by the layout's tables
-pub named : {counts firsts : List ℕ} {t s n : ℕ} → IsCounts counts → IsFirsts firsts → onDiskBy counts (address t s) ≡ true → n ≡ numberBy firsts (address t s) → Named t s n
-named {counts} {firsts} {t} {s} {n} cs fs e is =
-    let on : onDisk layout35 (address t s) ≡ true = sym (cs .agrees (address t s)) ∙ e in
-    let number : n ≡ sectorNumber layout35 (address t s) = is ∙ fs .agrees (address t s) on in
-    record { on = on; number = number; inside = omega (arith, sectorNumber-lt layout35 (address t s) on, sectors35) }
+-- by the layout's table of first numbers
+pub named-on : {firsts : List ℕ} {t s n : ℕ} → IsFirsts firsts → onDisk layout35 (address t s) ≡ true → n ≡ numberBy firsts (address t s) → Named t s n
+named-on {t = t} {s = s} fs on is =
+    let number = is ∙ fs .agrees (address t s) on in
+    record { on = on; number = number; inside = omega (arith, number, sectorNumber-lt layout35 (address t s) on, sectors35) }
 
--- t and s had no owner and are claimed now: the walk is at the two bytes of the sector's link
-pub record Moved (img : Bytes) (id slot : ℕ) (o : Result Claimed) (own : List ℕ) (t s n passed : ℕ) : Type 0 where
+-- and by that of counts
+pub named : {counts firsts : List ℕ} {t s n : ℕ} → IsCounts counts → IsFirsts firsts → onDiskBy counts (address t s) ≡ true
+    → n ≡ numberBy firsts (address t s) → Named t s n
+named {t = t} {s = s} cs fs e is = named-on fs (sym (cs .agrees (address t s)) ∙ e) is
+
+-- t and s had no owner and are claimed now: the walk is at the first two bytes of the sector, which is lent as `part`
+pub record Moved (img : Bytes) (id slot : ℕ) (o : Result Claimed) (own : List ℕ) (t s n : ℕ) (part : Bytes) (passed : ℕ) : Type 0 where
   pub fewer : freeCount own ≡ suc (freeCount (set own n id))
-  pub next : Claims img id slot o (set own n id) (record { track = t; sector = s }) (getD img (256 * n) 0) (getD img (256 * n + 1) 0) (passed + 1)
-
--- the place of a fault of the link that `holder` holds
-abbrev pub heldBy : CodeAddress → ℕ → Place
-heldBy holder slot = record { track = holder .track; sector = holder .sector; slot = slot }
+  pub next : Claims img id slot o (set own n id) (record { track = t; sector = s }) (byte part 0) (byte part 1) (passed + 1)
 
 -- what a link off the disk says, by cases
-module _ (t s n : ℕ) (p : Place) where
-  pub off-first : n < 1 → claimOff t s n p ≡ claim.Refused (BadLink p)
+module _ (t s n : ℕ) (holder : CodeAddress) (slot : ℕ) where
+  abbrev badHere : claims.Claim
+  badHere = claim.Refused (BadLink (heldBy holder slot))
+
+  pub off-first : n < 1 → claimOff t s n holder slot ≡ badHere
   unfolding claimOff
   off-first h = go (eqb t 0) (ltb 0 s)
     where
-      go : (a b : Bool) → cond (a && b && ltb 0 n) (claim.Ended n) (claim.Refused (BadLink p)) ≡ claim.Refused (BadLink p)
+      go : (a b : Bool) → cond (a && b && ltb 0 n) (claim.Ended n holder) badHere ≡ badHere
       go true true = rw (le-ltb 0 n (omega arith))
       go true false = refl
       go false b = refl
 
-  pub off-track : 1 ≤ t → claimOff t s n p ≡ claim.Refused (BadLink p)
+  pub off-track : 1 ≤ t → claimOff t s n holder slot ≡ badHere
   unfolding claimOff
   off-track h = rw (ne-eqb t 0 (λ e. omega arith))
 
-  pub off-zero : s < 1 → claimOff t s n p ≡ claim.Refused (BadLink p)
+  pub off-zero : s < 1 → claimOff t s n holder slot ≡ badHere
   unfolding claimOff
   off-zero h = go (eqb t 0)
     where
-      go : (a : Bool) → cond (a && ltb 0 s && ltb 0 n) (claim.Ended n) (claim.Refused (BadLink p)) ≡ claim.Refused (BadLink p)
+      go : (a : Bool) → cond (a && ltb 0 s && ltb 0 n) (claim.Ended n holder) badHere ≡ badHere
       go true = rw (le-ltb 0 s (omega arith))
       go false = refl
 
-  pub off-end : t < 1 → 1 ≤ s → 1 ≤ n → claimOff t s n p ≡ claim.Ended n
+  pub off-end : t < 1 → 1 ≤ s → 1 ≤ n → claimOff t s n holder slot ≡ claim.Ended n holder
   unfolding claimOff
   off-end h k m = rw (eq-eqb t 0 (omega arith), lt-ltb 0 s k, lt-ltb 0 n m)
 
 module _ {img : Bytes} {id slot : ℕ} {o : Result Claimed} {own : List ℕ} {holder : CodeAddress} where
-  bad-off : {t s passed : ℕ} → Claims img id slot o own holder t s passed → linkAfter passed t s ≡ bad → claimOf (claim.Refused (BadLink (heldBy holder slot))) own ≡ o
+  bad-off : {t s passed : ℕ} → Claims img id slot o own holder t s passed → linkAfter passed t s ≡ bad
+      → claimOf (claim.Refused (BadLink (heldBy holder slot))) own ≡ o
   unfolding claimOf faultOf claimedAfter
   bad-off w e = walking-bad layout35 (fileLink layout35) (disk img) (claimedAfter id) slot (rw e at (w .walking))
 
   -- a link off the disk ends the chain, or is bad
-  off : (t s passed : ℕ) → Claims img id slot o own holder t s passed → onDisk layout35 (address t s) ≡ false → claimOf (claimOff t s passed (heldBy holder slot)) own ≡ o
-  unfolding claimOf claimedAfter linkAfter
-  off t s zero w e = rw (off-first t s 0 (heldBy holder slot) (omega arith)) (bad-off w (linkTo-off layout35 t s e))
+  off : (t s passed : ℕ) → Claims img id slot o own holder t s passed → onDisk layout35 (address t s) ≡ false
+      → claimOf (claimOff t s passed holder slot) own ≡ o
+  unfolding claimOf claimedAfter linkAfter lastOf
+  off t s zero w e = rw (off-first t s 0 holder slot (omega arith)) (bad-off w (linkTo-off layout35 t s e))
   off (suc t) s (suc n) w e =
-      rw (off-track (suc t) s (suc n) (heldBy holder slot) (omega arith)) (bad-off w (file-to layout35 (suc t) s (omega arith) ∙ linkTo-off layout35 (suc t) s e))
-  off zero zero (suc n) w e = rw (off-zero 0 0 (suc n) (heldBy holder slot) (omega arith)) (bad-off w (file-bad layout35 0 0 (omega arith) (omega arith)))
+      rw (off-track (suc t) s (suc n) holder slot (omega arith)) (bad-off w (file-to layout35 (suc t) s (omega arith) ∙ linkTo-off layout35 (suc t) s e))
+  off zero zero (suc n) w e = rw (off-zero 0 0 (suc n) holder slot (omega arith)) (bad-off w (file-bad layout35 0 0 (omega arith) (omega arith)))
   off zero (suc s) (suc n) w e =
       let z : suc n ≡ suc n + 0 = omega arith in
-      rw (off-end 0 (suc s) (suc n) (heldBy holder slot) (omega arith) (omega arith) (omega arith))
-      (ap (λ (k : ℕ). done (record { count = k; table = own })) z
-      ∙ walking-ends layout35 (fileLink layout35) (disk img) (claimedAfter id) slot (rw (file-ends layout35 0 (suc s) (omega arith) (omega arith)) at (w .walking)))
+      rw (off-end 0 (suc s) (suc n) holder slot (omega arith) (omega arith) (omega arith))
+      (ap (λ (k : ℕ). done (record { count = k; last = addressOf holder; table = own })) z
+      ∙ walking-ends layout35 (fileLink layout35) (disk img) (claimedAfter id) slot
+      (rw (file-ends layout35 0 (suc s) (omega arith) (omega arith)) at (w .walking)))
 
   module _ {t s passed : ℕ} (w : Claims img id slot o own holder t s passed) where
-    pub claims-off : {p : Place} → p ≡ heldBy holder slot → {r : claims.Claim} → r ≡ claimOff t s passed p → {counts : List ℕ} → IsCounts counts → onDiskBy counts (address t s) ≡ false → claimOf r own ≡ o
-    claims-off place is cs e = rw (is, place) (off t s passed w (sym (cs .agrees (address t s)) ∙ e))
+    pub claims-off : {q : CodeAddress} {r : claims.Claim} → r ≡ claimOff t s passed q slot → q ≡ holder → {counts : List ℕ} → IsCounts counts
+        → onDiskBy counts (address t s) ≡ false → claimOf r own ≡ o
+    claims-off is held cs e = rw (is, held) (off t s passed w (sym (cs .agrees (address t s)) ∙ e))
 
     module _ {n : ℕ} (r : Named t s n) where
       here : Along img id slot o passed own holder (to (address t s))
@@ -190,23 +201,26 @@ module _ {img : Bytes} {id slot : ℕ} {o : Result Claimed} {own : List ℕ} {ho
       unfolding claimOf faultOf claimedAfter
       claims-owned place h = rw place (walking-owned layout35 (fileLink layout35) (disk img) (claimedAfter id) slot here (rw (r .number) at h))
 
-      -- a sector that has none
-      pub claims-moved : getD own n 0 ≡ 0 → 1 ≤ id → Moved img id slot o own t s n passed
-      claims-moved none owner =
-          let k : Link = decodeFileLink layout35 (getD img (256 * n) 0) (getD img (256 * n + 1) 0) in
+      -- a sector that has none, lent as a part of the image
+      pub claims-moved : {part : Bytes} → part ≡ disk img n → getD own n 0 ≡ 0 → 1 ≤ id → Moved img id slot o own t s n part passed
+      unfolding fileLink
+      claims-moved {part} lent none owner =
+          let k : Link = fileLink layout35 (disk img n) in
           let number : sectorNumber layout35 (address t s) ≡ n = sym (r .number) in
-          let found : fileLink layout35 (disk img n) ≡ k = link-at layout35 img n in
           let free : getD own (sectorNumber layout35 (address t s)) 0 ≡ 0 = rw number none in
-          let fewer : freeCount own ≡ suc (freeCount (set own n id)) = rw number at (walking-fewer layout35 (fileLink layout35) (disk img) (claimedAfter id) slot id here free owner) in
+          let fewer : freeCount own ≡ suc (freeCount (set own n id))
+          = rw number at (walking-fewer layout35 (fileLink layout35) (disk img) (claimedAfter id) slot id here free owner) in
           let few : passed + freeCount own ≤ 683 = w .few in
+          let moved : Along img id slot o (passed + 1) (set own n id) (record { track = t; sector = s }) k
+          = rw number at (walking-moved layout35 (fileLink layout35) (disk img) (claimedAfter id) slot id
+          (record { count = passed + 1; last = address t s }) k here free owner
+          (rw number refl) (fileLink-on layout35 (disk img n))
+          (λ x. claimed-next id (record { count = passed; last = addressOf holder }) own (address t s) x)) in
           record {
             fewer = fewer;
-            next = record {
-              walking =
-                  rw (after-more passed (getD img (256 * n) 0) (getD img (256 * n + 1) 0))
-                  (rw number at (walking-moved layout35 (fileLink layout35) (disk img) (claimedAfter id) slot id (passed + 1) k here free owner
-                  (rw number (sym found)) (rw (← found) (fileLink-on layout35 (disk img n))) (λ x. claimed-next id passed own (address t s) x)));
+            next = rw lent (record {
+              walking = rw (after-more passed (byte (disk img n) 0) (byte (disk img n) 1)) moved;
               long = length-set own n id ∙ w .long;
               few = omega arith;
-            };
+            });
           }

@@ -1,5 +1,5 @@
--- The whole check: the size, the directory of track 18, then the slots and the map, each with the table that the step before it left (01, Order of the check).
--- In order: the definition's check with the owner table; the slots, then the map; refused images; images whose track 18 the code has read.
+-- The whole check: the size, the directory of track 18, then the slots and the map, each with the tables that the step before it left (01, Order of the check).
+-- In order: the definition's check with the tables; the slots, then the map; refused images; images whose track 18 the code has read.
 use Prim.Native.Nat.{ℕ, zero, suc, _*_, _≤_, _<_}
 use native.Mathlib.Omega.{arith}
 use mathlib.Core.Path.{_≡_, refl, sym, ap, _∙_}
@@ -35,32 +35,37 @@ use Rattle.directory.proofs.Track18Laws.{directory-of-track18, sectors-18}
 use Rattle.mapcheck.specs.MapChecks.{mapVerdict}
 use Rattle.mapcheck.proofs.StepLaws.{verdict-same}
 use Rattle.diskcheck.specs.declared.Checked.{Checked}
-use Rattle.diskcheck.specs.SlotChecks.{imageOccupied, tableWithFiles, slotsStep, SlotsReady}
-use Rattle.diskcheck.specs.ImageChecks.{Found, foundIn, directoryCount, tableFound, ImageChecked, restStep}
+use Rattle.diskcheck.specs.EndTable.{endTable}
+use Rattle.diskcheck.specs.SlotChecks.{imageOccupied, Tables, tables, tablesWithFiles, slotsStep, SlotsReady}
+use Rattle.diskcheck.specs.ImageChecks.{Found, foundIn, directoryCount, tablesFound, ImageChecked, restStep}
 use Rattle.diskcheck.proofs.TrackLaws.{track18-lent, map-lent, sectorsOf-whole, occupied-by-track18}
 
--- ---- the definition's check with the owner table
+-- ---- the definition's check with the tables
 
 map-lt : sectorNumber layout35 mapAddress < total layout35
 map-lt = sectorNumber-lt layout35 mapAddress (map-on layout35 (valid35 .directory))
 
-found-then : (x : Result (Unit {0})) (c : DirectoryContents) → foundIn (x >> done c) ≡ (x >> foundIn (done c))
+found-then : (img : Bytes) (x : Result (Unit {0})) (c : DirectoryContents) → foundIn img (x >> done c) ≡ (x >> foundIn img (done c))
 unfolding foundIn
-found-then (refused f) c = refl
-found-then (done u) c = refl
+found-then img (refused f) c = refl
+found-then img (done u) c = refl
 
 module _ (img : Bytes) where
   -- step 3 after a directory of these sectors, from the table that its walk leaves
   abbrev slotsAfter : List Address → Result (List File)
   slotsAfter ds = checkSlots layout35 (disk img) (owned (directoryTable layout35 ds)) [] (occupiedIn layout35 (disk img) ds)
 
-  -- step 4 with a table, and what is found
-  abbrev mapAfter : List Address → List ℕ → Result Found
-  mapAfter ds own = mapVerdict (disk img (sectorNumber layout35 mapAddress)) own >> done (record { directory = ds; table = own })
+  -- the tables that the directory's walk leaves
+  abbrev walkedTables : List Address → Tables
+  walkedTables ds = tables (directoryTable layout35 ds) (zeros 144)
+
+  -- step 4 with tables, and what is found
+  abbrev mapAfter : List Address → Tables → Result Found
+  mapAfter ds t = mapVerdict (disk img (sectorNumber layout35 mapAddress)) (t .owners) >> done (record { directory = ds; tables = t })
 
   -- both
   abbrev afterDirectory : List Address → Result Found
-  afterDirectory ds = tableWithFiles (directoryTable layout35 ds) (slotsAfter ds) >>= (λ own. mapAfter ds own)
+  afterDirectory ds = tablesWithFiles img (walkedTables ds) (slotsAfter ds) >>= (λ t. mapAfter ds t)
 
   -- nobody claims the sector
   abbrev unclaimed : List Address → List File → Address → Bool
@@ -75,46 +80,52 @@ module _ (img : Bytes) where
   slotsFromClaims ds = checkSlots layout35 (disk img) (sectorNumber layout35 mapAddress ∷ map (sectorNumber layout35) ds) [] (occupiedIn layout35 (disk img) ds)
 
   module _ (ds : List Address) (on : All (λ x. x < total layout35) (map (sectorNumber layout35) ds)) where
-    files-found : (x : Result (List File)) → slotsAfter ds ≡ x → foundIn (afterFiles ds x) ≡ (tableWithFiles (directoryTable layout35 ds) x >>= (λ own. mapAfter ds own))
-    unfolding foundIn tableWithFiles ownerTable
+    files-found : (x : Result (List File)) → slotsAfter ds ≡ x
+        → foundIn img (afterFiles ds x) ≡ (tablesWithFiles img (walkedTables ds) x >>= (λ t. mapAfter ds t))
+    unfolding foundIn tablesWithFiles ownerTable endTable
     files-found (refused f) e = refl
     files-found (done fs) e =
         let files-on = slots-lt layout35 (disk img) (owned (directoryTable layout35 ds)) [] (occupiedIn layout35 (disk img) ds) fs e in
-        found-then (checkMap layout35 (disk img) (unclaimed ds fs) (range 1 (tracks layout35))) (record { walked = ds; found = fs })
-        ∙ ap (λ (x : Result (Unit {0})). x >> done (record { directory = ds; table = ownerTable layout35 ds fs }))
+        found-then img (checkMap layout35 (disk img) (unclaimed ds fs) (range 1 (tracks layout35))) (record { walked = ds; found = fs })
+        ∙ ap (λ (x : Result (Unit {0})). x >> done (record { directory = ds; tables = tables (ownerTable layout35 ds fs) (endTable img fs) }))
         (sym (verdict-same (disk img) (ownerTable layout35 ds fs) (unclaimed ds fs) (λ r h. freeBy-claims layout35 map-lt ds on fs files-on r)))
 
-    slots-found : foundIn (afterFiles ds (slotsFromClaims ds)) ≡ afterDirectory ds
+    slots-found : foundIn img (afterFiles ds (slotsFromClaims ds)) ≡ afterDirectory ds
     slots-found =
         let o : List ℕ = sectorNumber layout35 mapAddress ∷ map (sectorNumber layout35) ds in
-        ap (λ (x : Result (List File)). foundIn (afterFiles ds x))
+        ap (λ (x : Result (List File)). foundIn img (afterFiles ds x))
         (slots-alike layout35 (disk img) o (owned (directoryTable layout35 ds)) [] (occupiedIn layout35 (disk img) ds) (directory-alike layout35 map-lt ds on))
         ∙ files-found (slotsAfter ds) refl
 
   -- THE DEFINITION'S CHECK is the directory's walk, then the rest from the table that the walk leaves
-  disk-found : foundIn (checkDisk layout35 (disk img)) ≡ (checkDirectory layout35 (disk img) >>= (λ ds. afterDirectory ds))
+  disk-found : foundIn img (checkDisk layout35 (disk img)) ≡ (checkDirectory layout35 (disk img) >>= (λ ds. afterDirectory ds))
   unfolding checkDisk checkDirectory foundIn
   disk-found = go (checkDirectory layout35 (disk img)) refl
     where
-      go : (w : Result (List Address)) → checkDirectory layout35 (disk img) ≡ w → foundIn (w >>= (λ ds. afterFiles ds (slotsFromClaims ds))) ≡ (w >>= (λ ds. afterDirectory ds))
+      go : (w : Result (List Address)) → checkDirectory layout35 (disk img) ≡ w
+          → foundIn img (w >>= (λ ds. afterFiles ds (slotsFromClaims ds))) ≡ (w >>= (λ ds. afterDirectory ds))
       go (refused f) e = refl
       go (done ds) e =
           slots-found ds
-          (walk-lt layout35 (directoryLink layout35) (disk img) (directoryLink-on layout35) (steps layout35) (sectorNumber layout35 mapAddress ∷ []) mapAddress 255 (to directoryStart) ds
+          (walk-lt layout35 (directoryLink layout35) (disk img) (directoryLink-on layout35) (steps layout35)
+          (sectorNumber layout35 mapAddress ∷ []) mapAddress 255 (to directoryStart) ds
           (valid35 .directory) e)
 
   -- the rest by slot numbers
   rest-found : (ss : List ℕ) (n : ℕ) → All (λ s. s < 19) ss → n ≤ length ss
-      → afterDirectory (sectorsOf ss n) ≡ (restStep img (directoryTable layout35 (sectorsOf ss n)) ss n >>= (λ own. done (record { directory = sectorsOf ss n; table = own })))
+      → afterDirectory (sectorsOf ss n)
+      ≡ (restStep img (walkedTables (sectorsOf ss n)) ss n >>= (λ t. done (record { directory = sectorsOf ss n; tables = t })))
   unfolding restStep slotsStep
   rest-found ss n inside whole =
       let ds : List Address = sectorsOf ss n in
       let own : List ℕ = directoryTable layout35 ds in
-      ap (λ (l : List Slot). tableWithFiles own (checkSlots layout35 (disk img) (owned own) [] l) >>= (λ own. mapAfter ds own)) (occupied-by-track18 img ss n inside whole)
-      ∙ regroup (tableWithFiles own (checkSlots layout35 (disk img) (owned own) [] (imageOccupied img ss 0 (8 * n)))) (mapVerdict (disk img (sectorNumber layout35 mapAddress)))
-      (λ own. record { directory = ds; table = own })
+      ap (λ (l : List Slot). tablesWithFiles img (walkedTables ds) (checkSlots layout35 (disk img) (owned own) [] l) >>= (λ t. mapAfter ds t))
+      (occupied-by-track18 img ss n inside whole)
+      ∙ regroup (tablesWithFiles img (walkedTables ds) (checkSlots layout35 (disk img) (owned own) [] (imageOccupied img ss 0 (8 * n))))
+      (λ t. mapVerdict (disk img (sectorNumber layout35 mapAddress)) (t .owners)) (λ t. record { directory = ds; tables = t })
     where
-      regroup : (x : Result (List ℕ)) (m : List ℕ → Result (Unit {0})) (f : List ℕ → Found) → (x >>= (λ o. m o >> done (f o))) ≡ ((x >>= (λ o. m o >> done o)) >>= (λ o. done (f o)))
+      regroup : (x : Result Tables) (m : Tables → Result (Unit {0})) (f : Tables → Found)
+          → (x >>= (λ o. m o >> done (f o))) ≡ ((x >>= (λ o. m o >> done o)) >>= (λ o. done (f o)))
       regroup (refused g) m f = refl
       regroup (done o) m f = go (m o)
         where
@@ -124,23 +135,24 @@ module _ (img : Bytes) where
 
 -- ---- the slots, then the map, as the code has them
 
-module _ (img own ss : List ℕ) (n : ℕ) (own′ : List ℕ) where
+module _ (img : Bytes) (t : Tables) (ss : List ℕ) (n : ℕ) (t′ : Tables) where
   -- a fault of step 3
-  pub slots-refused : (f : code.Fault) → whereFine (Refused f) own′ ≡ slotsStep img own ss 0 (8 * n) → whereFine (Refused f) own′ ≡ restStep img own ss n
+  pub slots-refused : (f : code.Fault) → whereFine (Refused f) t′ ≡ slotsStep img t ss 0 (8 * n) → whereFine (Refused f) t′ ≡ restStep img t ss n
   unfolding whereFine restStep
-  slots-refused f e = ap (λ (x : Result (List ℕ)). x >>= (λ o. mapVerdict (disk img (sectorNumber layout35 mapAddress)) o >> done o)) e
+  slots-refused f e = ap (λ (x : Result Tables). x >>= (λ o. mapVerdict (disk img (sectorNumber layout35 mapAddress)) (o .owners) >> done o)) e
 
   -- no fault there: the map decides
-  pub slots-fine : (v : Verdict) (m : Bytes) → whereFine Fine own′ ≡ slotsStep img own ss 0 (8 * n) → verdictOf v ≡ mapVerdict m own′ → m ≡ take 256 (drop 91392 img) → whereFine v own′ ≡ restStep img own ss n
+  pub slots-fine : (v : Verdict) (m : Bytes) → whereFine Fine t′ ≡ slotsStep img t ss 0 (8 * n) → verdictOf v ≡ mapVerdict m (t′ .owners)
+      → m ≡ take 256 (drop 91392 img) → whereFine v t′ ≡ restStep img t ss n
   unfolding whereFine restStep verdictOf
   slots-fine v m e decides sector =
-      tables v
-      ∙ ap (λ (x : Result (Unit {0})). x >> done own′) (decides ∙ ap (λ (b : Bytes). mapVerdict b own′) (sector ∙ map-lent img))
-      ∙ ap (λ (x : Result (List ℕ)). x >>= (λ o. mapVerdict (disk img (sectorNumber layout35 mapAddress)) o >> done o)) e
+      given v
+      ∙ ap (λ (x : Result (Unit {0})). x >> done t′) (decides ∙ ap (λ (b : Bytes). mapVerdict b (t′ .owners)) (sector ∙ map-lent img))
+      ∙ ap (λ (x : Result Tables). x >>= (λ o. mapVerdict (disk img (sectorNumber layout35 mapAddress)) (o .owners) >> done o)) e
     where
-      tables : (v : Verdict) → whereFine v own′ ≡ (verdictOf v >> done own′)
-      tables Fine = refl
-      tables (Refused f) = refl
+      given : (v : Verdict) → whereFine v t′ ≡ (verdictOf v >> done t′)
+      given Fine = refl
+      given (Refused f) = refl
 
 -- ---- refused images
 
@@ -148,21 +160,23 @@ zeros-inside : (n : ℕ) → All (λ s. s < 19) (zeros n)
 zeros-inside zero = tt
 zeros-inside (suc n) = (omega arith, zeros-inside n)
 
--- a fault of the definition, handed back with no sector and no owner
-pub checked-refused : {img : Bytes} {f : code.Fault} {r : Checked} → r ≡ record { verdict = Refused f; sectors = zeros 18; count = 0; owners = zeros 683 }
-    → foundIn (checkImage layout35 img) ≡ refused (faultOf f) → ImageChecked img r
-unfolding whereFine directoryCount tableFound
+-- a fault of the definition, handed back with no sector, no owner and no end
+pub checked-refused : {img : Bytes} {f : code.Fault} {r : Checked}
+    → r ≡ record { verdict = Refused f; sectors = zeros 18; count = 0; owners = zeros 683; ends = zeros 144 }
+    → foundIn img (checkImage layout35 img) ≡ refused (faultOf f) → ImageChecked img r
+unfolding whereFine directoryCount tablesFound
 checked-refused e h = rw e (record {
   told = sym h;
   count = rw h;
   owners = rw (h, sectors35);
+  ends = rw h;
   rest = refl;
   few = omega arith;
   inside = zeros-inside 18;
 })
 
 -- step 1
-pub size-wrong : (img : Bytes) → (length img ≡ 174848 → ⊥) → foundIn (checkImage layout35 img) ≡ refused (faultOf WrongSize)
+pub size-wrong : (img : Bytes) → (length img ≡ 174848 → ⊥) → foundIn img (checkImage layout35 img) ≡ refused (faultOf WrongSize)
 unfolding checkImage rightSize foundIn faultOf
 size-wrong img h = rw (ap (λ (n : ℕ). eqb (length img) (256 * n)) sectors35 ∙ ne-eqb (length img) 174848 h)
 
@@ -175,7 +189,7 @@ record DirectoryFine (img : Bytes) (d : Directory) : Type 0 where
   owners : d .owners ≡ directoryTable layout35 (sectorsOf (d .sectors) (d .count))
 
 module _ (img : Bytes) {d : Directory} (size : length img ≡ 174848) (read : DirectoryRead (take 4864 (drop 91392 img)) d) where
-  size-right : foundIn (checkImage layout35 img) ≡ (checkDirectory layout35 (disk img) >>= (λ ds. afterDirectory img ds))
+  size-right : foundIn img (checkImage layout35 img) ≡ (checkDirectory layout35 (disk img) >>= (λ ds. afterDirectory img ds))
   unfolding checkImage rightSize
   size-right = rw (ap (λ (n : ℕ). eqb (length img) (256 * n)) sectors35 ∙ eq-eqb (length img) 174848 size) (disk-found img)
 
@@ -186,7 +200,7 @@ module _ (img : Bytes) {d : Directory} (size : length img ≡ 174848) (read : Di
       ap trackDirectory (track18-lent img) ∙ rw (eq-eqb (length (bytesOfTrack18 layout35 img)) (256 * sectorsOn layout35 18) long) (directory-of-track18 img)
 
   -- a fault of step 2
-  pub directory-refused : (f : code.Fault) → d .verdict ≡ Refused f → foundIn (checkImage layout35 img) ≡ refused (faultOf f)
+  pub directory-refused : (f : code.Fault) → d .verdict ≡ Refused f → foundIn img (checkImage layout35 img) ≡ refused (faultOf f)
   unfolding whereFine
   directory-refused f e = size-right ∙ rw (sym directory-same ∙ sym (rw e at (read .walked)))
 
@@ -202,46 +216,60 @@ module _ (img : Bytes) {d : Directory} (size : length img ≡ 174848) (read : Di
         }
 
     -- what steps 3 and 4 ask
-    pub directory-ready : SlotsReady img (d .owners) (d .sectors) (d .count) (d .repeated)
+    pub directory-ready : SlotsReady img (tables (d .owners) (zeros 144)) (d .sectors) (d .count) (d .repeated)
     directory-ready = record {
-      size = size;
-      long = ap length (directory-fine .owners) ∙ length-directoryTable layout35 (sectorsOf (d .sectors) (d .count)) ∙ sectors35;
+      sized = record {
+        size = size;
+        long = ap length (directory-fine .owners) ∙ length-directoryTable layout35 (sectorsOf (d .sectors) (d .count)) ∙ sectors35;
+        room = refl;
+      };
       inside = read .inside;
       few = read .few;
       first = read .repeated ∙ ap (λ (b : Bytes). firstRepeated b (d .sectors) 0 (8 * d .count)) (track18-lent img);
     }
 
-    module _ (own : List ℕ) where
+    module _ (own ends : List ℕ) where
+      -- what is handed back where nothing is refused
+      abbrev given : Found
+      given = record { directory = sectorsOf (d .sectors) (d .count); tables = tables own ends }
+
+      -- steps 3 and 4 from the tables that the directory's reading leaves
+      abbrev rest : Result Tables
+      rest = restStep img (tables (d .owners) (zeros 144)) (d .sectors) (d .count)
+
       -- STEPS 3 AND 4 after the directory give what the definition finds
-      rest-told : (v : Verdict) → whereFine v own ≡ restStep img (d .owners) (d .sectors) (d .count)
-          → whereFine v (record { directory = sectorsOf (d .sectors) (d .count); table = own }) ≡ foundIn (checkImage layout35 img)
+      rest-told : (v : Verdict) → whereFine v (tables own ends) ≡ rest → whereFine v given ≡ foundIn img (checkImage layout35 img)
       unfolding whereFine
       rest-told v e =
           let w = directory-fine in
-          tables v
-          ∙ ap (λ (x : Result (List ℕ)). x >>= (λ o. done (record { directory = sectorsOf (d .sectors) (d .count); table = o }))) (e ∙ ap (λ (o : List ℕ). restStep img o (d .sectors) (d .count)) (w .owners))
+          at-directory v
+          ∙ ap (λ (x : Result Tables). x >>= (λ t. done (record { directory = sectorsOf (d .sectors) (d .count); tables = t })))
+          (e ∙ ap (λ (o : List ℕ). restStep img (tables o (zeros 144)) (d .sectors) (d .count)) (w .owners))
           ∙ sym (rest-found img (d .sectors) (d .count) (read .inside) (w .whole))
           ∙ sym (size-right ∙ rw (w .walked))
         where
-          tables : (v : Verdict) → whereFine {A = Found} v (record { directory = sectorsOf (d .sectors) (d .count); table = own }) ≡ (whereFine v own >>= (λ o. done (record { directory = sectorsOf (d .sectors) (d .count); table = o })))
-          tables Fine = refl
-          tables (Refused f) = refl
+          at-directory : (v : Verdict)
+              → whereFine {A = Found} v given
+              ≡ (whereFine v (tables own ends) >>= (λ t. done (record { directory = sectorsOf (d .sectors) (d .count); tables = t })))
+          at-directory Fine = refl
+          at-directory (Refused f) = refl
 
       -- a fault of step 3 or 4
-      pub rest-refused : (f : code.Fault) → whereFine (Refused f) own ≡ restStep img (d .owners) (d .sectors) (d .count) → foundIn (checkImage layout35 img) ≡ refused (faultOf f)
+      pub rest-refused : (f : code.Fault) → whereFine (Refused f) (tables own ends) ≡ rest → foundIn img (checkImage layout35 img) ≡ refused (faultOf f)
       unfolding whereFine
       rest-refused f e = sym (rest-told (Refused f) e)
 
       -- no fault
-      pub checked-fine : {r : Checked} → whereFine Fine own ≡ restStep img (d .owners) (d .sectors) (d .count)
-          → r ≡ record { verdict = Fine; sectors = d .sectors; count = d .count; owners = own } → ImageChecked img r
-      unfolding whereFine directoryCount tableFound sectorCount
+      pub checked-fine : {r : Checked} → whereFine Fine (tables own ends) ≡ rest
+          → r ≡ record { verdict = Fine; sectors = d .sectors; count = d .count; owners = own; ends = ends } → ImageChecked img r
+      unfolding whereFine directoryCount tablesFound sectorCount
       checked-fine e is =
           let found = rest-told Fine e in
           rw is (record {
             told = found;
             count = read .count ∙ ap sectorCount (directory-same ∙ directory-fine .walked) ∙ ap directoryCount found;
-            owners = ap tableFound found;
+            owners = ap (λ (x : Result Found). tablesFound x .owners) found;
+            ends = ap (λ (x : Result Found). tablesFound x .ends) found;
             rest = read .rest;
             few = read .few;
             inside = read .inside;

@@ -1,5 +1,6 @@
 pub mod TrackLaws
 pub mod ChainLaws
+pub mod EndLaws
 pub mod SlotLaws
 pub mod SlotsLaws
 pub mod ImageLaws

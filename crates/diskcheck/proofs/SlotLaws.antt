@@ -4,14 +4,19 @@ use Prim.Native.Nat.{ℕ, _/_}
 use mathlib.Core.Path.{_≡_, refl, sym, ap, ap₂, _∙_}
 use mathlib.Core.Bool.{Bool, true, false}
 use mathlib.Core.List.{List, map}
-use lib.ListN.{length, getD}
+use lib.ListN.{length, getD, set}
 use lib.Dec.{eqb}
 use borrow.Author.Tests.{eq-eqb, ne-eqb}
-use Rattle.d64spec.specs.Lists.{Bytes}
+use Rattle.d64spec.specs.Lists.{Bytes, byte}
 use Rattle.d64spec.specs.Answers.{Address, address, Fault, wrongCount, Result, refused, done, _>>=_, _>>_, need}
-use Rattle.d64spec.specs.Geometry.{layout35, sectorNumber}
+use Rattle.d64spec.specs.Geometry.{layout35, sectorNumber, onDisk}
+use Rattle.d64spec.specs.Image.{disk}
 use Rattle.d64spec.specs.Directory.{Slot, isEmpty, entryByte, countOf, firstLink}
+use Rattle.d64spec.specs.Store.{lastOf}
 use Rattle.d64spec.specs.Check.{checkEntry, checkSlot}
+use Rattle.d64spec.proofs.ResultLaws.{done-inj, refused≢done}
+use Rattle.geometry.specs.declared.Address.{Address as CodeAddress}
+use Rattle.geometry.specs.Layout.{addressOf}
 use Rattle.answers.specs.declared.Place.{Place}
 use Rattle.answers.specs.declared.Fault as code
 use Rattle.answers.specs.declared.Fault.the-variants.{WrongCount}
@@ -24,64 +29,96 @@ use Rattle.directory.proofs.EntryLaws.{number-at, holder-at, entry-verdict}
 use Rattle.diskcheck.specs.Chains.{Claimed, claimed, claimOf, chainWalk}
 use Rattle.diskcheck.specs.declared.chain.Claim.{Claim}
 use Rattle.diskcheck.specs.declared.chain.Claim.the-variants as claim
-use Rattle.diskcheck.specs.SlotChecks.{imageSlot, imageNames, tableWith, checkChain, fileStep, occupiedStep, slotStep, SlotReady}
+use Rattle.diskcheck.specs.SlotChecks.{imageSlot, imageNames, Tables, tables, tablesWith, checkChain, fileStep, occupiedStep, slotStep, SlotReady}
+use Rattle.diskcheck.proofs.EndLaws.{LastSector, walk-last}
 
 -- ---- the chain, then the count
 
--- a claim's table, once the count is compared
-counted : ℕ → Fault → Result Claimed → Result (List ℕ)
-counted n f r = r >>= (λ c. need (eqb n (c .count)) f >> done (c .table))
+-- a claim's tables, once the count is compared: the end goes to the slot of that number
+counted : Bytes → ℕ → List ℕ → ℕ → Fault → Result Claimed → Result Tables
+counted img number ends n f r =
+    r >>= (λ c. need (eqb n (c .count)) f >> done (tables (c .table) (set ends number (byte (disk img (sectorNumber layout35 (c .last))) 1))))
 
-counted-claimed : (id : ℕ) (own : List ℕ) (n : ℕ) (f : Fault) (w : Result (List Address))
-    → counted n f (claimed id own w) ≡ tableWith id own (w >>= (λ l. need (eqb n (length l)) f >> done l))
-unfolding counted claimed tableWith
-counted-claimed id own n f (refused g) = refl
-counted-claimed id own n f (done l) = go (eqb n (length l))
+counted-claimed : (img : Bytes) (number : ℕ) (t : Tables) (n : ℕ) (f : Fault) (holder : Address) (w : Result (List Address))
+    → ((l : List Address) → w ≡ done l → LastSector img holder l)
+    → counted img number (t .ends) n f (claimed (fileOwner number) (t .owners) holder w)
+    ≡ tablesWith img number t (w >>= (λ l. need (eqb n (length l)) f >> done l))
+unfolding counted claimed tablesWith
+counted-claimed img number t n f holder (refused g) last = refl
+counted-claimed img number t n f holder (done l) last = go (eqb n (length l))
   where
-    go : (b : Bool) → (need b f >> done (withOwner id (map (sectorNumber layout35) l) own)) ≡ tableWith id own (need b f >> done l)
-    go true = refl
+    owners : List ℕ
+    owners = withOwner (fileOwner number) (map (sectorNumber layout35) l) (t .owners)
+
+    go : (b : Bool)
+        → (need b f >> done (tables owners (set (t .ends) number (byte (disk img (sectorNumber layout35 (lastOf holder l))) 1))))
+        ≡ tablesWith img number t (need b f >> done l)
+    go true = ap (λ (e : ℕ). done (tables owners (set (t .ends) number e))) (last l refl .end)
     go false = refl
 
-module _ (img own own′ b : List ℕ) (at : Place) where
-  -- what the claim of the file's chain answers
-  abbrev Claims : Claim → Type 0
-  Claims c = claimOf c own′ ≡ claimed (fileOwner (at .slot)) own (chainWalk img own (sectorOf at) (at .slot) (entryByte b 0x03) (entryByte b 0x04))
+-- the definition's walk of the chain of the file with bytes b at a place
+abbrev walked : Bytes → List ℕ → Bytes → Place → Result (List Address)
+walked img own b at = chainWalk img own (sectorOf at) (at .slot) (entryByte b 0x03) (entryByte b 0x04)
 
-  file-counted : (c : Claim) → Claims c → counted (countOf b) (wrongCount (sectorOf at) (at .slot)) (claimOf c own′) ≡ fileStep img own b (sectorOf at) (at .slot)
+-- what the claim of that chain answers
+abbrev Claims : Bytes → List ℕ → List ℕ → Bytes → Place → Claim → Type 0
+Claims img own own′ b at c = claimOf c own′ ≡ claimed (fileOwner (at .slot)) own (sectorOf at) (walked img own b at)
+
+-- a chain that ends does so in a sector of the disk
+pub file-last : (img own own′ b : List ℕ) (at : Place) (n : ℕ) (last : CodeAddress) → Claims img own own′ b at (claim.Ended n last)
+    → onDisk layout35 (addressOf last) ≡ true
+unfolding claimOf claimed
+file-last img own own′ b at n last ended = go (walked img own b at) refl ended
+  where
+    go : (w : Result (List Address)) → walked img own b at ≡ w
+        → claimOf (claim.Ended n last) own′ ≡ claimed (fileOwner (at .slot)) own (sectorOf at) w → onDisk layout35 (addressOf last) ≡ true
+    go (refused f) is e = refused≢done f _ (sym e)
+    go (done l) is e =
+        let same : addressOf last ≡ lastOf (sectorOf at) l = ap (λ (c : Claimed). c .last) (done-inj e) in
+        rw same (walk-last img own (sectorOf at) (at .slot) (entryByte b 0x03) (entryByte b 0x04) l is .on)
+
+module _ (img : Bytes) (t : Tables) (own′ b : List ℕ) (at : Place) where
+  file-counted : (c : Claim) → Claims img (t .owners) own′ b at c
+      → counted img (at .slot) (t .ends) (countOf b) (wrongCount (sectorOf at) (at .slot)) (claimOf c own′) ≡ fileStep img t b (sectorOf at) (at .slot)
   unfolding fileStep checkChain
   file-counted c e =
-      ap (counted (countOf b) (wrongCount (sectorOf at) (at .slot))) e
-      ∙ counted-claimed (fileOwner (at .slot)) own (countOf b) (wrongCount (sectorOf at) (at .slot)) (chainWalk img own (sectorOf at) (at .slot) (entryByte b 0x03) (entryByte b 0x04))
+      ap (counted img (at .slot) (t .ends) (countOf b) (wrongCount (sectorOf at) (at .slot))) e
+      ∙ counted-claimed img (at .slot) t (countOf b) (wrongCount (sectorOf at) (at .slot)) (sectorOf at) (walked img (t .owners) b at)
+      (walk-last img (t .owners) (sectorOf at) (at .slot) (entryByte b 0x03) (entryByte b 0x04))
 
   -- a refused chain is the file's fault
-  pub file-refused : (f : code.Fault) → Claims (claim.Refused f) → whereFine (Refused f) own′ ≡ fileStep img own b (sectorOf at) (at .slot)
+  pub file-refused : (ends′ : List ℕ) (f : code.Fault) → Claims img (t .owners) own′ b at (claim.Refused f)
+      → whereFine (Refused f) (tables own′ ends′) ≡ fileStep img t b (sectorOf at) (at .slot)
   unfolding claimOf whereFine counted
-  file-refused f e = file-counted (claim.Refused f) e
+  file-refused ends′ f e = file-counted (claim.Refused f) e
 
-  module _ (n : ℕ) (ended : Claims (claim.Ended n)) where
-    -- a chain that ends, and whose sectors are as many as the slot says
-    pub file-fine : countOf b ≡ n → whereFine Fine own′ ≡ fileStep img own b (sectorOf at) (at .slot)
+  module _ (n : ℕ) (last : CodeAddress) (ended : Claims img (t .owners) own′ b at (claim.Ended n last)) where
+    -- a chain whose sectors are as many as the slot says: its end is noted at the slot's number
+    pub file-fine : countOf b ≡ n → {k end : ℕ} → end ≡ byte (disk img (sectorNumber layout35 (addressOf last))) 1 → k ≡ at .slot
+        → whereFine Fine (tables own′ (set (t .ends) k end)) ≡ fileStep img t b (sectorOf at) (at .slot)
     unfolding claimOf whereFine counted
-    file-fine same = sym (rw (eq-eqb (countOf b) n same)) ∙ file-counted (claim.Ended n) ended
+    file-fine same is number = rw (is, number) (sym (rw (eq-eqb (countOf b) n same)) ∙ file-counted (claim.Ended n last) ended)
 
     -- or not
-    pub file-miscounted : (countOf b ≡ n → ⊥) → whereFine (Refused (WrongCount at)) own′ ≡ fileStep img own b (sectorOf at) (at .slot)
+    pub file-miscounted : (ends′ : List ℕ) → (countOf b ≡ n → ⊥)
+        → whereFine (Refused (WrongCount at)) (tables own′ ends′) ≡ fileStep img t b (sectorOf at) (at .slot)
     unfolding claimOf whereFine counted faultOf
-    file-miscounted other = sym (rw (ne-eqb (countOf b) n other)) ∙ file-counted (claim.Ended n) ended
+    file-miscounted ends′ other = sym (rw (ne-eqb (countOf b) n other)) ∙ file-counted (claim.Ended n last) ended
 
 -- ---- the entry, then the file
 
-module _ (img own own′ b : List ℕ) (holder : Address) (number : ℕ) (repeated : Bool) where
+module _ (img : Bytes) (t t′ : Tables) (b : Bytes) (holder : Address) (number : ℕ) (repeated : Bool) where
   -- a refused entry
-  pub occupied-refused : (f : code.Fault) → verdictOf (Refused f) ≡ entryVerdict b holder number repeated → whereFine (Refused f) own′ ≡ occupiedStep img own b holder number repeated
+  pub occupied-refused : (f : code.Fault) → verdictOf (Refused f) ≡ entryVerdict b holder number repeated
+      → whereFine (Refused f) t′ ≡ occupiedStep img t b holder number repeated
   unfolding verdictOf whereFine occupiedStep
-  occupied-refused f e = ap (λ (v : Result (Unit {0})). v >> fileStep img own b holder number) e
+  occupied-refused f e = ap (λ (v : Result (Unit {0})). v >> fileStep img t b holder number) e
 
   -- an entry that passes, and what its chain and its count give
   pub occupied-file : (v : Verdict) → verdictOf Fine ≡ entryVerdict b holder number repeated
-      → whereFine v own′ ≡ fileStep img own b holder number → whereFine v own′ ≡ occupiedStep img own b holder number repeated
+      → whereFine v t′ ≡ fileStep img t b holder number → whereFine v t′ ≡ occupiedStep img t b holder number repeated
   unfolding verdictOf occupiedStep
-  occupied-file v e h = h ∙ ap (λ (v : Result (Unit {0})). v >> fileStep img own b holder number) e
+  occupied-file v e h = h ∙ ap (λ (v : Result (Unit {0})). v >> fileStep img t b holder number) e
 
 -- ---- the slot
 
@@ -89,24 +126,28 @@ module _ (img own own′ b : List ℕ) (holder : Address) (number : ℕ) (repeat
 abbrev holderOf : List ℕ → ℕ → Address
 holderOf ss k = address 18 (getD ss (k / 8) 0)
 
-tableWith-then : (id : ℕ) (own : List ℕ) (x : Result (Unit {0})) (y : Result (List Address)) → tableWith id own (x >> y) ≡ (x >> tableWith id own y)
-unfolding tableWith
-tableWith-then id own (refused f) y = refl
-tableWith-then id own (done u) y = refl
+tablesWith-then : (img : Bytes) (number : ℕ) (t : Tables) (x : Result (Unit {0})) (y : Result (List Address))
+    → tablesWith img number t (x >> y) ≡ (x >> tablesWith img number t y)
+unfolding tablesWith
+tablesWith-then img number t (refused f) y = refl
+tablesWith-then img number t (done u) y = refl
 
-module _ (img own ss b : List ℕ) (k repeated : ℕ) (ready : SlotReady img own ss k repeated) (is : b ≡ imageSlot img ss k .bytes) where
+module _ (img : Bytes) (t : Tables) (ss b : List ℕ) (k repeated : ℕ) (ready : SlotReady img t ss k repeated) (is : b ≡ imageSlot img ss k .bytes) where
   -- nothing happens at an empty slot
-  pub slot-empty : getD b 0 0 ≡ 0 → whereFine Fine own ≡ slotStep img own ss k
+  pub slot-empty : getD b 0 0 ≡ 0 → whereFine Fine t ≡ slotStep img t ss k
   unfolding slotStep whereFine
   slot-empty h = let e : isEmpty (imageSlot img ss k .bytes) ≡ true = eq-eqb _ _ (ap (λ (x : Bytes). getD x 0 0) (sym is) ∙ h) in sym (rw e)
 
   -- an occupied slot is its entry, then its chain and its count
-  pub slot-occupied : (getD b 0 0 ≡ 0 → ⊥) → occupiedStep img own b (holderOf ss k) k (eqb k repeated) ≡ slotStep img own ss k
+  pub slot-occupied : (getD b 0 0 ≡ 0 → ⊥) → occupiedStep img t b (holderOf ss k) k (eqb k repeated) ≡ slotStep img t ss k
   unfolding occupiedStep slotStep checkSlot checkChain chainWalk firstLink fileStep
   slot-occupied occupied =
       let s : Slot = imageSlot img ss k in
+      let own : List ℕ = t .owners in
       let e : isEmpty (s .bytes) ≡ false = ne-eqb _ _ (λ z. occupied (ap (λ (x : Bytes). getD x 0 0) is ∙ z)) in
-      sym (rw e (tableWith-then (fileOwner k) own (checkEntry (imageNames img ss k) s) (checkChain img own (s .bytes) (s .holder) (s .number))
-      ∙ ap (λ (v : Result (Unit {0})). v >> tableWith (fileOwner k) own (checkChain img own (s .bytes) (s .holder) (s .number))) (entry-verdict (imageNames img ss k) s (eqb k repeated) (ready .name e))
-      ∙ ap (λ (n : ℕ). entryVerdict (s .bytes) (s .holder) n (eqb k repeated) >> tableWith (fileOwner k) own (checkChain img own (s .bytes) (s .holder) n)) (number-at _ ss k)
-      ∙ ap₂ (λ (x : Bytes) (r : Address). entryVerdict x r k (eqb k repeated) >> fileStep img own x r k) (sym is) (holder-at _ ss k)))
+      sym (rw e (tablesWith-then img k t (checkEntry (imageNames img ss k) s) (checkChain img own (s .bytes) (s .holder) (s .number))
+      ∙ ap (λ (v : Result (Unit {0})). v >> tablesWith img k t (checkChain img own (s .bytes) (s .holder) (s .number)))
+      (entry-verdict (imageNames img ss k) s (eqb k repeated) (ready .name e))
+      ∙ ap (λ (n : ℕ). entryVerdict (s .bytes) (s .holder) n (eqb k repeated) >> tablesWith img k t (checkChain img own (s .bytes) (s .holder) n))
+      (number-at _ ss k)
+      ∙ ap₂ (λ (x : Bytes) (r : Address). entryVerdict x r k (eqb k repeated) >> fileStep img t x r k) (sym is) (holder-at _ ss k)))

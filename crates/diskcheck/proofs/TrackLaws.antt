@@ -33,7 +33,8 @@ map-lent img = refl
 -- ---- a slot
 
 -- read from track 18 as it is lent
-pub slot-lent : {img ss : List ℕ} {k : ℕ} {b : Bytes} → length img ≡ 174848 → All (λ s. s < 19) ss → IsSlot (take 4864 (drop 91392 img)) ss k b → LentSlot img ss k b
+pub slot-lent : {img ss : List ℕ} {k : ℕ} {b : Bytes} → length img ≡ 174848 → All (λ s. s < 19) ss → IsSlot (take 4864 (drop 91392 img)) ss k b
+    → LentSlot img ss k b
 slot-lent {img} {ss} {k} {b} size inside s =
     record {
       is = s .bytes ∙ ap (λ (t : Bytes). slotBytes t ss k) (track18-lent img);
@@ -48,7 +49,8 @@ sectorsOf-whole ss n e = omega (arith, length-map (take n ss) (λ s. address 18 
 
 module _ (img : Bytes) where
   -- a directory sector of track 18 alone is the image's
-  sector-same : (s : ℕ) → s < 19 → disk img (sectorNumber layout35 (address 18 s)) ≡ diskOfTrack18 layout35 (bytesOfTrack18 layout35 img) (sectorNumber layout35 (address 18 s))
+  sector-same : (s : ℕ) → s < 19
+      → disk img (sectorNumber layout35 (address 18 s)) ≡ diskOfTrack18 layout35 (bytesOfTrack18 layout35 img) (sectorNumber layout35 (address 18 s))
   sector-same s h = ap (disk img) (number-18 s) ∙ sym (track18-sectors img s h) ∙ sym (disk-of-track18 (bytesOfTrack18 layout35 img) s)
 
   sectors-same : (ss : List ℕ) (n : ℕ) → All (λ s. s < 19) ss
@@ -58,12 +60,14 @@ module _ (img : Bytes) where
   sectors-same (s ∷ ss) (suc n) a = (sector-same s (a .0), sectors-same ss n (a .1))
 
   -- THE SLOTS of an image, by their numbers on its track 18
-  pub slots-by-track18 : (ss : List ℕ) (n : ℕ) → All (λ s. s < 19) ss → n ≤ length ss → slotsFrom layout35 (disk img) 0 (sectorsOf ss n) ≡ map (imageSlot img ss) (range 0 (8 * n))
+  pub slots-by-track18 : (ss : List ℕ) (n : ℕ) → All (λ s. s < 19) ss → n ≤ length ss
+      → slotsFrom layout35 (disk img) 0 (sectorsOf ss n) ≡ map (imageSlot img ss) (range 0 (8 * n))
   slots-by-track18 ss n a h =
       sym (same-slots layout35 (disk img) (diskOfTrack18 layout35 (bytesOfTrack18 layout35 img)) 0 (sectorsOf ss n) (sectors-same ss n a))
       ∙ slots-by-number (bytesOfTrack18 layout35 img) ss n h
 
   -- and the occupied ones
-  pub occupied-by-track18 : (ss : List ℕ) (n : ℕ) → All (λ s. s < 19) ss → n ≤ length ss → occupiedIn layout35 (disk img) (sectorsOf ss n) ≡ imageOccupied img ss 0 (8 * n)
+  pub occupied-by-track18 : (ss : List ℕ) (n : ℕ) → All (λ s. s < 19) ss → n ≤ length ss
+      → occupiedIn layout35 (disk img) (sectorsOf ss n) ≡ imageOccupied img ss 0 (8 * n)
   unfolding occupiedFrom
   occupied-by-track18 ss n a h = ap (filter (λ s. not (isEmpty (s .bytes)))) (slots-by-track18 ss n a h)

@@ -1,3 +1,4 @@
 pub mod Chains
+pub mod EndTable
 pub mod SlotChecks
 pub mod ImageChecks

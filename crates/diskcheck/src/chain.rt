@@ -1,20 +1,25 @@
 // A file's chain, claimed sector by sector in the owner table (01, Chains; Order of the check, 3).
 ghost use mathlib.Core.Path.{_≡_};
+ghost use mathlib.Core.Bool.{true};
+ghost use lib.ListN.{length};
+ghost use Rattle.d64spec.specs.Lists.{byte};
+ghost use Rattle.d64spec.specs.Geometry.{layout35, sectorNumber, onDisk};
+ghost use Rattle.d64spec.specs.Image.{disk};
 ghost use Rattle.geometry.specs.Layout.{addressOf, IsCounts, IsFirsts};
-ghost use Rattle.diskcheck.specs.Chains.{claimOf, claimed, chainWalk, claimOff, Ready};
+ghost use Rattle.diskcheck.specs.Chains.{claimOf, claimed, chainWalk, heldBy, claimOff, Ready};
 use answers::Fault;
 use answers::Place;
 use geometry::Address;
 
-// What a claim answers: the number of the chain's sectors, or a fault.
+// What a claim answers: the number of the chain's sectors and the last of them, or a fault.
 pub(crate) enum Claim {
-    Ended(usize),
+    Ended(usize, Address),
     Refused(Fault),
 }
 
 // The place of a link's fault: the sector that holds the link, and the slot of the file.
 fn place_of(holder: Address, slot: u8) -> Place
-    ensures { λ r. ⌜ r ≡ record { track = holder .track; sector = holder .sector; slot = slot } ⌝ }
+    ensures { λ r. ⌜ r ≡ heldBy holder slot ⌝ }
 {
     Place {
         track: holder.track,
@@ -23,10 +28,11 @@ fn place_of(holder: Address, slot: u8) -> Place
     }
 }
 
-// What a link off the disk says after `count` sectors of a chain: its end, where one of them holds it and it is 00 and then not 00.
-fn claim_off(link: Address, count: usize, place: Place) -> Claim
-    ensures { λ r. ⌜ r ≡ claimOff (link .track) (link .sector) count place ⌝ }
+// What a link off the disk says, held by `holder` after `count` sectors of a chain: its end, where one of them holds it and it is 00 and then not 00.
+fn claim_off(link: Address, count: usize, holder: Address, slot: u8) -> Claim
+    ensures { λ r. ⌜ r ≡ claimOff (link .track) (link .sector) count holder slot ⌝ }
 {
+    let place = place_of(holder, slot);
     if count == 0 {
         return Claim::Refused(Fault::BadLink(place));
     }
@@ -36,7 +42,7 @@ fn claim_off(link: Address, count: usize, place: Place) -> Claim
     if link.sector == 0 {
         return Claim::Refused(Fault::BadLink(place));
     }
-    Claim::Ended(count)
+    Claim::Ended(count, holder)
 }
 
 // Claims the chain that starts at `first`, a link that the sector `from` holds: each of its sectors gets the owner `id`.
@@ -53,7 +59,9 @@ pub(crate) fn claim_chain(
     firsts: &[u16; 35],
 ) -> Claim
     requires { ⌜ Ready (now img) (now own) id × IsCounts (now counts) × IsFirsts (now firsts) ⌝ }
-    ensures { λ r. ⌜ claimOf r (now (own .exit)) ≡ claimed id (now (own .entry)) (chainWalk (now (img .entry)) (now (own .entry)) (addressOf from) slot (first .track) (first .sector)) ⌝ }
+    ensures { λ r. ⌜ claimOf r (now (own .exit))
+        ≡ claimed id (now (own .entry)) (addressOf from)
+        (chainWalk (now (img .entry)) (now (own .entry)) (addressOf from) slot (first .track) (first .sector)) ⌝ }
 {
     let mut holder = from;
     let mut track = first.track;
@@ -61,7 +69,7 @@ pub(crate) fn claim_chain(
     let mut count: usize = 0;
     loop {
         if !geometry::on_disk_by(counts, Address { track, sector }) {
-            return claim_off(Address { track, sector }, count, place_of(holder, slot));
+            return claim_off(Address { track, sector }, count, holder, slot);
         }
         let n = geometry::number_by(firsts, Address { track, sector });
         if own[n] != 0 {
@@ -70,7 +78,18 @@ pub(crate) fn claim_chain(
         own[n] = id;
         count += 1;
         holder = Address { track, sector };
-        track = img[256 * n];
-        sector = img[256 * n + 1];
+        let part = &img[256 * n..256 * n + 256];
+        track = part[0];
+        sector = part[1];
     }
+}
+
+// The number of the last byte that a chain uses in its last sector: the second byte of that sector's link.
+pub(crate) fn end_in(img: &[u8], last: Address, firsts: &[u16; 35]) -> u8
+    requires { ⌜ (length (now img) ≡ 174848) × (onDisk layout35 (addressOf last) ≡ true) × IsFirsts (now firsts) ⌝ }
+    ensures { λ r. ⌜ r ≡ byte (disk (now (img .entry)) (sectorNumber layout35 (addressOf last))) 1 ⌝ }
+{
+    let n = geometry::number_by(firsts, last);
+    let part = &img[256 * n..256 * n + 256];
+    part[1]
 }

@@ -8,30 +8,33 @@ ghost use lib.ListN.{length, take, drop};
 ghost use Rattle.d64spec.specs.Lists.{zeros};
 ghost use Rattle.answers.specs.Faults.{whereFine};
 ghost use Rattle.directory.specs.Directories.{DirectoryRead};
-ghost use Rattle.diskcheck.specs.SlotChecks.{SlotsReady};
+ghost use Rattle.diskcheck.specs.SlotChecks.{tables, SlotsReady};
 ghost use Rattle.diskcheck.specs.ImageChecks.{ImageChecked, restStep};
 use answers::Fault;
 use answers::Verdict;
 use directory::Directory;
 
 // The verdict; the directory's sectors on track 18 in link order, with zeros after them; and who owns each sector: 0 nobody, 1 the map,
-// 2 the directory, 3 and its slot's number a file. Where the verdict is a refusal there is no sector and no owner.
+// 2 the directory, 3 and its slot's number a file; and for each slot of a file the number of the last byte that the file uses in its last
+// sector, 1 to 255, else 0. Where the verdict is a refusal there is no sector, no owner and no end.
 pub struct Checked {
     pub verdict: Verdict,
     pub sectors: [u8; 18],
     pub count: usize,
     pub owners: [u8; 683],
+    pub ends: [u8; 144],
 }
 
-// A refusal: no sector, no owner.
+// A refusal: no sector, no owner, no end.
 fn refuse(fault: Fault) -> Checked
-    ensures { λ r. ⌜ r ≡ record { verdict = Verdict.Refused fault; sectors = zeros 18; count = 0; owners = zeros 683 } ⌝ }
+    ensures { λ r. ⌜ r ≡ record { verdict = Verdict.Refused fault; sectors = zeros 18; count = 0; owners = zeros 683; ends = zeros 144 } ⌝ }
 {
     Checked {
         verdict: Verdict::Refused(fault),
         sectors: [0u8; 18],
         count: 0,
         owners: [0u8; 683],
+        ends: [0u8; 144],
     }
 }
 
@@ -39,14 +42,16 @@ fn refuse(fault: Fault) -> Checked
 fn check_rest(
     img: &[u8],
     own: &mut [u8; 683],
+    ends: &mut [u8; 144],
     sectors: &[u8; 18],
     count: usize,
     repeated: usize,
 ) -> Verdict
-    requires { ⌜ SlotsReady (now img) (now own) (now sectors) count repeated ⌝ }
-    ensures { λ r. ⌜ whereFine r (now (own .exit)) ≡ restStep (now (img .entry)) (now (own .entry)) (now (sectors .entry)) count ⌝ }
+    requires { ⌜ SlotsReady (now img) (tables (now own) (now ends)) (now sectors) count repeated ⌝ }
+    ensures { λ r. ⌜ whereFine r (tables (now (own .exit)) (now (ends .exit)))
+        ≡ restStep (now (img .entry)) (tables (now (own .entry)) (now (ends .entry))) (now (sectors .entry)) count ⌝ }
 {
-    let verdict = slots::check_slots(img, own, sectors, count, repeated);
+    let verdict = slots::check_slots(img, own, ends, sectors, count, repeated);
     match verdict {
         Verdict::Refused(fault) => Verdict::Refused(fault),
         Verdict::Fine => mapcheck::check_map(&img[91392..91648], own),
@@ -65,7 +70,15 @@ fn check_read(img: &[u8], directory: Directory) -> Checked
             let sectors = directory.sectors;
             let count = directory.count;
             let mut owners = directory.owners;
-            let rest = check_rest(img, &mut owners, &sectors, count, directory.repeated);
+            let mut ends = [0u8; 144];
+            let rest = check_rest(
+                img,
+                &mut owners,
+                &mut ends,
+                &sectors,
+                count,
+                directory.repeated,
+            );
             match rest {
                 Verdict::Refused(fault) => refuse(fault),
                 Verdict::Fine => Checked {
@@ -73,6 +86,7 @@ fn check_read(img: &[u8], directory: Directory) -> Checked
                     sectors,
                     count,
                     owners,
+                    ends,
                 },
             }
         }

@@ -5,8 +5,10 @@ ghost use lib.ListN.{length};
 ghost use Rattle.d64spec.specs.Lists.{All};
 ghost use Rattle.answers.specs.Faults.{sectorOf, whereFine};
 ghost use Rattle.geometry.specs.Layout.{IsCounts, IsFirsts};
-ghost use Rattle.diskcheck.specs.SlotChecks.{FileReady, fileStep, occupiedStep, LentSlot, SlotReady, slotStep, SlotsReady, slotsStep};
+ghost use Rattle.diskcheck.specs.SlotChecks.{tables, FileReady, fileStep, occupiedStep, LentSlot, SlotReady, slotStep, SlotsReady, slotsStep};
 use crate::chain::Claim;
+use crate::chain::claim_chain;
+use crate::chain::end_in;
 use answers::Fault;
 use answers::Place;
 use answers::Verdict;
@@ -16,13 +18,15 @@ use geometry::Address;
 fn check_file(
     img: &[u8],
     own: &mut [u8; 683],
+    ends: &mut [u8; 144],
     slot: &[u8],
     at: Place,
     counts: &[u8; 35],
     firsts: &[u16; 35],
 ) -> Verdict
-    requires { ⌜ FileReady (now img) (now own) (now slot) (at .slot) × IsCounts (now counts) × IsFirsts (now firsts) ⌝ }
-    ensures { λ r. ⌜ whereFine r (now (own .exit)) ≡ fileStep (now (img .entry)) (now (own .entry)) (now (slot .entry)) (sectorOf at) (at .slot) ⌝ }
+    requires { ⌜ FileReady (now img) (tables (now own) (now ends)) (now slot) (at .slot) × IsCounts (now counts) × IsFirsts (now firsts) ⌝ }
+    ensures { λ r. ⌜ whereFine r (tables (now (own .exit)) (now (ends .exit)))
+        ≡ fileStep (now (img .entry)) (tables (now (own .entry)) (now (ends .entry))) (now (slot .entry)) (sectorOf at) (at .slot) ⌝ }
 {
     let first = Address {
         track: slot[1],
@@ -32,20 +36,13 @@ fn check_file(
         track: at.track,
         sector: at.sector,
     };
-    let claim = crate::chain::claim_chain(
-        img,
-        own,
-        at.slot + 3,
-        at.slot,
-        from,
-        first,
-        counts,
-        firsts,
-    );
+    let claim = claim_chain(img, own, at.slot + 3, at.slot, from, first, counts, firsts);
     match claim {
         Claim::Refused(fault) => Verdict::Refused(fault),
-        Claim::Ended(count) => {
+        Claim::Ended(count, last) => {
             if count == entry::sector_count(slot) as usize {
+                let k = at.slot as usize;
+                ends[k] = end_in(img, last, firsts);
                 Verdict::Fine
             } else {
                 Verdict::Refused(Fault::WrongCount(at))
@@ -58,19 +55,21 @@ fn check_file(
 fn check_occupied(
     img: &[u8],
     own: &mut [u8; 683],
+    ends: &mut [u8; 144],
     slot: &[u8],
     at: Place,
     repeated: bool,
     counts: &[u8; 35],
     firsts: &[u16; 35],
 ) -> Verdict
-    requires { ⌜ FileReady (now img) (now own) (now slot) (at .slot) × IsCounts (now counts) × IsFirsts (now firsts) ⌝ }
-    ensures { λ r. ⌜ whereFine r (now (own .exit)) ≡ occupiedStep (now (img .entry)) (now (own .entry)) (now (slot .entry)) (sectorOf at) (at .slot) repeated ⌝ }
+    requires { ⌜ FileReady (now img) (tables (now own) (now ends)) (now slot) (at .slot) × IsCounts (now counts) × IsFirsts (now firsts) ⌝ }
+    ensures { λ r. ⌜ whereFine r (tables (now (own .exit)) (now (ends .exit)))
+        ≡ occupiedStep (now (img .entry)) (tables (now (own .entry)) (now (ends .entry))) (now (slot .entry)) (sectorOf at) (at .slot) repeated ⌝ }
 {
     let entry = directory::check_entry(slot, at, repeated);
     match entry {
         Verdict::Refused(fault) => Verdict::Refused(fault),
-        Verdict::Fine => check_file(img, own, slot, at, counts, firsts),
+        Verdict::Fine => check_file(img, own, ends, slot, at, counts, firsts),
     }
 }
 
@@ -86,14 +85,16 @@ fn slot_of<'a>(img: &'a [u8], sectors: &[u8; 18], k: usize) -> &'a [u8]
 fn check_slot(
     img: &[u8],
     own: &mut [u8; 683],
+    ends: &mut [u8; 144],
     sectors: &[u8; 18],
     k: usize,
     repeated: usize,
     counts: &[u8; 35],
     firsts: &[u16; 35],
 ) -> Verdict
-    requires { ⌜ SlotReady (now img) (now own) (now sectors) k repeated × IsCounts (now counts) × IsFirsts (now firsts) ⌝ }
-    ensures { λ r. ⌜ whereFine r (now (own .exit)) ≡ slotStep (now (img .entry)) (now (own .entry)) (now (sectors .entry)) k ⌝ }
+    requires { ⌜ SlotReady (now img) (tables (now own) (now ends)) (now sectors) k repeated × IsCounts (now counts) × IsFirsts (now firsts) ⌝ }
+    ensures { λ r. ⌜ whereFine r (tables (now (own .exit)) (now (ends .exit)))
+        ≡ slotStep (now (img .entry)) (tables (now (own .entry)) (now (ends .entry))) (now (sectors .entry)) k ⌝ }
 {
     let slot = slot_of(img, sectors, k);
     if slot[0] == 0 {
@@ -105,26 +106,28 @@ fn check_slot(
         sector: sectors[i],
         slot: k as u8,
     };
-    check_occupied(img, own, slot, at, k == repeated, counts, firsts)
+    check_occupied(img, own, ends, slot, at, k == repeated, counts, firsts)
 }
 
 // All slots of a directory of `count` sectors, with the layout's tables lent.
 fn check_all(
     img: &[u8],
     own: &mut [u8; 683],
+    ends: &mut [u8; 144],
     sectors: &[u8; 18],
     count: usize,
     repeated: usize,
     counts: &[u8; 35],
     firsts: &[u16; 35],
 ) -> Verdict
-    requires { ⌜ SlotsReady (now img) (now own) (now sectors) count repeated × IsCounts (now counts) × IsFirsts (now firsts) ⌝ }
-    ensures { λ r. ⌜ whereFine r (now (own .exit)) ≡ slotsStep (now (img .entry)) (now (own .entry)) (now (sectors .entry)) 0 (8 * count) ⌝ }
+    requires { ⌜ SlotsReady (now img) (tables (now own) (now ends)) (now sectors) count repeated × IsCounts (now counts) × IsFirsts (now firsts) ⌝ }
+    ensures { λ r. ⌜ whereFine r (tables (now (own .exit)) (now (ends .exit)))
+        ≡ slotsStep (now (img .entry)) (tables (now (own .entry)) (now (ends .entry))) (now (sectors .entry)) 0 (8 * count) ⌝ }
 {
     let end = 8 * count;
     let mut k: usize = 0;
     while k < end {
-        let verdict = check_slot(img, own, sectors, k, repeated, counts, firsts);
+        let verdict = check_slot(img, own, ends, sectors, k, repeated, counts, firsts);
         match verdict {
             Verdict::Fine => {}
             Verdict::Refused(fault) => {
@@ -140,16 +143,19 @@ fn check_all(
 pub(crate) fn check_slots(
     img: &[u8],
     own: &mut [u8; 683],
+    ends: &mut [u8; 144],
     sectors: &[u8; 18],
     count: usize,
     repeated: usize,
 ) -> Verdict
-    requires { ⌜ SlotsReady (now img) (now own) (now sectors) count repeated ⌝ }
-    ensures { λ r. ⌜ whereFine r (now (own .exit)) ≡ slotsStep (now (img .entry)) (now (own .entry)) (now (sectors .entry)) 0 (8 * count) ⌝ }
+    requires { ⌜ SlotsReady (now img) (tables (now own) (now ends)) (now sectors) count repeated ⌝ }
+    ensures { λ r. ⌜ whereFine r (tables (now (own .exit)) (now (ends .exit)))
+        ≡ slotsStep (now (img .entry)) (tables (now (own .entry)) (now (ends .entry))) (now (sectors .entry)) 0 (8 * count) ⌝ }
 {
     check_all(
         img,
         own,
+        ends,
         sectors,
         count,
         repeated,

@@ -16,7 +16,7 @@ enum-told c = search needs
 
 check-rest-requires : tie.Need-check-rest-requires
 check-rest-requires c κs =
-    let t = c .before .before .before .before in
+    let t = c .before .before .before .before .before in
     let e = t .before .before .before in
     let p = e .pre in
     directory-ready (e .args .img .now) (p .0) (p .1) (t .enum-told .given .1)
@@ -41,18 +41,19 @@ returns-2 : tie.Need-returns-2
 returns-2 c =
     let v = c .before .before in
     let r = v .before .before in
-    let t = r .before .before .before .before .before in
+    let t = r .before .before .before .before .before .before in
     let e = t .before .before .before in
     let p = e .pre in
-    checked-refused (c .refuse2 .ensures) (rest-refused (e .args .img .now) (p .0) (p .1) (t .enum-told .given .1) _ _ (rw (v .rest .given .1) at (r .check-rest .ensures)))
+    checked-refused (c .refuse2 .ensures) (rest-refused (e .args .img .now) (p .0) (p .1) (t .enum-told .given .1) _ _ _
+    (rw (v .rest .given .1) at (r .check-rest .ensures)))
 
 returns-3 : tie.Need-returns-3
 returns-3 c =
     let r = c .before .before in
-    let t = r .before .before .before .before .before in
+    let t = r .before .before .before .before .before .before in
     let e = t .before .before .before in
     let p = e .pre in
-    checked-fine (e .args .img .now) (p .0) (p .1) (t .enum-told .given .1) _ (rw (c .enum-told2 .given .1) at (r .check-rest .ensures)) refl
+    checked-fine (e .args .img .now) (p .0) (p .1) (t .enum-told .given .1) _ _ (rw (c .enum-told2 .given .1) at (r .check-rest .ensures)) refl
 
 pub check-read-spec : {M : Type 1} → statement M
 check-read-spec =

@@ -1,17 +1,18 @@
--- `diskcheck::slots::check_all` meets its contract. The loop keeps `Checking`: the slots from k on, with the table as it is, give what all slots gave at
+-- `diskcheck::slots::check_all` meets its contract. The loop keeps `Checking`: the slots from k on, with the tables as they are, give what all slots gave at
 -- the start. What falls is the number of slots that are left.
 use Prim.Native.Nat.{_*_, _-_}
 use native.Mathlib.Omega.{arith}
 use borrow.Author.Needs.{needs}
+use Rattle.diskcheck.specs.SlotChecks.{tables}
 use Rattle.diskcheck.proofs.SlotsLaws.{Checking, checking-start, checking-slot, checking-next, checking-refused, checking-end}
 use Rattle.diskcheck.proofs.slots.check_all.Statement.{statement}
 use Rattle.diskcheck.proofs.slots.check_all.Tie as tie
 
 abbrev Inv-loop : tie.InvT-loop
-Inv-loop img own₀ sectors count repeated counts firsts end k₀ own k = Checking img own₀ sectors count own k
+Inv-loop img own₀ ends₀ sectors count repeated counts firsts end k₀ own ends k = Checking img (tables own₀ ends₀) sectors count (tables own ends) k
 
 abbrev μ-loop : tie.MeasureT-loop
-μ-loop img own₀ sectors count repeated counts firsts end k₀ own k = 8 * count - k
+μ-loop img own₀ ends₀ sectors count repeated counts firsts end k₀ own ends k = 8 * count - k
 
 mul-end : tie.Need-mul-end Inv-loop μ-loop
 mul-end c = let few = c .before .pre .0 .few in omega arith
@@ -21,7 +22,7 @@ loop-holds c = checking-start _ _ _ _ _ (c .before .pre .0)
 
 check-slot-requires : tie.Need-check-slot-requires Inv-loop μ-loop
 check-slot-requires c κs =
-    let l = c .before .before in
+    let l = c .before .before .before in
     let p = l .before .before .pre in
     (checking-slot _ _ _ _ _ _ (l .loop .inv) _ (p .0) (omega arith), p .1, p .2)
 
@@ -34,7 +35,7 @@ enum-known-verdict c = search needs
 returns : tie.Need-returns Inv-loop μ-loop
 returns c =
     let s = c .before .before .before in
-    let l = s .before .before .before in
+    let l = s .before .before .before .before in
     checking-refused _ _ _ _ _ _ (l .loop .inv) (omega arith) _ _ (s .check-slot .ensures) _ (c .before .verdict .given .1)
 
 add-k : tie.Need-add-k Inv-loop μ-loop
@@ -46,7 +47,7 @@ loop-less c = search needs
 loop-again : tie.Need-loop-again Inv-loop μ-loop
 loop-again c =
     let s = c .before .before in
-    let l = s .before .before .before in
+    let l = s .before .before .before .before in
     checking-next _ _ _ _ _ _ (l .loop .inv) (omega arith) _ _ (s .check-slot .ensures) (c .enum-told .given .1)
 
 returns-2 : tie.Need-returns-2 Inv-loop μ-loop

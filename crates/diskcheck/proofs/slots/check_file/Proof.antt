@@ -1,15 +1,16 @@
 -- `diskcheck::slots::check_file` meets its contract: the chain's claim decides first, then the count.
 use native.Mathlib.Omega.{arith}
+use mathlib.Core.Path.{refl}
 use borrow.Author.Needs.{needs}
-use Rattle.diskcheck.proofs.SlotLaws.{file-refused, file-fine, file-miscounted}
+use Rattle.diskcheck.proofs.SlotLaws.{file-refused, file-last, file-fine, file-miscounted}
 use Rattle.diskcheck.proofs.slots.check_file.Statement.{statement}
 use Rattle.diskcheck.proofs.slots.check_file.Tie as tie
 
 shared-slice-read-claim-chain : tie.Need-shared-slice-read-claim-chain
 shared-slice-read-claim-chain c = search needs
 
-shared-slice-read-t15 : tie.Need-shared-slice-read-t15
-shared-slice-read-t15 c = search needs
+shared-slice-read-t18 : tie.Need-shared-slice-read-t18
+shared-slice-read-t18 c = search needs
 
 add-claim-chain : tie.Need-add-claim-chain
 add-claim-chain c = search needs
@@ -29,37 +30,53 @@ sector-count-requires c κs = search needs
 cast-if1 : tie.Need-cast-if1
 cast-if1 c = search needs
 
+cast-k : tie.Need-cast-k
+cast-k c = search needs
+
+end-in-requires : tie.Need-end-in-requires
+end-in-requires c κs =
+    let e = c .before .before .before .before in
+    let s = e .before .before .before .before .before .before .before .before .before in
+    let p = s .pre in
+    (p .0 .sized .size, file-last _ _ _ (s .args .slot .now) (s .args .at) _ _ (rw (e .claim2 .given .1) at (e .before .before .claim-chain .ensures)), p .2)
+
+element-write-ends : tie.Need-element-write-ends
+element-write-ends c = search needs
+
 returns : tie.Need-returns
 returns c =
     let claimed = c .before .before .before .claim-chain .ensures in
-    file-refused _ _ _ _ _ _ (rw (c .before .claim .given .1) at claimed)
+    file-refused _ _ _ _ _ _ _ (rw (c .before .claim .given .1) at claimed)
 
 returns-2 : tie.Need-returns-2
 returns-2 c =
-    let ended = c .before .before .before in
-    let claimed = ended .before .before .claim-chain .ensures in
-    let count = c .before .sector-count .ensures .count in
-    file-fine _ _ _ _ _ _ (rw (ended .claim2 .given .1) at claimed) (omega arith)
+    let s = c .before .before .before in
+    let e = s .before .before in
+    let count = s .sector-count .ensures .count in
+    file-fine _ _ _ _ _ _ _ (rw (e .claim2 .given .1) at (e .before .before .claim-chain .ensures)) (omega arith) (c .end-in .ensures) refl
 
 returns-3 : tie.Need-returns-3
 returns-3 c =
-    let ended = c .before .before .before in
-    let claimed = ended .before .before .claim-chain .ensures in
-    let count = c .before .sector-count .ensures .count in
-    file-miscounted _ _ _ _ _ _ (rw (ended .claim2 .given .1) at claimed) (λ same. c .if1 .left (omega arith))
+    let s = c .before in
+    let e = s .before .before in
+    let count = s .sector-count .ensures .count in
+    file-miscounted _ _ _ _ _ _ _ (rw (e .claim2 .given .1) at (e .before .before .claim-chain .ensures)) _ (λ same. c .if1 .left (omega arith))
 
 pub check-file-spec : {M : Type 1} → statement M
 check-file-spec =
     tie.close
     (tie.spec
     shared-slice-read-claim-chain
-    shared-slice-read-t15
+    shared-slice-read-t18
     add-claim-chain
     claim-chain-requires
     enum-known-claim
     enum-known-claim-2
     sector-count-requires
     cast-if1
+    cast-k
+    end-in-requires
+    element-write-ends
     returns
     returns-2
     returns-3)

@@ -7,7 +7,7 @@ use Rattle.diskcheck.proofs.slots.check_slot.Statement.{statement}
 use Rattle.diskcheck.proofs.slots.check_slot.Tie as tie
 
 slot-of-requires : tie.Need-slot-of-requires
-slot-of-requires c κs = let p = c .before .pre .0 in (p .size, p .inside)
+slot-of-requires c κs = let p = c .before .pre .0 in (p .sized .size, p .inside)
 
 shared-slice-read-if1 : tie.Need-shared-slice-read-if1
 shared-slice-read-if1 c = omega (arith, c .before .slot-of .ensures .full)
@@ -17,24 +17,24 @@ returns c =
     let s = c .before .before in
     slot-empty _ _ _ _ _ _ (s .before .before .pre .0) (s .slot-of .ensures .is) (omega arith)
 
-element-copy-out-t12 : tie.Need-element-copy-out-t12
-element-copy-out-t12 c = search needs
+element-copy-out-t13 : tie.Need-element-copy-out-t13
+element-copy-out-t13 c = search needs
 
-cast-t16 : tie.Need-cast-t16
-cast-t16 c = search needs
+cast-t17 : tie.Need-cast-t17
+cast-t17 c = search needs
 
 check-occupied-requires : tie.Need-check-occupied-requires
 check-occupied-requires c κs =
-    let s = c .before .before .before .before in
+    let s = c .before .before .before .before .before in
     let p = s .before .before .pre in
-    (record { size = p .0 .size; long = p .0 .long; full = s .slot-of .ensures .full; slot = p .0 .within }, p .1, p .2)
+    (record { sized = p .0 .sized; full = s .slot-of .ensures .full; slot = p .0 .within }, p .1, p .2)
 
 returns-2 : tie.Need-returns-2
 returns-2 c =
-    let i = c .before .before .before in
+    let i = c .before .before .before .before in
     let s = i .before .before in
     c .check-occupied .ensures ∙ slot-occupied _ _ _ _ _ _ (s .before .before .pre .0) (s .slot-of .ensures .is) (λ empty. i .if1 .left (omega arith))
 
 pub check-slot-spec : {M : Type 1} → statement M
 check-slot-spec =
-    tie.close (tie.spec slot-of-requires shared-slice-read-if1 returns element-copy-out-t12 cast-t16 check-occupied-requires returns-2)
+    tie.close (tie.spec slot-of-requires shared-slice-read-if1 returns element-copy-out-t13 cast-t17 check-occupied-requires returns-2)

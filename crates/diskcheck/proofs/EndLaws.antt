@@ -1,0 +1,96 @@
+-- Where chains end: the last sector of a chain that is walked, and the table of the files' ends.
+-- In order: a chain's last sector; entries of the table. What a call may rely on: proofs/CheckedLaws.
+use Prim.Native.Nat.{ℕ, _<_}
+use native.Mathlib.Omega.{arith}
+use native.Mathlib.Decide.{ℕ-discrete}
+use mathlib.Core.Path.{_≡_, refl, sym, ap, _∙_}
+use mathlib.Core.Bool.{Bool, true, false, cond}
+use mathlib.Core.List.{List, [], _∷_, List·Memᴰ, List·Memᴰ·head, List·Memᴰ·tail}
+use lib.ListN.{length, getD, set, length-set}
+use lib.Seq.{getD-set-same, getD-set-other}
+use Rattle.d64spec.specs.Lists.{Bytes, byte}
+use Rattle.d64spec.specs.Answers.{Address, address, done}
+use Rattle.d64spec.specs.Geometry.{layout35, onDisk, sectorNumber}
+use Rattle.d64spec.specs.Image.{disk}
+use Rattle.d64spec.specs.Chain.{ends, to, bad, linkTo, fileLink, steps, Chain}
+use Rattle.d64spec.specs.Directory.{File}
+use Rattle.d64spec.specs.Store.{lastOf}
+use Rattle.d64spec.proofs.BoundLaws.{fileLink-on, linkTo-on}
+use Rattle.d64spec.proofs.WalkLaws.{walk-sound}
+use Rattle.owners.specs.OwnerTable.{owned}
+use Rattle.diskcheck.specs.Chains.{chainWalk}
+use Rattle.diskcheck.specs.EndTable.{endOf, withEnds}
+
+-- ---- a chain's last sector
+
+-- it is on the disk, and its second byte is where the chain ends, whatever sector held the first link
+pub record LastSector (img : Bytes) (holder : Address) (l : List Address) : Type 0 where
+  pub on : onDisk layout35 (lastOf holder l) ≡ true
+  pub end : byte (disk img (sectorNumber layout35 (lastOf holder l))) 1 ≡ endOf img l
+
+-- a slot's first link does not end a chain
+linkTo-ends : (t s : ℕ) → linkTo layout35 t s ≡ ends → ⊥
+unfolding linkTo
+linkTo-ends t s e = go (onDisk layout35 (address t s)) e
+  where
+    go : (b : Bool) → cond b (to (address t s)) bad ≡ ends → ⊥
+    go true e′ = let z : _≡_ {A = ℕ} 0 1 = cc in omega arith
+    go false e′ = let z : _≡_ {A = ℕ} 0 1 = cc in omega arith
+
+module _ (img : Bytes) where
+  -- links lead to sectors of the disk
+  last-on : (r : Address) (l : List Address) → onDisk layout35 r ≡ true
+      → Chain layout35 (fileLink layout35) (disk img) (fileLink layout35 (disk img (sectorNumber layout35 r))) l
+      → onDisk layout35 (lastOf r l) ≡ true
+  unfolding lastOf
+  last-on r [] on c = on
+  last-on r (q ∷ l) on c = last-on q l (rw (c .0) at (fileLink-on layout35 (disk img (sectorNumber layout35 r)))) (c .1)
+
+  pub last-sector : (holder : Address) (t s : ℕ) (l : List Address) → Chain layout35 (fileLink layout35) (disk img) (linkTo layout35 t s) l
+      → LastSector img holder l
+  unfolding endOf lastOf
+  last-sector holder t s [] c = absurd (linkTo-ends t s c)
+  last-sector holder t s (r ∷ l) c = record { on = last-on r l (rw (c .0) at (linkTo-on layout35 t s)) (c .1); end = refl }
+
+  -- of the definition's walk
+  pub walk-last : (own : List ℕ) (holder : Address) (slot t s : ℕ) (l : List Address) → chainWalk img own holder slot t s ≡ done l → LastSector img holder l
+  unfolding chainWalk
+  walk-last own holder slot t s l e = last-sector holder t s l
+      (walk-sound layout35 (fileLink layout35) (disk img) (steps layout35) (owned own) holder slot (linkTo layout35 t s) l e .chain)
+
+-- ---- entries of the table
+
+module _ (img : Bytes) (n x : ℕ) where
+  -- x is the end of each of these files that lies in slot n
+  abbrev EndsAt : List File → Type 0
+  EndsAt l = (f : File) → List·Memᴰ f l → f .slot .number ≡ n → endOf img (f .sectors) ≡ x
+
+  -- an end noted at slot n
+  getD-noted : (es : List ℕ) (k y : ℕ) → n < length es → k ≡ n → getD (set es k y) n 0 ≡ y
+  getD-noted es k y b e = rw e (getD-set-same es n y 0 b)
+
+  -- the entry stays, where each file of that slot ends there
+  pub getD-withEnds-kept : (l : List File) (es : List ℕ) → n < length es → EndsAt l → getD es n 0 ≡ x → getD (withEnds img l es) n 0 ≡ x
+  getD-withEnds-kept [] es b same h = h
+  getD-withEnds-kept (f ∷ l) es b same h =
+      let k : ℕ = f .slot .number in
+      let y : ℕ = endOf img (f .sectors) in
+      getD-withEnds-kept l (set es k y) (omega (arith, length-set es k y)) (λ g m. same g (List·Memᴰ·tail m))
+      (elim (ℕ-discrete k n) [
+        | yes e ↦ getD-noted es k y b e ∙ same f (List·Memᴰ·head refl) e
+        | no e ↦ getD-set-other es k n y 0 (λ z. e (sym z)) ∙ h
+      ])
+
+  -- a file's entry is its end
+  pub getD-withEnds-same : {f : File} (l : List File) (es : List ℕ) → n < length es → EndsAt l → List·Memᴰ f l → f .slot .number ≡ n
+      → getD (withEnds img l es) n 0 ≡ x
+  getD-withEnds-same {f} (g ∷ l) es b same (List·Memᴰ·head e) here =
+      let k : ℕ = g .slot .number in
+      let y : ℕ = endOf img (g .sectors) in
+      let at : k ≡ n = ap (λ (z : File). z .slot .number) (sym e) ∙ here in
+      getD-withEnds-kept l (set es k y) (omega (arith, length-set es k y)) (λ z m. same z (List·Memᴰ·tail m))
+      (getD-noted es k y b at ∙ same g (List·Memᴰ·head refl) at)
+  getD-withEnds-same (g ∷ l) es b same (List·Memᴰ·tail m) here =
+      let k : ℕ = g .slot .number in
+      let y : ℕ = endOf img (g .sectors) in
+      getD-withEnds-same l (set es k y) (omega (arith, length-set es k y)) (λ z h. same z (List·Memᴰ·tail h)) m here
