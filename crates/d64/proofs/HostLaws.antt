@@ -65,10 +65,10 @@ unfolding answerTo whereFine verdictOf
 answer-whereFine Fine y = refl
 answer-whereFine (Refused f) y = refl
 
-answer-foundIn : (x : Result DirectoryContents) → answerTo (foundIn x) ≡ answerTo x
+answer-foundIn : (img : Bytes) (x : Result DirectoryContents) → answerTo (foundIn img x) ≡ answerTo x
 unfolding answerTo foundIn
-answer-foundIn (refused f) = refl
-answer-foundIn (done c) = refl
+answer-foundIn img (refused f) = refl
+answer-foundIn img (done c) = refl
 
 -- check changes nothing, and its answer is the result's
 reply-check : (img : Bytes) (x : Result DirectoryContents) → reply img [] (x >> done (unchanged img [])) ≡ record { answer = answerTo x; change = unchanged img [] }
@@ -81,7 +81,7 @@ pub check-replied : (img : Bytes) (r : Checked) (report : Report) → ImageCheck
 unfolding perform attempt outputBuffer callCheck
 check-replied img r report checked reported =
     let x = checkImage layout35 img in
-    let answered = sym (answer-whereFine (r .verdict) _) ∙ (ap answerTo (checked .told) ∙ answer-foundIn x) in
+    let answered = sym (answer-whereFine (r .verdict) _) ∙ (ap answerTo (checked .told) ∙ answer-foundIn img x) in
     ap (λ s. replyOf s img []) reported ∙ (ap (λ a. record { answer = a; change = unchanged img [] }) answered ∙ sym (reply-check img x))
 
 -- ---- the listing
