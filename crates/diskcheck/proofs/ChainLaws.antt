@@ -3,7 +3,7 @@
 use Prim.Native.Nat.{ℕ, zero, suc, _+_, _*_, _-_, _≤_, _<_}
 use native.Mathlib.Omega.{arith}
 use native.Mathlib.Nat.{add-sub-cancel-left}
-use mathlib.Core.Path.{_≡_, refl, sym, ap, _∙_}
+use mathlib.Core.Path.{_≡_, refl, sym, ap, ap₂, _∙_}
 use mathlib.Core.Bool.{Bool, true, false, cond, _&&_}
 use mathlib.Core.List.{List, _∷_, map}
 use lib.ListN.{length, take, drop, getD, set, length-set}
@@ -29,7 +29,9 @@ use Rattle.owners.proofs.TableLaws.{freeCount, freeCount-le}
 use Rattle.owners.proofs.Walking.{Walking, walking-start, walking-ends, walking-bad, walking-owned, walking-moved, walking-fewer}
 use Rattle.diskcheck.specs.declared.chain.Claim as claims
 use Rattle.diskcheck.specs.declared.chain.Claim.the-variants as claim
+use Rattle.diskcheck.specs.EndTable.{endOf}
 use Rattle.diskcheck.specs.Chains.{Claimed, claimOf, claimed, heldBy, claimOff, chainWalk, Ready}
+use Rattle.diskcheck.proofs.EndLaws.{lastByte, walk-last}
 
 -- ---- the links on the way
 
@@ -60,42 +62,45 @@ pub record Passed : Type 0 where
   pub count : ℕ
   pub last : Address
 
-unfoldable pub claimedAfter : ℕ → Passed → List ℕ → Result (List Address) → Result Claimed
-claimedAfter id p own (refused f) = refused f
-claimedAfter id p own (done l) =
-    done (record { count = p .count + length l; last = lastOf (p .last) l; table = withOwner id (map (sectorNumber layout35) l) own })
+unfoldable pub claimedAfter : Bytes → ℕ → Passed → List ℕ → Result (List Address) → Result Claimed
+claimedAfter img id p own (refused f) = refused f
+claimedAfter img id p own (done l) =
+    done (record { count = p .count + length l; end = lastByte img (p .last) l; table = withOwner id (map (sectorNumber layout35) l) own })
 
-claimed-first : (id : ℕ) (own : List ℕ) (holder : Address) (x : Result (List Address))
-    → claimedAfter id (record { count = 0; last = holder }) own x ≡ claimed id own holder x
+claimed-first : (img : Bytes) (id : ℕ) (own : List ℕ) (holder : Address) (x : Result (List Address))
+    → ((l : List Address) → x ≡ done l → lastByte img holder l ≡ endOf img l)
+    → claimedAfter img id (record { count = 0; last = holder }) own x ≡ claimed img id own x
 unfolding claimedAfter claimed
-claimed-first id own holder (refused f) = refl
-claimed-first id own holder (done l) =
+claimed-first img id own holder (refused f) last = refl
+claimed-first img id own holder (done l) last =
     let e : 0 + length l ≡ length l = omega arith in
-    ap (λ (n : ℕ). done (record { count = n; last = lastOf holder l; table = withOwner id (map (sectorNumber layout35) l) own })) e
+    ap₂ (λ (n m : ℕ). done (record { count = n; end = m; table = withOwner id (map (sectorNumber layout35) l) own })) e (last l refl)
 
-claimed-next : (id : ℕ) (p : Passed) (own : List ℕ) (r : Address) (x : Result (List Address))
-    → claimedAfter id p own (x >>= (λ l. done (r ∷ l))) ≡ claimedAfter id (record { count = p .count + 1; last = r }) (set own (sectorNumber layout35 r) id) x
+claimed-next : (img : Bytes) (id : ℕ) (p : Passed) (own : List ℕ) (r : Address) (x : Result (List Address))
+    → claimedAfter img id p own (x >>= (λ l. done (r ∷ l)))
+    ≡ claimedAfter img id (record { count = p .count + 1; last = r }) (set own (sectorNumber layout35 r) id) x
 unfolding claimedAfter lastOf
-claimed-next id p own r (refused f) = refl
-claimed-next id p own r (done l) =
+claimed-next img id p own r (refused f) = refl
+claimed-next img id p own r (done l) =
     let e : p .count + suc (length l) ≡ p .count + 1 + length l = omega arith in
     let own′ : List ℕ = set own (sectorNumber layout35 r) id in
-    ap (λ (n : ℕ). done (record { count = n; last = lastOf r l; table = withOwner id (map (sectorNumber layout35) l) own′ })) e
+    ap (λ (n : ℕ). done (record { count = n; end = lastByte img r l; table = withOwner id (map (sectorNumber layout35) l) own′ })) e
 
 -- ---- the invariant
 
 -- the definition's claim of a whole chain
 abbrev pub chainClaim : Bytes → List ℕ → ℕ → ℕ → CodeAddress → ℕ → ℕ → Result Claimed
-chainClaim img own id slot from t s = claimed id own (addressOf from) (chainWalk img own (addressOf from) slot t s)
+chainClaim img own id slot from t s = claimed img id own (chainWalk img own (addressOf from) slot t s)
 
 -- the walk along a chain, where `passed` sectors are claimed and `holder` holds the link k; the outcome is o
 abbrev pub Along : Bytes → ℕ → ℕ → Result Claimed → ℕ → List ℕ → CodeAddress → Link → Type 0
 Along img id slot o passed own holder k =
-    Walking layout35 (fileLink layout35) (disk img) (claimedAfter id) slot o (record { count = passed; last = addressOf holder }) own (addressOf holder) k
+    Walking layout35 (fileLink layout35) (disk img) (claimedAfter img id) slot o (record { count = passed; last = addressOf holder }) own (addressOf holder) k
 
--- the same at a link of the bytes t and s, on the disk or not
+-- the same at a link of the bytes t and s, on the disk or not; once a sector is passed, s is its second byte
 pub record Claims (img : Bytes) (id slot : ℕ) (o : Result Claimed) (own : List ℕ) (holder : CodeAddress) (t s passed : ℕ) : Type 0 where
   pub walking : Along img id slot o passed own holder (linkAfter passed t s)
+  pub held : 1 ≤ passed → s ≡ byte (disk img (sectorNumber layout35 (addressOf holder))) 1
   pub long : length own ≡ 683
   pub few : passed + freeCount own ≤ 683
 
@@ -107,9 +112,10 @@ claims-start img own id slot from t s ready =
     let k : Link = linkTo layout35 t s in
     record {
       walking =
-          rw (← claimed-first)
-          (walking-start layout35 (fileLink layout35) (disk img) (claimedAfter id) slot (fileLink-on layout35)
+          rw (← (claimed-first img id own (addressOf from) (chainWalk img own (addressOf from) slot t s) (walk-last img own (addressOf from) slot t s)))
+          (walking-start layout35 (fileLink layout35) (disk img) (claimedAfter img id) slot (fileLink-on layout35)
           (record { count = 0; last = addressOf from }) own (addressOf from) k (long ∙ sym sectors35) (linkTo-on layout35 t s));
+      held = λ h. absurd (omega arith);
       long = long;
       few = omega (arith, freeCount-le own);
     }
@@ -120,16 +126,13 @@ pub record Named (t s n : ℕ) : Type 0 where
   pub number : n ≡ sectorNumber layout35 (address t s)
   pub inside : n < 683
 
--- by the layout's table of first numbers
-pub named-on : {firsts : List ℕ} {t s n : ℕ} → IsFirsts firsts → onDisk layout35 (address t s) ≡ true → n ≡ numberBy firsts (address t s) → Named t s n
-named-on {t = t} {s = s} fs on is =
-    let number = is ∙ fs .agrees (address t s) on in
-    record { on = on; number = number; inside = omega (arith, number, sectorNumber-lt layout35 (address t s) on, sectors35) }
-
--- and by that of counts
+-- by the layout's tables
 pub named : {counts firsts : List ℕ} {t s n : ℕ} → IsCounts counts → IsFirsts firsts → onDiskBy counts (address t s) ≡ true
     → n ≡ numberBy firsts (address t s) → Named t s n
-named {t = t} {s = s} cs fs e is = named-on fs (sym (cs .agrees (address t s)) ∙ e) is
+named {t = t} {s = s} cs fs e is =
+    let on = sym (cs .agrees (address t s)) ∙ e in
+    let number = is ∙ fs .agrees (address t s) on in
+    record { on = on; number = number; inside = omega (arith, number, sectorNumber-lt layout35 (address t s) on, sectors35) }
 
 -- t and s had no owner and are claimed now: the walk is at the first two bytes of the sector, which is lent as `part`
 pub record Moved (img : Bytes) (id slot : ℕ) (o : Result Claimed) (own : List ℕ) (t s n : ℕ) (part : Bytes) (passed : ℕ) : Type 0 where
@@ -145,7 +148,7 @@ module _ (t s n : ℕ) (holder : CodeAddress) (slot : ℕ) where
   unfolding claimOff
   off-first h = go (eqb t 0) (ltb 0 s)
     where
-      go : (a b : Bool) → cond (a && b && ltb 0 n) (claim.Ended n holder) badHere ≡ badHere
+      go : (a b : Bool) → cond (a && b && ltb 0 n) (claim.Ended n s) badHere ≡ badHere
       go true true = rw (le-ltb 0 n (omega arith))
       go true false = refl
       go false b = refl
@@ -158,11 +161,11 @@ module _ (t s n : ℕ) (holder : CodeAddress) (slot : ℕ) where
   unfolding claimOff
   off-zero h = go (eqb t 0)
     where
-      go : (a : Bool) → cond (a && ltb 0 s && ltb 0 n) (claim.Ended n holder) badHere ≡ badHere
+      go : (a : Bool) → cond (a && ltb 0 s && ltb 0 n) (claim.Ended n s) badHere ≡ badHere
       go true = rw (le-ltb 0 s (omega arith))
       go false = refl
 
-  pub off-end : t < 1 → 1 ≤ s → 1 ≤ n → claimOff t s n holder slot ≡ claim.Ended n holder
+  pub off-end : t < 1 → 1 ≤ s → 1 ≤ n → claimOff t s n holder slot ≡ claim.Ended n s
   unfolding claimOff
   off-end h k m = rw (eq-eqb t 0 (omega arith), lt-ltb 0 s k, lt-ltb 0 n m)
 
@@ -170,7 +173,7 @@ module _ {img : Bytes} {id slot : ℕ} {o : Result Claimed} {own : List ℕ} {ho
   bad-off : {t s passed : ℕ} → Claims img id slot o own holder t s passed → linkAfter passed t s ≡ bad
       → claimOf (claim.Refused (BadLink (heldBy holder slot))) own ≡ o
   unfolding claimOf faultOf claimedAfter
-  bad-off w e = walking-bad layout35 (fileLink layout35) (disk img) (claimedAfter id) slot (rw e at (w .walking))
+  bad-off w e = walking-bad layout35 (fileLink layout35) (disk img) (claimedAfter img id) slot (rw e at (w .walking))
 
   -- a link off the disk ends the chain, or is bad
   off : (t s passed : ℕ) → Claims img id slot o own holder t s passed → onDisk layout35 (address t s) ≡ false
@@ -183,8 +186,8 @@ module _ {img : Bytes} {id slot : ℕ} {o : Result Claimed} {own : List ℕ} {ho
   off zero (suc s) (suc n) w e =
       let z : suc n ≡ suc n + 0 = omega arith in
       rw (off-end 0 (suc s) (suc n) holder slot (omega arith) (omega arith) (omega arith))
-      (ap (λ (k : ℕ). done (record { count = k; last = addressOf holder; table = own })) z
-      ∙ walking-ends layout35 (fileLink layout35) (disk img) (claimedAfter id) slot
+      (ap₂ (λ (k m : ℕ). done (record { count = k; end = m; table = own })) z (w .held (omega arith))
+      ∙ walking-ends layout35 (fileLink layout35) (disk img) (claimedAfter img id) slot
       (rw (file-ends layout35 0 (suc s) (omega arith) (omega arith)) at (w .walking)))
 
   module _ {t s passed : ℕ} (w : Claims img id slot o own holder t s passed) where
@@ -199,7 +202,7 @@ module _ {img : Bytes} {id slot : ℕ} {o : Result Claimed} {own : List ℕ} {ho
       -- a sector that has an owner
       pub claims-owned : {p : Place} → p ≡ heldBy holder slot → (getD own n 0 ≡ 0 → ⊥) → claimOf (claim.Refused (AlreadyOwned p)) own ≡ o
       unfolding claimOf faultOf claimedAfter
-      claims-owned place h = rw place (walking-owned layout35 (fileLink layout35) (disk img) (claimedAfter id) slot here (rw (r .number) at h))
+      claims-owned place h = rw place (walking-owned layout35 (fileLink layout35) (disk img) (claimedAfter img id) slot here (rw (r .number) at h))
 
       -- a sector that has none, lent as a part of the image
       pub claims-moved : {part : Bytes} → part ≡ disk img n → getD own n 0 ≡ 0 → 1 ≤ id → Moved img id slot o own t s n part passed
@@ -209,17 +212,18 @@ module _ {img : Bytes} {id slot : ℕ} {o : Result Claimed} {own : List ℕ} {ho
           let number : sectorNumber layout35 (address t s) ≡ n = sym (r .number) in
           let free : getD own (sectorNumber layout35 (address t s)) 0 ≡ 0 = rw number none in
           let fewer : freeCount own ≡ suc (freeCount (set own n id))
-          = rw number at (walking-fewer layout35 (fileLink layout35) (disk img) (claimedAfter id) slot id here free owner) in
+          = rw number at (walking-fewer layout35 (fileLink layout35) (disk img) (claimedAfter img id) slot id here free owner) in
           let few : passed + freeCount own ≤ 683 = w .few in
           let moved : Along img id slot o (passed + 1) (set own n id) (record { track = t; sector = s }) k
-          = rw number at (walking-moved layout35 (fileLink layout35) (disk img) (claimedAfter id) slot id
+          = rw number at (walking-moved layout35 (fileLink layout35) (disk img) (claimedAfter img id) slot id
           (record { count = passed + 1; last = address t s }) k here free owner
           (rw number refl) (fileLink-on layout35 (disk img n))
-          (λ x. claimed-next id (record { count = passed; last = addressOf holder }) own (address t s) x)) in
+          (λ x. claimed-next img id (record { count = passed; last = addressOf holder }) own (address t s) x)) in
           record {
             fewer = fewer;
             next = rw lent (record {
               walking = rw (after-more passed (byte (disk img n) 0) (byte (disk img n) 1)) moved;
+              held = λ h. ap (λ (m : ℕ). byte (disk img m) 1) (r .number);
               long = length-set own n id ∙ w .long;
               few = omega arith;
             });

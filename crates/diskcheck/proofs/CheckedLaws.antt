@@ -33,7 +33,7 @@ use Rattle.diskcheck.specs.declared.Checked.{Checked}
 use Rattle.diskcheck.specs.EndTable.{endOf, endTable}
 use Rattle.diskcheck.specs.SlotChecks.{imageOccupied, tables}
 use Rattle.diskcheck.specs.ImageChecks.{Found, foundIn, directoryCount, ImageChecked}
-use Rattle.diskcheck.proofs.EndLaws.{last-sector, getD-withEnds-kept, getD-withEnds-same}
+use Rattle.diskcheck.proofs.EndLaws.{last-byte, getD-withEnds-kept, getD-withEnds-same}
 use Rattle.diskcheck.proofs.TrackLaws.{sectorsOf-whole, occupied-by-track18}
 
 -- an image without a fault, and what the check hands back: its directory, its occupied slots by number, its owners, its files' ends
@@ -128,5 +128,5 @@ module _ (img : Bytes) (a : Accepted layout35 img) where
   end-tells small f m =
       let l = file-length layout35 img a small f m in
       let v = all-mem (ValidEntry layout35 (disk img)) m (a .content .entry) in
-      let e : lastUsed layout35 (disk img) f ≡ endOf img (f .sectors) = last-sector img (f .slot .holder) _ _ (f .sectors) (v .chain) .end in
+      let e : lastUsed layout35 (disk img) f ≡ endOf img (f .sectors) = last-byte img (f .slot .holder) _ _ (f .sectors) (v .chain) in
       record { low = omega (arith, l .low, e); high = omega (arith, l .high, e); bytes = omega (arith, l .bytes, e) }

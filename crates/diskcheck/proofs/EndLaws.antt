@@ -15,18 +15,12 @@ use Rattle.d64spec.specs.Image.{disk}
 use Rattle.d64spec.specs.Chain.{ends, to, bad, linkTo, fileLink, steps, Chain}
 use Rattle.d64spec.specs.Directory.{File}
 use Rattle.d64spec.specs.Store.{lastOf}
-use Rattle.d64spec.proofs.BoundLaws.{fileLink-on, linkTo-on}
 use Rattle.d64spec.proofs.WalkLaws.{walk-sound}
 use Rattle.owners.specs.OwnerTable.{owned}
 use Rattle.diskcheck.specs.Chains.{chainWalk}
 use Rattle.diskcheck.specs.EndTable.{endOf, withEnds}
 
 -- ---- a chain's last sector
-
--- it is on the disk, and its second byte is where the chain ends, whatever sector held the first link
-pub record LastSector (img : Bytes) (holder : Address) (l : List Address) : Type 0 where
-  pub on : onDisk layout35 (lastOf holder l) ≡ true
-  pub end : byte (disk img (sectorNumber layout35 (lastOf holder l))) 1 ≡ endOf img l
 
 -- a slot's first link does not end a chain
 linkTo-ends : (t s : ℕ) → linkTo layout35 t s ≡ ends → ⊥
@@ -38,24 +32,22 @@ linkTo-ends t s e = go (onDisk layout35 (address t s)) e
     go false e′ = let z : _≡_ {A = ℕ} 0 1 = cc in omega arith
 
 module _ (img : Bytes) where
-  -- links lead to sectors of the disk
-  last-on : (r : Address) (l : List Address) → onDisk layout35 r ≡ true
-      → Chain layout35 (fileLink layout35) (disk img) (fileLink layout35 (disk img (sectorNumber layout35 r))) l
-      → onDisk layout35 (lastOf r l) ≡ true
-  unfolding lastOf
-  last-on r [] on c = on
-  last-on r (q ∷ l) on c = last-on q l (rw (c .0) at (fileLink-on layout35 (disk img (sectorNumber layout35 r)))) (c .1)
+  -- the second byte of the last sector that is met after `holder`
+  abbrev pub lastByte : Address → List Address → ℕ
+  lastByte holder l = byte (disk img (sectorNumber layout35 (lastOf holder l))) 1
 
-  pub last-sector : (holder : Address) (t s : ℕ) (l : List Address) → Chain layout35 (fileLink layout35) (disk img) (linkTo layout35 t s) l
-      → LastSector img holder l
+  -- is where the chain ends, whatever sector held the first link
+  pub last-byte : (holder : Address) (t s : ℕ) (l : List Address) → Chain layout35 (fileLink layout35) (disk img) (linkTo layout35 t s) l
+      → lastByte holder l ≡ endOf img l
   unfolding endOf lastOf
-  last-sector holder t s [] c = absurd (linkTo-ends t s c)
-  last-sector holder t s (r ∷ l) c = record { on = last-on r l (rw (c .0) at (linkTo-on layout35 t s)) (c .1); end = refl }
+  last-byte holder t s [] c = absurd (linkTo-ends t s c)
+  last-byte holder t s (r ∷ l) c = refl
 
   -- of the definition's walk
-  pub walk-last : (own : List ℕ) (holder : Address) (slot t s : ℕ) (l : List Address) → chainWalk img own holder slot t s ≡ done l → LastSector img holder l
+  pub walk-last : (own : List ℕ) (holder : Address) (slot t s : ℕ) (l : List Address) → chainWalk img own holder slot t s ≡ done l
+      → lastByte holder l ≡ endOf img l
   unfolding chainWalk
-  walk-last own holder slot t s l e = last-sector holder t s l
+  walk-last own holder slot t s l e = last-byte holder t s l
       (walk-sound layout35 (fileLink layout35) (disk img) (steps layout35) (owned own) holder slot (linkTo layout35 t s) l e .chain)
 
 -- ---- entries of the table

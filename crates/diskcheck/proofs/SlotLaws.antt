@@ -7,16 +7,11 @@ use mathlib.Core.List.{List, map}
 use lib.ListN.{length, getD, set}
 use lib.Dec.{eqb}
 use borrow.Author.Tests.{eq-eqb, ne-eqb}
-use Rattle.d64spec.specs.Lists.{Bytes, byte}
+use Rattle.d64spec.specs.Lists.{Bytes}
 use Rattle.d64spec.specs.Answers.{Address, address, Fault, wrongCount, Result, refused, done, _>>=_, _>>_, need}
-use Rattle.d64spec.specs.Geometry.{layout35, sectorNumber, onDisk}
-use Rattle.d64spec.specs.Image.{disk}
+use Rattle.d64spec.specs.Geometry.{layout35, sectorNumber}
 use Rattle.d64spec.specs.Directory.{Slot, isEmpty, entryByte, countOf, firstLink}
-use Rattle.d64spec.specs.Store.{lastOf}
 use Rattle.d64spec.specs.Check.{checkEntry, checkSlot}
-use Rattle.d64spec.proofs.ResultLaws.{done-inj, refused≢done}
-use Rattle.geometry.specs.declared.Address.{Address as CodeAddress}
-use Rattle.geometry.specs.Layout.{addressOf}
 use Rattle.answers.specs.declared.Place.{Place}
 use Rattle.answers.specs.declared.Fault as code
 use Rattle.answers.specs.declared.Fault.the-variants.{WrongCount}
@@ -26,34 +21,31 @@ use Rattle.answers.specs.Faults.{sectorOf, faultOf, verdictOf, whereFine}
 use Rattle.owners.specs.OwnerTable.{withOwner, fileOwner}
 use Rattle.directory.specs.Directories.{entryVerdict}
 use Rattle.directory.proofs.EntryLaws.{number-at, holder-at, entry-verdict}
+use Rattle.diskcheck.specs.EndTable.{endOf}
 use Rattle.diskcheck.specs.Chains.{Claimed, claimed, claimOf, chainWalk}
 use Rattle.diskcheck.specs.declared.chain.Claim.{Claim}
 use Rattle.diskcheck.specs.declared.chain.Claim.the-variants as claim
 use Rattle.diskcheck.specs.SlotChecks.{imageSlot, imageNames, Tables, tables, tablesWith, checkChain, fileStep, occupiedStep, slotStep, SlotReady}
-use Rattle.diskcheck.proofs.EndLaws.{LastSector, walk-last}
 
 -- ---- the chain, then the count
 
 -- a claim's tables, once the count is compared: the end goes to the slot of that number
-counted : Bytes → ℕ → List ℕ → ℕ → Fault → Result Claimed → Result Tables
-counted img number ends n f r =
-    r >>= (λ c. need (eqb n (c .count)) f >> done (tables (c .table) (set ends number (byte (disk img (sectorNumber layout35 (c .last))) 1))))
+counted : ℕ → List ℕ → ℕ → Fault → Result Claimed → Result Tables
+counted number ends n f r =
+    r >>= (λ c. need (eqb n (c .count)) f >> done (tables (c .table) (set ends number (c .end))))
 
-counted-claimed : (img : Bytes) (number : ℕ) (t : Tables) (n : ℕ) (f : Fault) (holder : Address) (w : Result (List Address))
-    → ((l : List Address) → w ≡ done l → LastSector img holder l)
-    → counted img number (t .ends) n f (claimed (fileOwner number) (t .owners) holder w)
+counted-claimed : (img : Bytes) (number : ℕ) (t : Tables) (n : ℕ) (f : Fault) (w : Result (List Address))
+    → counted number (t .ends) n f (claimed img (fileOwner number) (t .owners) w)
     ≡ tablesWith img number t (w >>= (λ l. need (eqb n (length l)) f >> done l))
 unfolding counted claimed tablesWith
-counted-claimed img number t n f holder (refused g) last = refl
-counted-claimed img number t n f holder (done l) last = go (eqb n (length l))
+counted-claimed img number t n f (refused g) = refl
+counted-claimed img number t n f (done l) = go (eqb n (length l))
   where
     owners : List ℕ
     owners = withOwner (fileOwner number) (map (sectorNumber layout35) l) (t .owners)
 
-    go : (b : Bool)
-        → (need b f >> done (tables owners (set (t .ends) number (byte (disk img (sectorNumber layout35 (lastOf holder l))) 1))))
-        ≡ tablesWith img number t (need b f >> done l)
-    go true = ap (λ (e : ℕ). done (tables owners (set (t .ends) number e))) (last l refl .end)
+    go : (b : Bool) → (need b f >> done (tables owners (set (t .ends) number (endOf img l)))) ≡ tablesWith img number t (need b f >> done l)
+    go true = refl
     go false = refl
 
 -- the definition's walk of the chain of the file with bytes b at a place
@@ -62,29 +54,15 @@ walked img own b at = chainWalk img own (sectorOf at) (at .slot) (entryByte b 0x
 
 -- what the claim of that chain answers
 abbrev Claims : Bytes → List ℕ → List ℕ → Bytes → Place → Claim → Type 0
-Claims img own own′ b at c = claimOf c own′ ≡ claimed (fileOwner (at .slot)) own (sectorOf at) (walked img own b at)
-
--- a chain that ends does so in a sector of the disk
-pub file-last : (img own own′ b : List ℕ) (at : Place) (n : ℕ) (last : CodeAddress) → Claims img own own′ b at (claim.Ended n last)
-    → onDisk layout35 (addressOf last) ≡ true
-unfolding claimOf claimed
-file-last img own own′ b at n last ended = go (walked img own b at) refl ended
-  where
-    go : (w : Result (List Address)) → walked img own b at ≡ w
-        → claimOf (claim.Ended n last) own′ ≡ claimed (fileOwner (at .slot)) own (sectorOf at) w → onDisk layout35 (addressOf last) ≡ true
-    go (refused f) is e = refused≢done f _ (sym e)
-    go (done l) is e =
-        let same : addressOf last ≡ lastOf (sectorOf at) l = ap (λ (c : Claimed). c .last) (done-inj e) in
-        rw same (walk-last img own (sectorOf at) (at .slot) (entryByte b 0x03) (entryByte b 0x04) l is .on)
+Claims img own own′ b at c = claimOf c own′ ≡ claimed img (fileOwner (at .slot)) own (walked img own b at)
 
 module _ (img : Bytes) (t : Tables) (own′ b : List ℕ) (at : Place) where
   file-counted : (c : Claim) → Claims img (t .owners) own′ b at c
-      → counted img (at .slot) (t .ends) (countOf b) (wrongCount (sectorOf at) (at .slot)) (claimOf c own′) ≡ fileStep img t b (sectorOf at) (at .slot)
+      → counted (at .slot) (t .ends) (countOf b) (wrongCount (sectorOf at) (at .slot)) (claimOf c own′) ≡ fileStep img t b (sectorOf at) (at .slot)
   unfolding fileStep checkChain
   file-counted c e =
-      ap (counted img (at .slot) (t .ends) (countOf b) (wrongCount (sectorOf at) (at .slot))) e
-      ∙ counted-claimed img (at .slot) t (countOf b) (wrongCount (sectorOf at) (at .slot)) (sectorOf at) (walked img (t .owners) b at)
-      (walk-last img (t .owners) (sectorOf at) (at .slot) (entryByte b 0x03) (entryByte b 0x04))
+      ap (counted (at .slot) (t .ends) (countOf b) (wrongCount (sectorOf at) (at .slot))) e
+      ∙ counted-claimed img (at .slot) t (countOf b) (wrongCount (sectorOf at) (at .slot)) (walked img (t .owners) b at)
 
   -- a refused chain is the file's fault
   pub file-refused : (ends′ : List ℕ) (f : code.Fault) → Claims img (t .owners) own′ b at (claim.Refused f)
@@ -92,18 +70,18 @@ module _ (img : Bytes) (t : Tables) (own′ b : List ℕ) (at : Place) where
   unfolding claimOf whereFine counted
   file-refused ends′ f e = file-counted (claim.Refused f) e
 
-  module _ (n : ℕ) (last : CodeAddress) (ended : Claims img (t .owners) own′ b at (claim.Ended n last)) where
+  module _ (n end : ℕ) (ended : Claims img (t .owners) own′ b at (claim.Ended n end)) where
     -- a chain whose sectors are as many as the slot says: its end is noted at the slot's number
-    pub file-fine : countOf b ≡ n → {k end : ℕ} → end ≡ byte (disk img (sectorNumber layout35 (addressOf last))) 1 → k ≡ at .slot
-        → whereFine Fine (tables own′ (set (t .ends) k end)) ≡ fileStep img t b (sectorOf at) (at .slot)
+    pub file-fine : countOf b ≡ n → {k x : ℕ} → x ≡ end → k ≡ at .slot
+        → whereFine Fine (tables own′ (set (t .ends) k x)) ≡ fileStep img t b (sectorOf at) (at .slot)
     unfolding claimOf whereFine counted
-    file-fine same is number = rw (is, number) (sym (rw (eq-eqb (countOf b) n same)) ∙ file-counted (claim.Ended n last) ended)
+    file-fine same is number = rw (is, number) (sym (rw (eq-eqb (countOf b) n same)) ∙ file-counted (claim.Ended n end) ended)
 
     -- or not
     pub file-miscounted : (ends′ : List ℕ) → (countOf b ≡ n → ⊥)
         → whereFine (Refused (WrongCount at)) (tables own′ ends′) ≡ fileStep img t b (sectorOf at) (at .slot)
     unfolding claimOf whereFine counted faultOf
-    file-miscounted ends′ other = sym (rw (ne-eqb (countOf b) n other)) ∙ file-counted (claim.Ended n last) ended
+    file-miscounted ends′ other = sym (rw (ne-eqb (countOf b) n other)) ∙ file-counted (claim.Ended n end) ended
 
 -- ---- the entry, then the file
 

@@ -11,25 +11,24 @@ use Rattle.d64spec.specs.Answers.{Address, Result, refused, done}
 use Rattle.d64spec.specs.Geometry.{layout35, sectorNumber}
 use Rattle.d64spec.specs.Image.{disk}
 use Rattle.d64spec.specs.Chain.{linkTo, fileLink, steps, walk}
-use Rattle.d64spec.specs.Store.{lastOf}
 use Rattle.geometry.specs.declared.Address.{Address as CodeAddress}
-use Rattle.geometry.specs.Layout.{addressOf}
 use Rattle.answers.specs.declared.Place.{Place}
 use Rattle.answers.specs.declared.Fault.the-variants.{BadLink}
 use Rattle.answers.specs.Faults.{faultOf}
 use Rattle.owners.specs.OwnerTable.{owned, withOwner}
+use Rattle.diskcheck.specs.EndTable.{endOf}
 use Rattle.diskcheck.specs.declared.chain.Claim.{Claim}
 use Rattle.diskcheck.specs.declared.chain.Claim.the-variants as claim
 
--- the sectors of a chain counted, the last of them, and the table after it
+-- the sectors of a chain counted, where its data end, and the table after it
 pub record Claimed : Type 0 where
   pub count : ℕ
-  pub last : Address
+  pub end : ℕ
   pub table : List ℕ
 
 -- what a claim's answer means, with the table that it leaves where nothing is refused
 unfoldable pub claimOf : Claim → List ℕ → Result Claimed
-claimOf (claim.Ended n last) own = done (record { count = n; last = addressOf last; table = own })
+claimOf (claim.Ended n end) own = done (record { count = n; end = end; table = own })
 claimOf (claim.Refused f) own = refused (faultOf f)
 
 -- the place of a fault of the link that `holder` holds (01, Answer numbers: sector holding it, slot)
@@ -39,12 +38,12 @@ heldBy holder slot = record { track = holder .track; sector = holder .sector; sl
 -- what a link off the disk, of the bytes t and s, says that `holder` holds after n sectors of a chain: its end, where one of them holds it and it is
 -- 00 and then 01 to FF; else it is bad (01, Chains)
 unfoldable pub claimOff : ℕ → ℕ → ℕ → CodeAddress → ℕ → Claim
-claimOff t s n holder slot = cond (eqb t 0 && ltb 0 s && ltb 0 n) (claim.Ended n holder) (claim.Refused (BadLink (heldBy holder slot)))
+claimOff t s n holder slot = cond (eqb t 0 && ltb 0 s && ltb 0 n) (claim.Ended n s) (claim.Refused (BadLink (heldBy holder slot)))
 
--- the sectors of a walk claimed for the owner `id`, where `holder` holds the first link
-unfoldable pub claimed : ℕ → List ℕ → Address → Result (List Address) → Result Claimed
-claimed id own holder (refused f) = refused f
-claimed id own holder (done l) = done (record { count = length l; last = lastOf holder l; table = withOwner id (map (sectorNumber layout35) l) own })
+-- the sectors of a walk claimed for the owner `id`
+unfoldable pub claimed : Bytes → ℕ → List ℕ → Result (List Address) → Result Claimed
+claimed img id own (refused f) = refused f
+claimed img id own (done l) = done (record { count = length l; end = endOf img l; table = withOwner id (map (sectorNumber layout35) l) own })
 
 -- the definition's walk of the chain that a first link to track t, sector s starts, which the sector `holder` holds
 unfoldable pub chainWalk : Bytes → List ℕ → Address → ℕ → ℕ → ℕ → Result (List Address)

@@ -1,19 +1,14 @@
 // A file's chain, claimed sector by sector in the owner table (01, Chains; Order of the check, 3).
 ghost use mathlib.Core.Path.{_≡_};
-ghost use mathlib.Core.Bool.{true};
-ghost use lib.ListN.{length};
-ghost use Rattle.d64spec.specs.Lists.{byte};
-ghost use Rattle.d64spec.specs.Geometry.{layout35, sectorNumber, onDisk};
-ghost use Rattle.d64spec.specs.Image.{disk};
 ghost use Rattle.geometry.specs.Layout.{addressOf, IsCounts, IsFirsts};
 ghost use Rattle.diskcheck.specs.Chains.{claimOf, claimed, chainWalk, heldBy, claimOff, Ready};
 use answers::Fault;
 use answers::Place;
 use geometry::Address;
 
-// What a claim answers: the number of the chain's sectors and the last of them, or a fault.
+// What a claim answers: the number of the chain's sectors and that of the last byte used in the last of them, or a fault.
 pub(crate) enum Claim {
-    Ended(usize, Address),
+    Ended(usize, u8),
     Refused(Fault),
 }
 
@@ -42,7 +37,7 @@ fn claim_off(link: Address, count: usize, holder: Address, slot: u8) -> Claim
     if link.sector == 0 {
         return Claim::Refused(Fault::BadLink(place));
     }
-    Claim::Ended(count, holder)
+    Claim::Ended(count, link.sector)
 }
 
 // Claims the chain that starts at `first`, a link that the sector `from` holds: each of its sectors gets the owner `id`.
@@ -60,7 +55,7 @@ pub(crate) fn claim_chain(
 ) -> Claim
     requires { ⌜ Ready (now img) (now own) id × IsCounts (now counts) × IsFirsts (now firsts) ⌝ }
     ensures { λ r. ⌜ claimOf r (now (own .exit))
-        ≡ claimed id (now (own .entry)) (addressOf from)
+        ≡ claimed (now (img .entry)) id (now (own .entry))
         (chainWalk (now (img .entry)) (now (own .entry)) (addressOf from) slot (first .track) (first .sector)) ⌝ }
 {
     let mut holder = from;
@@ -82,14 +77,4 @@ pub(crate) fn claim_chain(
         track = part[0];
         sector = part[1];
     }
-}
-
-// The number of the last byte that a chain uses in its last sector: the second byte of that sector's link.
-pub(crate) fn end_in(img: &[u8], last: Address, firsts: &[u16; 35]) -> u8
-    requires { ⌜ (length (now img) ≡ 174848) × (onDisk layout35 (addressOf last) ≡ true) × IsFirsts (now firsts) ⌝ }
-    ensures { λ r. ⌜ r ≡ byte (disk (now (img .entry)) (sectorNumber layout35 (addressOf last))) 1 ⌝ }
-{
-    let n = geometry::number_by(firsts, last);
-    let part = &img[256 * n..256 * n + 256];
-    part[1]
 }

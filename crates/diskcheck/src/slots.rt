@@ -8,7 +8,6 @@ ghost use Rattle.geometry.specs.Layout.{IsCounts, IsFirsts};
 ghost use Rattle.diskcheck.specs.SlotChecks.{tables, FileReady, fileStep, occupiedStep, LentSlot, SlotReady, slotStep, SlotsReady, slotsStep};
 use crate::chain::Claim;
 use crate::chain::claim_chain;
-use crate::chain::end_in;
 use answers::Fault;
 use answers::Place;
 use answers::Verdict;
@@ -39,10 +38,10 @@ fn check_file(
     let claim = claim_chain(img, own, at.slot + 3, at.slot, from, first, counts, firsts);
     match claim {
         Claim::Refused(fault) => Verdict::Refused(fault),
-        Claim::Ended(count, last) => {
+        Claim::Ended(count, end) => {
             if count == entry::sector_count(slot) as usize {
                 let k = at.slot as usize;
-                ends[k] = end_in(img, last, firsts);
+                ends[k] = end;
                 Verdict::Fine
             } else {
                 Verdict::Refused(Fault::WrongCount(at))

@@ -2,7 +2,7 @@
 use native.Mathlib.Omega.{arith}
 use mathlib.Core.Path.{refl}
 use borrow.Author.Needs.{needs}
-use Rattle.diskcheck.proofs.SlotLaws.{file-refused, file-last, file-fine, file-miscounted}
+use Rattle.diskcheck.proofs.SlotLaws.{file-refused, file-fine, file-miscounted}
 use Rattle.diskcheck.proofs.slots.check_file.Statement.{statement}
 use Rattle.diskcheck.proofs.slots.check_file.Tie as tie
 
@@ -33,13 +33,6 @@ cast-if1 c = search needs
 cast-k : tie.Need-cast-k
 cast-k c = search needs
 
-end-in-requires : tie.Need-end-in-requires
-end-in-requires c κs =
-    let e = c .before .before .before .before in
-    let s = e .before .before .before .before .before .before .before .before .before in
-    let p = s .pre in
-    (p .0 .sized .size, file-last _ _ _ (s .args .slot .now) (s .args .at) _ _ (rw (e .claim2 .given .1) at (e .before .before .claim-chain .ensures)), p .2)
-
 element-write-ends : tie.Need-element-write-ends
 element-write-ends c = search needs
 
@@ -50,10 +43,10 @@ returns c =
 
 returns-2 : tie.Need-returns-2
 returns-2 c =
-    let s = c .before .before .before in
+    let s = c .before .before in
     let e = s .before .before in
     let count = s .sector-count .ensures .count in
-    file-fine _ _ _ _ _ _ _ (rw (e .claim2 .given .1) at (e .before .before .claim-chain .ensures)) (omega arith) (c .end-in .ensures) refl
+    file-fine _ _ _ _ _ _ _ (rw (e .claim2 .given .1) at (e .before .before .claim-chain .ensures)) (omega arith) refl refl
 
 returns-3 : tie.Need-returns-3
 returns-3 c =
@@ -75,7 +68,6 @@ check-file-spec =
     sector-count-requires
     cast-if1
     cast-k
-    end-in-requires
     element-write-ends
     returns
     returns-2
