@@ -1,7 +1,7 @@
 -- Document 01's worked examples hold: one statement for each table of specs/Examples and specs/Trial. Where a definition is wrong, the check names the table that fails, and of the P table the rows.
 use mathlib.Core.Path.{_≡_, refl}
-use mathlib.Core.List.{[]}
-use Rattle.d64spec.specs.Lists.{ascending, descending}
+use mathlib.Core.List.{[], _∷_, map}
+use Rattle.d64spec.specs.Lists.{ascending, descending, range}
 use Rattle.d64spec.specs.Answers.{first}
 use Rattle.d64spec.specs.Geometry.{allocationOrder, allocationTracks, firstOn, layout35, onDisk, sectorNumber, sectorsOfTrack, sectorsOn, total, tracks}
 use Rattle.d64spec.specs.Image.{disk, image, put}
@@ -18,13 +18,24 @@ use Rattle.d64spec.specs.Scratch.{callScratch, scratchedDisk}
 use Rattle.d64spec.specs.Call.{attempt, callCheck, outputBuffer, perform}
 use Rattle.d64spec.specs.Listing.{bytesOfTrack18, callListing, digit, diskOfTrack18, freeTotal, headFrame, line, listingOutput, listingText, refusalLine, sleeveOutput, slotFrame}
 use Rattle.d64spec.specs.Host.{answerBlock, hostCall}
-use Rattle.d64spec.specs.Examples.{broken, brokenSteps, brokenZones, content, contentsOf, diskAt, exampleSteps, formatted, grown, holds, houseTracks, isDone, lastSector, scratchedAgain, stepHolds, storedOnce, table, trackBytes, withFile, zoneHolds, zones}
+use Rattle.d64spec.specs.Examples.{broken, brokenSteps, brokenWritten, brokenZones, content, contentsOf, diskAt, entryOf, exampleSteps, formatted, grown, holds, houseTracks, isDone, lastSector, marked, scratchedAgain, stepHolds, storedOnce, table, trackBytes, withFile, writtenHolds, writtenNumbers, zoneHolds, zones}
 use Rattle.d64spec.specs.Trial.{afterCall, brokenCalls, callHolds, checkRows, entryOn19, fieldsOf, freshImage, imageFar, imageOf, imageWithA, imageWithAB, imageWithEight, orderRows, readRows, sent, sleeveRows, smallLayout, tellRows, withEnds, writeRows}
 
 -- THE EXAMPLES MARKED P HOLD
 pub table-holds : broken table ≡ []
-unfolding table holds lastSector sectorNumber onDisk layout35 firstOn sectorsOn total tracks mapOnes mapBit sectorsNeeded allocationOrder allocationTracks ascending descending sectorsOfTrack lastOf put
+unfolding table holds marked disk lastSector sectorNumber onDisk layout35 firstOn sectorsOn total tracks mapOnes mapBit sectorsNeeded allocationOrder allocationTracks ascending descending sectorsOfTrack lastOf put
 table-holds = refl
+
+-- NUMBERS, LOW BYTE FIRST: the count of a slot, read and written, and every byte of the answer block's length and sectors
+pub written-hold : brokenWritten writtenNumbers ≡ []
+unfolding writtenNumbers writtenHolds entryOf newEntry padded answerBlock
+written-hold = refl
+
+-- THE SIXTEEN DIGITS: 0123456789ABCDEF (01, Sleeve listing)
+pub digits-are : map digit (range 0 16)
+    ≡ 0x30 ∷ 0x31 ∷ 0x32 ∷ 0x33 ∷ 0x34 ∷ 0x35 ∷ 0x36 ∷ 0x37 ∷ 0x38 ∷ 0x39 ∷ 0x41 ∷ 0x42 ∷ 0x43 ∷ 0x44 ∷ 0x45 ∷ 0x46 ∷ []
+unfolding digit
+digits-are = refl
 
 -- THE PUBLISHED LAYOUT: document 01's table of tracks
 pub zones-hold : brokenZones zones ≡ []

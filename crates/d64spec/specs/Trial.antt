@@ -32,6 +32,10 @@ nameB = 0x42 ∷ []
 abbrev pub nameC : Bytes
 nameC = 0x43 ∷ []
 
+-- a name of 16 bytes
+abbrev pub nameOf16 : Bytes
+nameOf16 = 0x01 ∷ 0x12 ∷ 0x23 ∷ 0x34 ∷ 0x45 ∷ 0x56 ∷ 0x67 ∷ 0x78 ∷ 0x89 ∷ 0x9A ∷ 0xAB ∷ 0xBC ∷ 0xCD ∷ 0xDE ∷ 0xEF ∷ 0xF0 ∷ []
+
 -- 300 bytes
 unfoldable pub sent : Bytes
 sent = range 1 200 ++ range 1 100
@@ -79,6 +83,7 @@ pub data Given : Type 0 where
   farFile : Given  -- A in 18/1, and B, SEQ, ten bytes in 19/2, in slot 8, the first of 18/2
   farLinkTwice farLinkOff farType farName farSharedName farFirstLinkOff farMeets farCount : Given
   countsOf255 : Given  -- count bytes of tracks without sectors
+  oddEntry : Given  -- names of 16 bytes; a locked file with a count of 664 and a first sector off the disk, of which a listing asks neither
 
 -- the formatted image
 unfoldable pub freshImage : Bytes
@@ -140,6 +145,8 @@ imageOf farFirstLinkOff = patch18 2 0x03 (20 ∷ 0 ∷ []) imageFar
 imageOf farMeets = patch18 2 0x03 (19 ∷ 1 ∷ []) imageFar
 imageOf farCount = patch18 2 0x1F (1 ∷ []) imageFar
 imageOf countsOf255 = patch18 0 0x04 (255 ∷ 0 ∷ 0 ∷ 0 ∷ 255 ∷ []) imageWithA
+imageOf oddEntry =
+    patch18 0 0x90 (range 0x41 16) (patch18 1 0x02 (0xC2 ∷ 0xFF ∷ 0xFE ∷ []) (patch18 1 0x05 nameOf16 (patch18 1 0x1E (0x98 ∷ 0x02 ∷ []) imageWithA)))
 
 -- ---- rows
 
@@ -277,13 +284,47 @@ tellRows =
     ∷ told delEntry 0 (4 ∷ 18 ∷ 1 ∷ 0 ∷ zeros 21)
     ∷ []
 
--- what the listing program writes: count bytes as they stand, and refusals in two digits
+-- ---- the listing program
+
+-- the text of n bytes $A0, which is n times A0
+abbrev pub textA0 : ℕ → Bytes
+textA0 n = join (replicate n (0x41 ∷ 0x30 ∷ []))
+
+-- the first line of the disk D: 44, fifteen times A0, 3031, LF
+abbrev pub headOfD : Bytes
+headOfD = 0x34 ∷ 0x34 ∷ (textA0 15 ++ (0x33 ∷ 0x30 ∷ 0x33 ∷ 0x31 ∷ 0x0A ∷ []))
+
+-- the line of A: 82130041, fifteen times A0, 0200, LF
+abbrev pub lineOfA : Bytes
+lineOfA = 0x38 ∷ 0x32 ∷ 0x31 ∷ 0x33 ∷ 0x30 ∷ 0x30 ∷ 0x34 ∷ 0x31 ∷ (textA0 15 ++ (0x30 ∷ 0x32 ∷ 0x30 ∷ 0x30 ∷ 0x0A ∷ []))
+
+-- the line of B: 81130242, fifteen times A0, 0100, LF
+abbrev pub lineOfB : Bytes
+lineOfB = 0x38 ∷ 0x31 ∷ 0x31 ∷ 0x33 ∷ 0x30 ∷ 0x32 ∷ 0x34 ∷ 0x32 ∷ (textA0 15 ++ (0x30 ∷ 0x31 ∷ 0x30 ∷ 0x30 ∷ 0x0A ∷ []))
+
+-- a first line without padding: 4142434445464748494A4B4C4D4E4F503031, LF
+abbrev pub headOf16 : Bytes
+headOf16 =
+    0x34 ∷ 0x31 ∷ 0x34 ∷ 0x32 ∷ 0x34 ∷ 0x33 ∷ 0x34 ∷ 0x34 ∷ 0x34 ∷ 0x35 ∷ 0x34 ∷ 0x36 ∷ 0x34 ∷ 0x37 ∷ 0x34 ∷ 0x38
+    ∷ 0x34 ∷ 0x39 ∷ 0x34 ∷ 0x41 ∷ 0x34 ∷ 0x42 ∷ 0x34 ∷ 0x43 ∷ 0x34 ∷ 0x44 ∷ 0x34 ∷ 0x45 ∷ 0x34 ∷ 0x46 ∷ 0x35 ∷ 0x30
+    ∷ 0x33 ∷ 0x30 ∷ 0x33 ∷ 0x31 ∷ 0x0A ∷ []
+
+-- the line of the file of `oddEntry`: C2FFFE, 0112233445566778899AABBCCDDEEFF0, 9802, LF
+abbrev pub lineOfOdd : Bytes
+lineOfOdd =
+    0x43 ∷ 0x32 ∷ 0x46 ∷ 0x46 ∷ 0x46 ∷ 0x45
+    ∷ 0x30 ∷ 0x31 ∷ 0x31 ∷ 0x32 ∷ 0x32 ∷ 0x33 ∷ 0x33 ∷ 0x34 ∷ 0x34 ∷ 0x35 ∷ 0x35 ∷ 0x36 ∷ 0x36 ∷ 0x37 ∷ 0x37 ∷ 0x38
+    ∷ 0x38 ∷ 0x39 ∷ 0x39 ∷ 0x41 ∷ 0x41 ∷ 0x42 ∷ 0x42 ∷ 0x43 ∷ 0x43 ∷ 0x44 ∷ 0x44 ∷ 0x45 ∷ 0x45 ∷ 0x46 ∷ 0x46 ∷ 0x30
+    ∷ 0x39 ∷ 0x38 ∷ 0x30 ∷ 0x32 ∷ 0x0A ∷ []
+
+-- what the listing program writes: every byte of its frames as it stands, count bytes too, and refusals in two digits
 unfoldable pub sleeveRows : List CallRow
 sleeveRows =
-    sleeve oneFile (52 ∷ 52 ∷ 65 ∷ 48 ∷ 65 ∷ 48 ∷ 65 ∷ 48 ∷ 65 ∷ 48 ∷ 65 ∷ 48 ∷ 65 ∷ 48 ∷ 65 ∷ 48 ∷ 65 ∷ 48 ∷ 65 ∷ 48 ∷ 65 ∷ 48 ∷ 65 ∷ 48 ∷ 65 ∷ 48 ∷ 65 ∷ 48 ∷ 65 ∷ 48 ∷ 65 ∷ 48 ∷ 51 ∷ 48 ∷ 51 ∷ 49 ∷ 10 ∷ 56 ∷ 50 ∷ 49 ∷ 51 ∷ 48 ∷ 48 ∷ 52 ∷ 49 ∷ 65 ∷ 48 ∷ 65 ∷ 48 ∷ 65 ∷ 48 ∷ 65 ∷ 48 ∷ 65 ∷ 48 ∷ 65 ∷ 48 ∷ 65 ∷ 48 ∷ 65 ∷ 48 ∷ 65 ∷ 48 ∷ 65 ∷ 48 ∷ 65 ∷ 48 ∷ 65 ∷ 48 ∷ 65 ∷ 48 ∷ 65 ∷ 48 ∷ 65 ∷ 48 ∷ 48 ∷ 50 ∷ 48 ∷ 48 ∷ 10 ∷ 48 ∷ 48 ∷ 48 ∷ 56 ∷ 10 ∷ [])
-    ∷ sleeve farFile (52 ∷ 52 ∷ 65 ∷ 48 ∷ 65 ∷ 48 ∷ 65 ∷ 48 ∷ 65 ∷ 48 ∷ 65 ∷ 48 ∷ 65 ∷ 48 ∷ 65 ∷ 48 ∷ 65 ∷ 48 ∷ 65 ∷ 48 ∷ 65 ∷ 48 ∷ 65 ∷ 48 ∷ 65 ∷ 48 ∷ 65 ∷ 48 ∷ 65 ∷ 48 ∷ 65 ∷ 48 ∷ 51 ∷ 48 ∷ 51 ∷ 49 ∷ 10 ∷ 56 ∷ 50 ∷ 49 ∷ 51 ∷ 48 ∷ 48 ∷ 52 ∷ 49 ∷ 65 ∷ 48 ∷ 65 ∷ 48 ∷ 65 ∷ 48 ∷ 65 ∷ 48 ∷ 65 ∷ 48 ∷ 65 ∷ 48 ∷ 65 ∷ 48 ∷ 65 ∷ 48 ∷ 65 ∷ 48 ∷ 65 ∷ 48 ∷ 65 ∷ 48 ∷ 65 ∷ 48 ∷ 65 ∷ 48 ∷ 65 ∷ 48 ∷ 65 ∷ 48 ∷ 48 ∷ 50 ∷ 48 ∷ 48 ∷ 10 ∷ 56 ∷ 49 ∷ 49 ∷ 51 ∷ 48 ∷ 50 ∷ 52 ∷ 50 ∷ 65 ∷ 48 ∷ 65 ∷ 48 ∷ 65 ∷ 48 ∷ 65 ∷ 48 ∷ 65 ∷ 48 ∷ 65 ∷ 48 ∷ 65 ∷ 48 ∷ 65 ∷ 48 ∷ 65 ∷ 48 ∷ 65 ∷ 48 ∷ 65 ∷ 48 ∷ 65 ∷ 48 ∷ 65 ∷ 48 ∷ 65 ∷ 48 ∷ 65 ∷ 48 ∷ 48 ∷ 49 ∷ 48 ∷ 48 ∷ 10 ∷ 48 ∷ 48 ∷ 48 ∷ 55 ∷ 10 ∷ [])
-    ∷ sleeve countsOf255 (52 ∷ 52 ∷ 65 ∷ 48 ∷ 65 ∷ 48 ∷ 65 ∷ 48 ∷ 65 ∷ 48 ∷ 65 ∷ 48 ∷ 65 ∷ 48 ∷ 65 ∷ 48 ∷ 65 ∷ 48 ∷ 65 ∷ 48 ∷ 65 ∷ 48 ∷ 65 ∷ 48 ∷ 65 ∷ 48 ∷ 65 ∷ 48 ∷ 65 ∷ 48 ∷ 65 ∷ 48 ∷ 51 ∷ 48 ∷ 51 ∷ 49 ∷ 10 ∷ 56 ∷ 50 ∷ 49 ∷ 51 ∷ 48 ∷ 48 ∷ 52 ∷ 49 ∷ 65 ∷ 48 ∷ 65 ∷ 48 ∷ 65 ∷ 48 ∷ 65 ∷ 48 ∷ 65 ∷ 48 ∷ 65 ∷ 48 ∷ 65 ∷ 48 ∷ 65 ∷ 48 ∷ 65 ∷ 48 ∷ 65 ∷ 48 ∷ 65 ∷ 48 ∷ 65 ∷ 48 ∷ 65 ∷ 48 ∷ 65 ∷ 48 ∷ 65 ∷ 48 ∷ 48 ∷ 50 ∷ 48 ∷ 48 ∷ 10 ∷ 48 ∷ 50 ∷ 48 ∷ 54 ∷ 10 ∷ [])
-    ∷ sleeve oneByteShort (48 ∷ 49 ∷ 10 ∷ [])
-    ∷ sleeve farType (48 ∷ 52 ∷ 10 ∷ [])
-    ∷ sleeve directoryLinkTwice (48 ∷ 51 ∷ 10 ∷ [])
+    sleeve oneFile (headOfD ++ (lineOfA ++ (0x30 ∷ 0x30 ∷ 0x30 ∷ 0x38 ∷ 0x0A ∷ [])))
+    ∷ sleeve farFile (headOfD ++ (lineOfA ++ (lineOfB ++ (0x30 ∷ 0x30 ∷ 0x30 ∷ 0x37 ∷ 0x0A ∷ []))))
+    ∷ sleeve countsOf255 (headOfD ++ (lineOfA ++ (0x30 ∷ 0x32 ∷ 0x30 ∷ 0x36 ∷ 0x0A ∷ [])))
+    ∷ sleeve oddEntry (headOf16 ++ (lineOfOdd ++ (0x30 ∷ 0x30 ∷ 0x30 ∷ 0x38 ∷ 0x0A ∷ [])))
+    ∷ sleeve oneByteShort (0x30 ∷ 0x31 ∷ 0x0A ∷ [])
+    ∷ sleeve farType (0x30 ∷ 0x34 ∷ 0x0A ∷ [])
+    ∷ sleeve directoryLinkTwice (0x30 ∷ 0x33 ∷ 0x0A ∷ [])
     ∷ []
