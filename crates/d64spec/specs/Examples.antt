@@ -2,6 +2,7 @@
 -- a missing value does not type; `broken` lists the rows that fail. The statements, one for each table: proofs/ExampleTables.
 -- In order: the rows marked P; numbers in two and four bytes; the table of tracks and house order; the disk that the other examples make; their rows.
 use Prim.Native.Nat.{ℕ, _+_, _*_, _-_}
+use mathlib.Core.Path.{_≡_}
 use mathlib.Core.Bool.{Bool, true, false, _&&_, not}
 use mathlib.Core.List.{List, [], _∷_, _++_, map}
 use lib.ListN.{length, take, drop, replicate}
@@ -32,14 +33,6 @@ pub data Example : Type 0 where
   mapEntry : ℕ → Bytes → ℕ → List ℕ → Example  -- a track, its map entry, the free sectors it counts, the sectors it marks used
   stored : ℕ → ℕ → ℕ → Example  -- a length, the sectors it needs, the last one's n as it is written
 
--- 256 bytes, none of them 0 and no two neighbours alike: a sector that is known wherever it stands
-unfoldable pub marked : Bytes
-marked = range 1 255 ++ (1 ∷ [])
-
--- an image with these bytes behind b zeros, and one byte more
-abbrev pub markedBehind : ℕ → Bytes
-markedBehind b = zeros b ++ (marked ++ (2 ∷ []))
-
 -- a map sector with an entry for this track and zeros before it
 abbrev pub entryAlone : ℕ → Bytes → Bytes
 entryAlone t e = zeros (4 * t) ++ e
@@ -50,15 +43,24 @@ lastSector n =
     let l = take (sectorsNeeded n) (allocationOrder layout35) in
     writeChain layout35 l (zeros n) (λ m. []) (sectorNumber layout35 (lastOf directoryStart l))
 
--- whether a row is as document 01 says
+-- whether a row is as document 01 says, but for the first byte of a sector
 unfoldable pub holds : Example → Bool
-holds (sectorAt r n b) = onDisk layout35 r && (eqb (sectorNumber layout35 r) n && equal (disk (markedBehind b) n) marked)
+holds (sectorAt r n b) = onDisk layout35 r && eqb (sectorNumber layout35 r) n
 holds (lastSectorAt r) = onDisk layout35 r && eqb (sectorNumber layout35 r + 1) (total layout35)
 holds (offDisk r) = not (onDisk layout35 r)
 holds (mapEntry t e n used) =
     eqb (byte e 0) n && (eqb (mapOnes layout35 (entryAlone t e) t) n
     && equal (filter (λ s. eqb (mapBit layout35 (entryAlone t e) t s) 0) (range 0 (sectorsOn layout35 t))) used)
 holds (stored n k last) = eqb (sectorsNeeded n) k && equal (part 0 1 (lastSector n)) (0 ∷ last ∷ [])
+
+-- where a row names a sector's first byte: in every image, the sector of that number is the 256 bytes from there on
+abbrev pub StartThere : List Example → Type 0
+StartThere [] = Unit {0}
+StartThere (sectorAt r n b ∷ l) = ((img : Bytes) → disk img n ≡ take 256 (drop b img)) × StartThere l
+StartThere (lastSectorAt r ∷ l) = StartThere l
+StartThere (offDisk r ∷ l) = StartThere l
+StartThere (mapEntry t e n used ∷ l) = StartThere l
+StartThere (stored n k last ∷ l) = StartThere l
 
 -- the rows that fail
 abbrev pub broken : List Example → List Example

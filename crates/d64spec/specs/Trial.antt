@@ -1,6 +1,6 @@
--- Every answer number of document 01, computed: whole calls on a small disk, each with the number, the block and the bytes that 01 gives for it.
--- The layout has three sectors on track 18, ten on track 19 and no other: an image of 3,328 bytes, small enough to compute on. The definitions are those of every layout.
--- In order: the layout; the images; rows; the table. The statement: proofs/ExampleTables, `calls-hold`.
+-- Whole calls on a small disk, computed: each with the number, the block and the bytes that document 01 gives for it. Refusals of every call, and their order:
+-- specs/TwoFaults. The layout has three sectors on track 18, ten on track 19 and no other: an image of 3,328 bytes, small enough to compute on. The definitions are those of every layout.
+-- In order: the layout; the images; rows; the tables. The statement: proofs/ExampleTables, `calls-hold`.
 use Prim.Native.Nat.{ℕ, zero, suc, _+_, _*_}
 use mathlib.Core.Bool.{Bool, _&&_, not}
 use mathlib.Core.List.{List, [], _∷_, _++_, map}
@@ -79,7 +79,6 @@ pub data Given : Type 0 where
   mapLinkElsewhere : Given  -- bytes 0-1 of 18/0 lead to a file's sector
   eightFiles : Given  -- all slots of 18/1 in use, and 18/2 free
   nineFiles : Given  -- and A in 18/2
-  fullDirectory : Given  -- eight files, one of them in 18/2
   farFile : Given  -- A in 18/1, and B, SEQ, ten bytes in 19/2, in slot 8, the first of 18/2
   farLinkTwice farLinkOff farType farName farSharedName farFirstLinkOff farMeets farCount : Given
   countsOf255 : Given  -- count bytes of tracks without sectors
@@ -134,7 +133,6 @@ imageOf bitPastTheLast = patch18 0 0x49 (0x0C ∷ []) imageWithA
 imageOf mapLinkElsewhere = patch18 0 0x00 (19 ∷ 1 ∷ []) imageWithA
 imageOf eightFiles = imageWithEight
 imageOf nineFiles = afterCall imageWithEight (store nameA 2 sent)
-imageOf fullDirectory = patch18 0 0x48 (zeros 4) (patch18 0 0x4C (3 ∷ 1 ∷ 3 ∷ 0 ∷ []) (patch18 2 0x00 (0 ∷ 1 ∷ []) (patch18 1 0x03 (18 ∷ 2 ∷ []) (relink 0 0 0 imageWithEight))))
 imageOf farFile = imageFar
 imageOf farLinkTwice = patch18 2 0x00 (18 ∷ 1 ∷ []) imageFar
 imageOf farLinkOff = patch18 2 0x00 (18 ∷ 3 ∷ []) imageFar
@@ -154,7 +152,6 @@ imageOf oddEntry =
 pub data CallRow : Type 0 where
   quiet : Given → Call → ℕ → Bytes → Bytes → CallRow  -- number, block and output afterwards; the image stays as it was
   writes : Given → Call → ℕ → Bytes → CallRow  -- number and block afterwards
-  badBlock : Given → Call → ℕ → CallRow  -- the length of a block that is refused with 16, and nothing written
   told : Given → ℕ → Bytes → CallRow  -- a position, and the reply in one list
   holdsAt : Given → ℕ → ℕ → Bytes → CallRow  -- these bytes, from this offset of a sector on
   sleeve : Given → Bytes → CallRow  -- what the listing program writes
@@ -180,9 +177,6 @@ callHolds (quiet s c n b o) =
     let r = hostCall smallLayout (imageOf s) lentBlock c in
     eqb (r .number) n && (equal (r .blockAfter) b && (equal (r .outputAfter) o && equal (r .imageAfter) (imageOf s)))
 callHolds (writes s c n b) = let r = hostCall smallLayout (imageOf s) lentBlock c in eqb (r .number) n && equal (r .blockAfter) b
-callHolds (badBlock s c k) =
-    let r = hostCall smallLayout (imageOf s) (replicate k 0xEE) c in
-    eqb (r .number) 16 && (equal (r .blockAfter) (replicate k 0xEE) && equal (r .imageAfter) (imageOf s))
 callHolds (told s p f) = equal (fieldsOf (tellReply (callTell smallLayout (imageOf s) p))) f
 callHolds (holdsAt s n i bs) = equal (take (length bs) (drop (256 * n + i) (imageOf s))) bs
 callHolds (sleeve s text) = equal (sleeveOutput smallLayout (imageOf s)) text
@@ -190,13 +184,6 @@ callHolds (sleeve s text) = equal (sleeveOutput smallLayout (imageOf s)) text
 -- the rows that fail
 abbrev pub brokenCalls : List CallRow → List CallRow
 brokenCalls l = filter (λ e. not (callHolds e)) l
-
--- a name that is too long, and one that holds $A0
-abbrev pub longName : Bytes
-longName = replicate 17 0x41
-
-abbrev pub paddedName : Bytes
-paddedName = 0x41 ∷ 0xA0 ∷ []
 
 -- the check: numbers 0 to 8 with their places, in the first directory sector and in the second
 unfoldable pub checkRows : List CallRow
@@ -231,34 +218,11 @@ checkRows =
     ∷ quiet farCount check 7 (faultAt 18 2 8) []
     ∷ []
 
--- refusals of format, store and scratch, and of the block: 1, 9, 10, then the check's, then 11 to 16. A row that breaks several rules shows which number comes first
-unfoldable pub orderRows : List CallRow
-orderRows =
-    quiet zeroBytes (format [] 0x30 0x31) 9 (report 0 0) []
-    ∷ quiet oneByteShort (format [] 0x30 0x31) 1 (report 0 0) []
-    ∷ quiet delEntry (scratch paddedName) 9 (report 0 0) []
-    ∷ quiet delEntry (store nameC 4 sent) 10 (report 0 0) []
-    ∷ quiet delEntry (store [] 4 sent) 9 (report 0 0) []
-    ∷ quiet delEntry (store nameC 1 sent) 4 (faultAt 18 1 0) []
-    ∷ quiet version42 (store nameA 1 sent) 11 (report 0 0) []
-    ∷ quiet version42 (scratch nameB) 11 (report 0 0) []
-    ∷ quiet oneFile (store nameA 1 sent) 12 (report 0 0) []
-    ∷ quiet oneFile (scratch nameB) 13 (report 0 0) []
-    ∷ quiet fullDirectory (store nameA 1 (zeros 2541)) 14 (report 0 0) []
-    ∷ quiet freshDisk (store nameA 1 (zeros 2541)) 15 (report 0 0) []
-    ∷ badBlock oneByteShort check 8
-    ∷ badBlock oneFile (scratch nameA) 10
-    ∷ []
-
--- reads: done and refused, with every byte of the output
+-- reads that are done, with every byte of the output
 unfoldable pub readRows : List CallRow
 readRows =
     quiet mapLinkElsewhere (read nameA (zeros 302)) 0 (0 ∷ 0 ∷ 255 ∷ 44 ∷ 1 ∷ 0 ∷ 0 ∷ 2 ∷ 0 ∷ []) (sent ++ zeros 2)
-    ∷ quiet oneByteShort (read [] (zeros 4)) 1 (report 0 0) (zeros 4)
-    ∷ quiet delEntry (read longName (zeros 4)) 9 (report 0 0) (zeros 4)
     ∷ quiet version42 (read nameA (zeros 302)) 0 (0 ∷ 0 ∷ 255 ∷ 44 ∷ 1 ∷ 0 ∷ 0 ∷ 2 ∷ 0 ∷ []) (sent ++ zeros 2)
-    ∷ quiet oneFile (read nameB (zeros 4)) 13 (report 0 0) (zeros 4)
-    ∷ quiet oneFile (read nameA (zeros 299)) 16 (report 0 0) (zeros 299)
     ∷ quiet twoFiles (read nameB (replicate 12 7)) 0 (report 10 1) (range 1 10 ++ (7 ∷ 7 ∷ []))
     ∷ []
 

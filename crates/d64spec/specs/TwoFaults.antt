@@ -13,7 +13,7 @@ use Rattle.d64spec.specs.Read.{callTell, tellReply}
 use Rattle.d64spec.specs.Call.{Call, check, format, read, store, scratch}
 use Rattle.d64spec.specs.Listing.{callListing, listingReply}
 use Rattle.d64spec.specs.Host.{hostCall}
-use Rattle.d64spec.specs.Trial.{smallLayout, nameA, nameC, longName, paddedName, entryOn19, patch18, relink, faultAt, report, fieldsOf}
+use Rattle.d64spec.specs.Trial.{smallLayout, nameA, nameC, entryOn19, patch18, relink, faultAt, report, fieldsOf}
 
 -- ---- an image
 
@@ -75,7 +75,7 @@ spoilt (f ∷ l) = spoil f (spoilt l)
 -- an image with these flaws, a call, and what document 01 gives for it
 pub data FaultRow : Type 0 where
   meets : List Flaw → Call → ℕ → Bytes → Bytes → FaultRow  -- number, block and output afterwards; the image stays
-  blockOf8 : List Flaw → Call → Bytes → FaultRow  -- an answer block of eight bytes: 16, and block, output and image stay
+  block : ℕ → List Flaw → Call → Bytes → FaultRow  -- the length of a block that is refused with 16, and the output; block, output and image stay
   tells : List Flaw → ℕ → Bytes → FaultRow  -- a position; number and place, and all zero besides
   lists : List Flaw → ℕ → ℕ → Bytes → FaultRow  -- so many bytes of track 18, and of a text buffer; number and place, length 0, and the buffer stays
 
@@ -92,9 +92,9 @@ unfoldable pub faultHolds : FaultRow → Bool
 faultHolds (meets l c n b o) =
     let r = hostCall smallLayout (spoilt l) (lent 9) c in
     eqb (r .number) n && (equal (r .blockAfter) b && (equal (r .outputAfter) o && equal (r .imageAfter) (spoilt l)))
-faultHolds (blockOf8 l c o) =
-    let r = hostCall smallLayout (spoilt l) (lent 8) c in
-    eqb (r .number) 16 && (equal (r .blockAfter) (lent 8) && (equal (r .outputAfter) o && equal (r .imageAfter) (spoilt l)))
+faultHolds (block k l c o) =
+    let r = hostCall smallLayout (spoilt l) (lent k) c in
+    eqb (r .number) 16 && (equal (r .blockAfter) (lent k) && (equal (r .outputAfter) o && equal (r .imageAfter) (spoilt l)))
 faultHolds (tells l p a) = equal (fieldsOf (tellReply (callTell smallLayout (spoilt l) p))) (a ++ zeros 21)
 faultHolds (lists l n k a) =
     let r = listingReply (lent k) (callListing smallLayout (take n (spoilt l)) (lent k)) in
@@ -104,9 +104,16 @@ faultHolds (lists l n k a) =
 abbrev pub brokenFaults : List FaultRow → List FaultRow
 brokenFaults l = filter (λ e. not (faultHolds e)) l
 
+-- a name that is too long, and one that holds $A0
+abbrev pub longName : Bytes
+longName = replicate 17 0x41
+
+abbrev pub paddedName : Bytes
+paddedName = 0x41 ∷ 0xA0 ∷ []
+
 -- ---- each alone
 
--- the image is accepted, and each flaw alone is refused with its number; so are the arguments below on an image without flaws
+-- the image is accepted, and each flaw alone is refused with its number; so are arguments, and an answer block of eight bytes or ten, on an image without flaws
 unfoldable pub aloneRows : List FaultRow
 aloneRows =
     meets [] check 0 (report 0 0) []
@@ -127,15 +134,21 @@ aloneRows =
     ∷ meets (countOf9 1 ∷ []) check 7 (faultAt 18 1 1) []
     ∷ meets (mapOf255 2 ∷ []) check 8 (faultAt 2 255 255) []
     ∷ meets (mapOf255 19 ∷ []) check 8 (faultAt 19 255 255) []
+    ∷ meets [] (format [] 0x30 0x31) 9 (report 0 0) []
+    ∷ meets [] (read longName (lent 4)) 9 (report 0 0) (lent 4)
     ∷ meets [] (scratch paddedName) 9 (report 0 0) []
     ∷ meets [] (store nameC 4 []) 10 (report 0 0) []
+    ∷ meets (version42 ∷ []) (store nameC 1 []) 11 (report 0 0) []
     ∷ meets (version42 ∷ []) (scratch nameA) 11 (report 0 0) []
     ∷ meets [] (store nameA 1 []) 12 (report 0 0) []
     ∷ meets [] (read nameC (lent 4)) 13 (report 0 0) (lent 4)
+    ∷ meets [] (scratch nameC) 13 (report 0 0) []
     ∷ meets (noSlotLeft ∷ []) (store nameC 1 []) 14 (report 0 0) []
     ∷ meets [] (store nameC 1 (zeros 1779)) 15 (report 0 0) []
     ∷ meets [] (read nameA (lent 299)) 16 (report 0 0) (lent 299)
-    ∷ lists [] 768 126 (16 ∷ 0 ∷ 0 ∷ 255 ∷ [])
+    ∷ lists [] 768 127 (16 ∷ 0 ∷ 0 ∷ 255 ∷ [])
+    ∷ block 8 [] check []
+    ∷ block 10 [] (scratch nameA) []
     ∷ []
 
 -- ---- check: 16 for the block; 1; the directory; slot by slot 4, 5, 6, 2 or 3, 7; 8, track by track
@@ -143,7 +156,7 @@ aloneRows =
 unfoldable pub checkPairs : List FaultRow
 checkPairs =
     -- 16 and 1
-    blockOf8 (cut ∷ []) check []
+    block 8 (cut ∷ []) check []
     -- 1 and the directory's 2
     ∷ meets (cut ∷ directoryTo 1 19 5 ∷ []) check 1 (report 0 0) []
     -- the directory's 2 and 3, at one link: 18/0 is the map's own, and no link of a directory
@@ -181,14 +194,14 @@ checkPairs =
 -- format: 16, 1, 9
 unfoldable pub formatPairs : List FaultRow
 formatPairs =
-    blockOf8 (cut ∷ []) (format nameA 0x30 0x31) []  -- 16 and 1
+    block 8 (cut ∷ []) (format nameA 0x30 0x31) []  -- 16 and 1
     ∷ meets (cut ∷ []) (format [] 0x30 0x31) 1 (report 0 0) []  -- 1 and 9
     ∷ []
 
 -- read: 16, 1, 9, 2 to 8, 13, 16. A file that is not there has no length: 13 and 16 are no pair, and 8 meets both
 unfoldable pub readPairs : List FaultRow
 readPairs =
-    blockOf8 (cut ∷ []) (read nameA (lent 4)) (lent 4)  -- 16 and 1
+    block 8 (cut ∷ []) (read nameA (lent 4)) (lent 4)  -- 16 and 1
     ∷ meets (cut ∷ []) (read longName (lent 4)) 1 (report 0 0) (lent 4)  -- 1 and 9
     ∷ meets (directoryTo 1 19 5 ∷ []) (read longName (lent 4)) 9 (report 0 0) (lent 4)  -- 9 and the directory's 2
     ∷ meets (mapOf255 19 ∷ []) (read nameC (lent 4)) 8 (faultAt 19 255 255) (lent 4)  -- 8 and 13
@@ -198,7 +211,7 @@ readPairs =
 -- store: 16, 1, 9, 10, 2 to 8, 11, 12, 14, 15
 unfoldable pub storePairs : List FaultRow
 storePairs =
-    blockOf8 (cut ∷ []) (store nameC 1 []) []  -- 16 and 1
+    block 8 (cut ∷ []) (store nameC 1 []) []  -- 16 and 1
     ∷ meets (cut ∷ []) (store [] 1 []) 1 (report 0 0) []  -- 1 and 9
     ∷ meets [] (store [] 4 []) 9 (report 0 0) []  -- 9 and 10
     ∷ meets (directoryTo 1 19 5 ∷ []) (store nameC 0 []) 10 (report 0 0) []  -- 10 and the directory's 2
@@ -211,7 +224,7 @@ storePairs =
 -- scratch: 16, 1, 9, 2 to 8, 11, 13
 unfoldable pub scratchPairs : List FaultRow
 scratchPairs =
-    blockOf8 (cut ∷ []) (scratch nameA) []  -- 16 and 1
+    block 8 (cut ∷ []) (scratch nameA) []  -- 16 and 1
     ∷ meets (cut ∷ []) (scratch paddedName) 1 (report 0 0) []  -- 1 and 9
     ∷ meets (directoryTo 1 19 5 ∷ []) (scratch paddedName) 9 (report 0 0) []  -- 9 and the directory's 2
     ∷ meets (mapOf255 19 ∷ version42 ∷ []) (scratch nameA) 8 (faultAt 19 255 255) []  -- 8 and 11
@@ -225,7 +238,7 @@ tellPairs =
     ∷ tells (mapOf255 19 ∷ []) 2 (8 ∷ 19 ∷ 255 ∷ 255 ∷ [])  -- 8 and 13
     ∷ []
 
--- listing: 1, the directory's 2 and 3, slot by slot 4, 5, 6, and 16 for its text of 127 bytes; the answer block's 16 is in crate d64
+-- listing: 1, the directory's 2 and 3, slot by slot 4, 5, 6, and 16 for its text of 128 bytes; the answer block's 16 is in crate d64
 unfoldable pub listingPairs : List FaultRow
 listingPairs =
     lists (directoryTo 1 19 5 ∷ []) 767 6234 (1 ∷ 0 ∷ 0 ∷ 255 ∷ [])  -- 1 and the directory's 2
