@@ -1,4 +1,5 @@
--- Document 01's worked examples hold: one statement for each table of specs/Examples and specs/Trial (specs/TwoFaults: OrderTables). Where a definition is wrong, the check names the table that fails, and of the P table the rows.
+-- Document 01's worked examples hold: one statement for each table of specs/Examples and specs/Trial. Where a definition is wrong, the check names
+-- the table that fails, and of the P table the rows. Not here: specs/TwoFaults (OrderTables).
 use mathlib.Core.Path.{_≡_, refl}
 use mathlib.Core.List.{[], _∷_, map}
 use Rattle.d64spec.specs.Lists.{ascending, descending, range}

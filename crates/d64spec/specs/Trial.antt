@@ -1,5 +1,6 @@
--- Whole calls on a small disk, computed: each with the number, the block and the bytes that document 01 gives for it. Refusals of every call, and their order:
--- specs/TwoFaults. The layout has three sectors on track 18, ten on track 19 and no other: an image of 3,328 bytes, small enough to compute on. The definitions are those of every layout.
+-- Whole calls on a small disk, computed: each with the number, the block and the bytes that document 01 gives for it.
+-- The layout has three sectors on track 18, ten on track 19 and no other: an image of 3,328 bytes, small enough to compute on.
+-- The definitions are those of every layout. Not here: refusals of every call, and their order (specs/TwoFaults).
 -- In order: the layout; the images; rows; the tables. The statement: proofs/ExampleTables, `calls-hold`.
 use Prim.Native.Nat.{ℕ, zero, suc, _+_, _*_}
 use mathlib.Core.Bool.{Bool, _&&_, not}

@@ -173,7 +173,8 @@ checkPairs =
     ∷ meets (secondA ∷ firstTo 19 0 ∷ []) check 6 (faultAt 18 1 1) []
     -- 2 and 3 at one link: 18/3 is off the disk, and 3 is the number of 19/0, which is A's
     ∷ meets (firstTo 18 3 ∷ []) check 2 (faultAt 18 1 1) []
-    -- 3 and then 2 along one chain: 19/0 links to 18/2, the directory's, whose 00 00 would be a file's bad link. Behind a bad link nothing is met, so 2 and then 3 is no pair
+    -- 3 and then 2 along one chain: 19/0 links to 18/2, the directory's, whose 00 00 would be a file's bad link.
+    -- Behind a bad link nothing is met: 2 and then 3 is no pair
     ∷ meets (linkTo 0 18 2 ∷ directoryTo 2 0 0 ∷ []) check 3 (faultAt 19 0 0) []
     -- 2 and 7, 3 and 7 in one slot
     ∷ meets (linkTo 1 0 0 ∷ countOf9 0 ∷ []) check 2 (faultAt 19 1 0) []
