@@ -1,4 +1,5 @@
 pub mod ExampleTables
+pub mod OrderTables
 pub mod ListLaws
 pub mod ChainLaws
 pub mod PigeonholeLaws

@@ -1,30 +1,33 @@
 -- Document 01's worked examples as rows of two tables (01, Examples). A row says what is computed and what document 01 gives for it, so that
 -- a missing value does not type; `broken` lists the rows that fail. The statements, one for each table: proofs/ExampleTables.
--- In order: the rows marked P; the table of tracks and house order; the disk that the other examples make; their rows.
+-- In order: the rows marked P; numbers in two and four bytes; the table of tracks and house order; the disk that the other examples make; their rows.
 use Prim.Native.Nat.{ℕ, _+_, _*_, _-_}
+use mathlib.Core.Path.{_≡_}
 use mathlib.Core.Bool.{Bool, true, false, _&&_, not}
 use mathlib.Core.List.{List, [], _∷_, _++_, map}
 use lib.ListN.{length, take, drop, replicate}
 use lib.Dec.{eqb}
 use Rattle.d64spec.specs.Lists.{Bytes, byte, part, zeros, filter, equal, range, ascending, sum, join}
-use Rattle.d64spec.specs.Answers.{Address, address, Result, refused, done}
+use Rattle.d64spec.specs.Answers.{Address, address, unplaced, Result, refused, done}
 use Rattle.d64spec.specs.Geometry.{layout35, sectorNumber, onDisk, sectorsOn, firstOn, total, allocationOrder, directoryStart}
-use Rattle.d64spec.specs.Image.{Disk, put}
+use Rattle.d64spec.specs.Image.{Disk, disk, put}
 use Rattle.d64spec.specs.Chain.{chainData}
-use Rattle.d64spec.specs.Directory.{slotIn, files, fileOf}
+use Rattle.d64spec.specs.Directory.{slotIn, files, fileOf, countOf}
 use Rattle.d64spec.specs.Owner.{freeForFiles}
 use Rattle.d64spec.specs.Map.{mapBit, mapOnes}
 use Rattle.d64spec.specs.Check.{checkDisk}
+use Rattle.d64spec.specs.Reply.{changed}
 use Rattle.d64spec.specs.Format.{formattedDisk}
-use Rattle.d64spec.specs.Store.{SlotPlace, sectorsNeeded, writeChain, placement, slotPlaceFor, storedDisk, lastOf}
+use Rattle.d64spec.specs.Store.{SlotPlace, sectorsNeeded, writeChain, placement, slotPlaceFor, storedDisk, lastOf, newEntry}
 use Rattle.d64spec.specs.Scratch.{scratchedDisk}
 use Rattle.d64spec.specs.Listing.{callListing, listingOutput}
+use Rattle.d64spec.specs.Host.{answerBlock}
 
 -- ---- the examples marked P
 
 -- one of them
 pub data Example : Type 0 where
-  sectorAt : Address → ℕ → ℕ → Example  -- an address, its sector number, the first byte of the sector
+  sectorAt : Address → ℕ → ℕ → Example  -- an address, its sector number, the byte of an image where its 256 bytes start
   lastSectorAt : Address → Example  -- the last sector of the disk
   offDisk : Address → Example  -- no sector of the disk
   mapEntry : ℕ → Bytes → ℕ → List ℕ → Example  -- a track, its map entry, the free sectors it counts, the sectors it marks used
@@ -40,15 +43,24 @@ lastSector n =
     let l = take (sectorsNeeded n) (allocationOrder layout35) in
     writeChain layout35 l (zeros n) (λ m. []) (sectorNumber layout35 (lastOf directoryStart l))
 
--- whether a row is as document 01 says
+-- whether a row is as document 01 says, but for the first byte of a sector
 unfoldable pub holds : Example → Bool
-holds (sectorAt r n b) = onDisk layout35 r && (eqb (sectorNumber layout35 r) n && eqb (256 * n) b)
+holds (sectorAt r n b) = onDisk layout35 r && eqb (sectorNumber layout35 r) n
 holds (lastSectorAt r) = onDisk layout35 r && eqb (sectorNumber layout35 r + 1) (total layout35)
 holds (offDisk r) = not (onDisk layout35 r)
 holds (mapEntry t e n used) =
     eqb (byte e 0) n && (eqb (mapOnes layout35 (entryAlone t e) t) n
     && equal (filter (λ s. eqb (mapBit layout35 (entryAlone t e) t s) 0) (range 0 (sectorsOn layout35 t))) used)
 holds (stored n k last) = eqb (sectorsNeeded n) k && equal (part 0 1 (lastSector n)) (0 ∷ last ∷ [])
+
+-- where a row names a sector's first byte: in every image, the sector of that number is the 256 bytes from there on
+abbrev pub StartThere : List Example → Type 0
+StartThere [] = Unit {0}
+StartThere (sectorAt r n b ∷ l) = ((img : Bytes) → disk img n ≡ take 256 (drop b img)) × StartThere l
+StartThere (lastSectorAt r ∷ l) = StartThere l
+StartThere (offDisk r ∷ l) = StartThere l
+StartThere (mapEntry t e n used ∷ l) = StartThere l
+StartThere (stored n k last ∷ l) = StartThere l
 
 -- the rows that fail
 abbrev pub broken : List Example → List Example
@@ -62,6 +74,35 @@ table =
     ∷ mapEntry 1 (0x12 ∷ 0xFF ∷ 0xF9 ∷ 0x17 ∷ []) 18 (9 ∷ 10 ∷ 19 ∷ [])
     ∷ stored 0 1 1 ∷ stored 254 1 255 ∷ stored 255 2 2
     ∷ []
+
+-- ---- numbers in bytes, low byte first
+
+-- a number, and the bytes it has in an image or in an answer block
+pub data Written : Type 0 where
+  sectorCount : ℕ → ℕ → ℕ → Written  -- bytes 1E and 1F of a slot, and the sectors they say (01, The directory; Store)
+  reported : ℕ → ℕ → Bytes → Written  -- a length and sectors, and bytes 3 to 8 of the answer block (01, Host calls)
+
+-- an entry that a store of k sectors writes: bytes 02 to 1F, of which 1E and 1F are the last two
+unfoldable pub entryOf : ℕ → Bytes
+entryOf k = newEntry (0x41 ∷ []) 2 (address 17 0) k
+
+-- whether a row is as document 01 says: the bytes are read as the number, and the number is written as the bytes
+unfoldable pub writtenHolds : Written → Bool
+writtenHolds (sectorCount low high k) = eqb (countOf (zeros 28 ++ (low ∷ high ∷ []))) k && equal (drop 28 (entryOf k)) (low ∷ high ∷ [])
+writtenHolds (reported n k bs) = equal (answerBlock (record { answer = unplaced 0; change = changed [] n k })) (0 ∷ 0 ∷ 255 ∷ bs)
+
+-- 664 is $0298 and 168,656 is $000292D0: the sectors and the bytes of the longest file. 16,909,060 is $01020304
+unfoldable pub writtenNumbers : List Written
+writtenNumbers =
+    sectorCount 0x01 0x00 1 ∷ sectorCount 0xFF 0x00 255 ∷ sectorCount 0x00 0x01 256 ∷ sectorCount 0x98 0x02 664
+    ∷ reported 0 0 (zeros 6)
+    ∷ reported 168656 664 (0xD0 ∷ 0x92 ∷ 0x02 ∷ 0x00 ∷ 0x98 ∷ 0x02 ∷ [])
+    ∷ reported 16909060 258 (0x04 ∷ 0x03 ∷ 0x02 ∷ 0x01 ∷ 0x02 ∷ 0x01 ∷ [])
+    ∷ []
+
+-- the rows that fail
+abbrev pub brokenWritten : List Written → List Written
+brokenWritten l = filter (λ w. not (writtenHolds w)) l
 
 -- ---- the table of tracks (01, Tracks and sectors)
 

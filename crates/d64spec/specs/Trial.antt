@@ -1,6 +1,7 @@
--- Every answer number of document 01, computed: whole calls on a small disk, each with the number, the block and the bytes that 01 gives for it.
--- The layout has three sectors on track 18, ten on track 19 and no other: an image of 3,328 bytes, small enough to compute on. The definitions are those of every layout.
--- In order: the layout; the images; rows; the table. The statement: proofs/ExampleTables, `calls-hold`.
+-- Whole calls on a small disk, computed: each with the number, the block and the bytes that document 01 gives for it.
+-- The layout has three sectors on track 18, ten on track 19 and no other: an image of 3,328 bytes, small enough to compute on.
+-- The definitions are those of every layout. Not here: refusals of every call, and their order (specs/TwoFaults).
+-- In order: the layout; the images; rows; the tables. The statement: proofs/ExampleTables, `calls-hold`.
 use Prim.Native.Nat.{ℕ, zero, suc, _+_, _*_}
 use mathlib.Core.Bool.{Bool, _&&_, not}
 use mathlib.Core.List.{List, [], _∷_, _++_, map}
@@ -31,6 +32,10 @@ nameB = 0x42 ∷ []
 
 abbrev pub nameC : Bytes
 nameC = 0x43 ∷ []
+
+-- a name of 16 bytes
+abbrev pub nameOf16 : Bytes
+nameOf16 = 0x01 ∷ 0x12 ∷ 0x23 ∷ 0x34 ∷ 0x45 ∷ 0x56 ∷ 0x67 ∷ 0x78 ∷ 0x89 ∷ 0x9A ∷ 0xAB ∷ 0xBC ∷ 0xCD ∷ 0xDE ∷ 0xEF ∷ 0xF0 ∷ []
 
 -- 300 bytes
 unfoldable pub sent : Bytes
@@ -75,10 +80,10 @@ pub data Given : Type 0 where
   mapLinkElsewhere : Given  -- bytes 0-1 of 18/0 lead to a file's sector
   eightFiles : Given  -- all slots of 18/1 in use, and 18/2 free
   nineFiles : Given  -- and A in 18/2
-  fullDirectory : Given  -- eight files, one of them in 18/2
   farFile : Given  -- A in 18/1, and B, SEQ, ten bytes in 19/2, in slot 8, the first of 18/2
   farLinkTwice farLinkOff farType farName farSharedName farFirstLinkOff farMeets farCount : Given
   countsOf255 : Given  -- count bytes of tracks without sectors
+  oddEntry : Given  -- names of 16 bytes; a locked file with a count of 664 and a first sector off the disk, of which a listing asks neither
 
 -- the formatted image
 unfoldable pub freshImage : Bytes
@@ -129,7 +134,6 @@ imageOf bitPastTheLast = patch18 0 0x49 (0x0C ∷ []) imageWithA
 imageOf mapLinkElsewhere = patch18 0 0x00 (19 ∷ 1 ∷ []) imageWithA
 imageOf eightFiles = imageWithEight
 imageOf nineFiles = afterCall imageWithEight (store nameA 2 sent)
-imageOf fullDirectory = patch18 0 0x48 (zeros 4) (patch18 0 0x4C (3 ∷ 1 ∷ 3 ∷ 0 ∷ []) (patch18 2 0x00 (0 ∷ 1 ∷ []) (patch18 1 0x03 (18 ∷ 2 ∷ []) (relink 0 0 0 imageWithEight))))
 imageOf farFile = imageFar
 imageOf farLinkTwice = patch18 2 0x00 (18 ∷ 1 ∷ []) imageFar
 imageOf farLinkOff = patch18 2 0x00 (18 ∷ 3 ∷ []) imageFar
@@ -140,6 +144,8 @@ imageOf farFirstLinkOff = patch18 2 0x03 (20 ∷ 0 ∷ []) imageFar
 imageOf farMeets = patch18 2 0x03 (19 ∷ 1 ∷ []) imageFar
 imageOf farCount = patch18 2 0x1F (1 ∷ []) imageFar
 imageOf countsOf255 = patch18 0 0x04 (255 ∷ 0 ∷ 0 ∷ 0 ∷ 255 ∷ []) imageWithA
+imageOf oddEntry =
+    patch18 0 0x90 (range 0x41 16) (patch18 1 0x02 (0xC2 ∷ 0xFF ∷ 0xFE ∷ []) (patch18 1 0x05 nameOf16 (patch18 1 0x1E (0x98 ∷ 0x02 ∷ []) imageWithA)))
 
 -- ---- rows
 
@@ -147,7 +153,6 @@ imageOf countsOf255 = patch18 0 0x04 (255 ∷ 0 ∷ 0 ∷ 0 ∷ 255 ∷ []) imag
 pub data CallRow : Type 0 where
   quiet : Given → Call → ℕ → Bytes → Bytes → CallRow  -- number, block and output afterwards; the image stays as it was
   writes : Given → Call → ℕ → Bytes → CallRow  -- number and block afterwards
-  badBlock : Given → Call → ℕ → CallRow  -- the length of a block that is refused with 16, and nothing written
   told : Given → ℕ → Bytes → CallRow  -- a position, and the reply in one list
   holdsAt : Given → ℕ → ℕ → Bytes → CallRow  -- these bytes, from this offset of a sector on
   sleeve : Given → Bytes → CallRow  -- what the listing program writes
@@ -173,9 +178,6 @@ callHolds (quiet s c n b o) =
     let r = hostCall smallLayout (imageOf s) lentBlock c in
     eqb (r .number) n && (equal (r .blockAfter) b && (equal (r .outputAfter) o && equal (r .imageAfter) (imageOf s)))
 callHolds (writes s c n b) = let r = hostCall smallLayout (imageOf s) lentBlock c in eqb (r .number) n && equal (r .blockAfter) b
-callHolds (badBlock s c k) =
-    let r = hostCall smallLayout (imageOf s) (replicate k 0xEE) c in
-    eqb (r .number) 16 && (equal (r .blockAfter) (replicate k 0xEE) && equal (r .imageAfter) (imageOf s))
 callHolds (told s p f) = equal (fieldsOf (tellReply (callTell smallLayout (imageOf s) p))) f
 callHolds (holdsAt s n i bs) = equal (take (length bs) (drop (256 * n + i) (imageOf s))) bs
 callHolds (sleeve s text) = equal (sleeveOutput smallLayout (imageOf s)) text
@@ -183,13 +185,6 @@ callHolds (sleeve s text) = equal (sleeveOutput smallLayout (imageOf s)) text
 -- the rows that fail
 abbrev pub brokenCalls : List CallRow → List CallRow
 brokenCalls l = filter (λ e. not (callHolds e)) l
-
--- a name that is too long, and one that holds $A0
-abbrev pub longName : Bytes
-longName = replicate 17 0x41
-
-abbrev pub paddedName : Bytes
-paddedName = 0x41 ∷ 0xA0 ∷ []
 
 -- the check: numbers 0 to 8 with their places, in the first directory sector and in the second
 unfoldable pub checkRows : List CallRow
@@ -224,34 +219,11 @@ checkRows =
     ∷ quiet farCount check 7 (faultAt 18 2 8) []
     ∷ []
 
--- refusals of format, store and scratch, and of the block: 1, 9, 10, then the check's, then 11 to 16. A row that breaks several rules shows which number comes first
-unfoldable pub orderRows : List CallRow
-orderRows =
-    quiet zeroBytes (format [] 0x30 0x31) 9 (report 0 0) []
-    ∷ quiet oneByteShort (format [] 0x30 0x31) 1 (report 0 0) []
-    ∷ quiet delEntry (scratch paddedName) 9 (report 0 0) []
-    ∷ quiet delEntry (store nameC 4 sent) 10 (report 0 0) []
-    ∷ quiet delEntry (store [] 4 sent) 9 (report 0 0) []
-    ∷ quiet delEntry (store nameC 1 sent) 4 (faultAt 18 1 0) []
-    ∷ quiet version42 (store nameA 1 sent) 11 (report 0 0) []
-    ∷ quiet version42 (scratch nameB) 11 (report 0 0) []
-    ∷ quiet oneFile (store nameA 1 sent) 12 (report 0 0) []
-    ∷ quiet oneFile (scratch nameB) 13 (report 0 0) []
-    ∷ quiet fullDirectory (store nameA 1 (zeros 2541)) 14 (report 0 0) []
-    ∷ quiet freshDisk (store nameA 1 (zeros 2541)) 15 (report 0 0) []
-    ∷ badBlock oneByteShort check 8
-    ∷ badBlock oneFile (scratch nameA) 10
-    ∷ []
-
--- reads: done and refused, with every byte of the output
+-- reads that are done, with every byte of the output
 unfoldable pub readRows : List CallRow
 readRows =
     quiet mapLinkElsewhere (read nameA (zeros 302)) 0 (0 ∷ 0 ∷ 255 ∷ 44 ∷ 1 ∷ 0 ∷ 0 ∷ 2 ∷ 0 ∷ []) (sent ++ zeros 2)
-    ∷ quiet oneByteShort (read [] (zeros 4)) 1 (report 0 0) (zeros 4)
-    ∷ quiet delEntry (read longName (zeros 4)) 9 (report 0 0) (zeros 4)
     ∷ quiet version42 (read nameA (zeros 302)) 0 (0 ∷ 0 ∷ 255 ∷ 44 ∷ 1 ∷ 0 ∷ 0 ∷ 2 ∷ 0 ∷ []) (sent ++ zeros 2)
-    ∷ quiet oneFile (read nameB (zeros 4)) 13 (report 0 0) (zeros 4)
-    ∷ quiet oneFile (read nameA (zeros 299)) 16 (report 0 0) (zeros 299)
     ∷ quiet twoFiles (read nameB (replicate 12 7)) 0 (report 10 1) (range 1 10 ++ (7 ∷ 7 ∷ []))
     ∷ []
 
@@ -277,13 +249,47 @@ tellRows =
     ∷ told delEntry 0 (4 ∷ 18 ∷ 1 ∷ 0 ∷ zeros 21)
     ∷ []
 
--- what the listing program writes: count bytes as they stand, and refusals in two digits
+-- ---- the listing program
+
+-- the text of n bytes $A0, which is n times A0
+abbrev pub textA0 : ℕ → Bytes
+textA0 n = join (replicate n (0x41 ∷ 0x30 ∷ []))
+
+-- the first line of the disk D: 44, fifteen times A0, 3031, LF
+abbrev pub headOfD : Bytes
+headOfD = 0x34 ∷ 0x34 ∷ (textA0 15 ++ (0x33 ∷ 0x30 ∷ 0x33 ∷ 0x31 ∷ 0x0A ∷ []))
+
+-- the line of A: 82130041, fifteen times A0, 0200, LF
+abbrev pub lineOfA : Bytes
+lineOfA = 0x38 ∷ 0x32 ∷ 0x31 ∷ 0x33 ∷ 0x30 ∷ 0x30 ∷ 0x34 ∷ 0x31 ∷ (textA0 15 ++ (0x30 ∷ 0x32 ∷ 0x30 ∷ 0x30 ∷ 0x0A ∷ []))
+
+-- the line of B: 81130242, fifteen times A0, 0100, LF
+abbrev pub lineOfB : Bytes
+lineOfB = 0x38 ∷ 0x31 ∷ 0x31 ∷ 0x33 ∷ 0x30 ∷ 0x32 ∷ 0x34 ∷ 0x32 ∷ (textA0 15 ++ (0x30 ∷ 0x31 ∷ 0x30 ∷ 0x30 ∷ 0x0A ∷ []))
+
+-- a first line without padding: 4142434445464748494A4B4C4D4E4F503031, LF
+abbrev pub headOf16 : Bytes
+headOf16 =
+    0x34 ∷ 0x31 ∷ 0x34 ∷ 0x32 ∷ 0x34 ∷ 0x33 ∷ 0x34 ∷ 0x34 ∷ 0x34 ∷ 0x35 ∷ 0x34 ∷ 0x36 ∷ 0x34 ∷ 0x37 ∷ 0x34 ∷ 0x38
+    ∷ 0x34 ∷ 0x39 ∷ 0x34 ∷ 0x41 ∷ 0x34 ∷ 0x42 ∷ 0x34 ∷ 0x43 ∷ 0x34 ∷ 0x44 ∷ 0x34 ∷ 0x45 ∷ 0x34 ∷ 0x46 ∷ 0x35 ∷ 0x30
+    ∷ 0x33 ∷ 0x30 ∷ 0x33 ∷ 0x31 ∷ 0x0A ∷ []
+
+-- the line of the file of `oddEntry`: C2FFFE, 0112233445566778899AABBCCDDEEFF0, 9802, LF
+abbrev pub lineOfOdd : Bytes
+lineOfOdd =
+    0x43 ∷ 0x32 ∷ 0x46 ∷ 0x46 ∷ 0x46 ∷ 0x45
+    ∷ 0x30 ∷ 0x31 ∷ 0x31 ∷ 0x32 ∷ 0x32 ∷ 0x33 ∷ 0x33 ∷ 0x34 ∷ 0x34 ∷ 0x35 ∷ 0x35 ∷ 0x36 ∷ 0x36 ∷ 0x37 ∷ 0x37 ∷ 0x38
+    ∷ 0x38 ∷ 0x39 ∷ 0x39 ∷ 0x41 ∷ 0x41 ∷ 0x42 ∷ 0x42 ∷ 0x43 ∷ 0x43 ∷ 0x44 ∷ 0x44 ∷ 0x45 ∷ 0x45 ∷ 0x46 ∷ 0x46 ∷ 0x30
+    ∷ 0x39 ∷ 0x38 ∷ 0x30 ∷ 0x32 ∷ 0x0A ∷ []
+
+-- what the listing program writes: every byte of its frames as it stands, count bytes too, and refusals in two digits
 unfoldable pub sleeveRows : List CallRow
 sleeveRows =
-    sleeve oneFile (52 ∷ 52 ∷ 65 ∷ 48 ∷ 65 ∷ 48 ∷ 65 ∷ 48 ∷ 65 ∷ 48 ∷ 65 ∷ 48 ∷ 65 ∷ 48 ∷ 65 ∷ 48 ∷ 65 ∷ 48 ∷ 65 ∷ 48 ∷ 65 ∷ 48 ∷ 65 ∷ 48 ∷ 65 ∷ 48 ∷ 65 ∷ 48 ∷ 65 ∷ 48 ∷ 65 ∷ 48 ∷ 51 ∷ 48 ∷ 51 ∷ 49 ∷ 10 ∷ 56 ∷ 50 ∷ 49 ∷ 51 ∷ 48 ∷ 48 ∷ 52 ∷ 49 ∷ 65 ∷ 48 ∷ 65 ∷ 48 ∷ 65 ∷ 48 ∷ 65 ∷ 48 ∷ 65 ∷ 48 ∷ 65 ∷ 48 ∷ 65 ∷ 48 ∷ 65 ∷ 48 ∷ 65 ∷ 48 ∷ 65 ∷ 48 ∷ 65 ∷ 48 ∷ 65 ∷ 48 ∷ 65 ∷ 48 ∷ 65 ∷ 48 ∷ 65 ∷ 48 ∷ 48 ∷ 50 ∷ 48 ∷ 48 ∷ 10 ∷ 48 ∷ 48 ∷ 48 ∷ 56 ∷ 10 ∷ [])
-    ∷ sleeve farFile (52 ∷ 52 ∷ 65 ∷ 48 ∷ 65 ∷ 48 ∷ 65 ∷ 48 ∷ 65 ∷ 48 ∷ 65 ∷ 48 ∷ 65 ∷ 48 ∷ 65 ∷ 48 ∷ 65 ∷ 48 ∷ 65 ∷ 48 ∷ 65 ∷ 48 ∷ 65 ∷ 48 ∷ 65 ∷ 48 ∷ 65 ∷ 48 ∷ 65 ∷ 48 ∷ 65 ∷ 48 ∷ 51 ∷ 48 ∷ 51 ∷ 49 ∷ 10 ∷ 56 ∷ 50 ∷ 49 ∷ 51 ∷ 48 ∷ 48 ∷ 52 ∷ 49 ∷ 65 ∷ 48 ∷ 65 ∷ 48 ∷ 65 ∷ 48 ∷ 65 ∷ 48 ∷ 65 ∷ 48 ∷ 65 ∷ 48 ∷ 65 ∷ 48 ∷ 65 ∷ 48 ∷ 65 ∷ 48 ∷ 65 ∷ 48 ∷ 65 ∷ 48 ∷ 65 ∷ 48 ∷ 65 ∷ 48 ∷ 65 ∷ 48 ∷ 65 ∷ 48 ∷ 48 ∷ 50 ∷ 48 ∷ 48 ∷ 10 ∷ 56 ∷ 49 ∷ 49 ∷ 51 ∷ 48 ∷ 50 ∷ 52 ∷ 50 ∷ 65 ∷ 48 ∷ 65 ∷ 48 ∷ 65 ∷ 48 ∷ 65 ∷ 48 ∷ 65 ∷ 48 ∷ 65 ∷ 48 ∷ 65 ∷ 48 ∷ 65 ∷ 48 ∷ 65 ∷ 48 ∷ 65 ∷ 48 ∷ 65 ∷ 48 ∷ 65 ∷ 48 ∷ 65 ∷ 48 ∷ 65 ∷ 48 ∷ 65 ∷ 48 ∷ 48 ∷ 49 ∷ 48 ∷ 48 ∷ 10 ∷ 48 ∷ 48 ∷ 48 ∷ 55 ∷ 10 ∷ [])
-    ∷ sleeve countsOf255 (52 ∷ 52 ∷ 65 ∷ 48 ∷ 65 ∷ 48 ∷ 65 ∷ 48 ∷ 65 ∷ 48 ∷ 65 ∷ 48 ∷ 65 ∷ 48 ∷ 65 ∷ 48 ∷ 65 ∷ 48 ∷ 65 ∷ 48 ∷ 65 ∷ 48 ∷ 65 ∷ 48 ∷ 65 ∷ 48 ∷ 65 ∷ 48 ∷ 65 ∷ 48 ∷ 65 ∷ 48 ∷ 51 ∷ 48 ∷ 51 ∷ 49 ∷ 10 ∷ 56 ∷ 50 ∷ 49 ∷ 51 ∷ 48 ∷ 48 ∷ 52 ∷ 49 ∷ 65 ∷ 48 ∷ 65 ∷ 48 ∷ 65 ∷ 48 ∷ 65 ∷ 48 ∷ 65 ∷ 48 ∷ 65 ∷ 48 ∷ 65 ∷ 48 ∷ 65 ∷ 48 ∷ 65 ∷ 48 ∷ 65 ∷ 48 ∷ 65 ∷ 48 ∷ 65 ∷ 48 ∷ 65 ∷ 48 ∷ 65 ∷ 48 ∷ 65 ∷ 48 ∷ 48 ∷ 50 ∷ 48 ∷ 48 ∷ 10 ∷ 48 ∷ 50 ∷ 48 ∷ 54 ∷ 10 ∷ [])
-    ∷ sleeve oneByteShort (48 ∷ 49 ∷ 10 ∷ [])
-    ∷ sleeve farType (48 ∷ 52 ∷ 10 ∷ [])
-    ∷ sleeve directoryLinkTwice (48 ∷ 51 ∷ 10 ∷ [])
+    sleeve oneFile (headOfD ++ (lineOfA ++ (0x30 ∷ 0x30 ∷ 0x30 ∷ 0x38 ∷ 0x0A ∷ [])))
+    ∷ sleeve farFile (headOfD ++ (lineOfA ++ (lineOfB ++ (0x30 ∷ 0x30 ∷ 0x30 ∷ 0x37 ∷ 0x0A ∷ []))))
+    ∷ sleeve countsOf255 (headOfD ++ (lineOfA ++ (0x30 ∷ 0x32 ∷ 0x30 ∷ 0x36 ∷ 0x0A ∷ [])))
+    ∷ sleeve oddEntry (headOf16 ++ (lineOfOdd ++ (0x30 ∷ 0x30 ∷ 0x30 ∷ 0x38 ∷ 0x0A ∷ [])))
+    ∷ sleeve oneByteShort (0x30 ∷ 0x31 ∷ 0x0A ∷ [])
+    ∷ sleeve farType (0x30 ∷ 0x34 ∷ 0x0A ∷ [])
+    ∷ sleeve directoryLinkTwice (0x30 ∷ 0x33 ∷ 0x0A ∷ [])
     ∷ []
