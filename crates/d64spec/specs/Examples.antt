@@ -1,5 +1,5 @@
--- Document 01's worked examples as rows of two tables (01, Examples). A row says what is computed and what document 01 gives for it, so that
--- a missing value does not type; `broken` lists the rows that fail. The statements, one for each table: proofs/ExampleTables.
+-- Document 01's worked examples, and its numbers in bytes, as rows of tables (01, Examples). A row says what is computed and what document 01 gives for
+-- it, so that a missing value does not type; `broken` lists the rows that fail. The statements, one for each table: proofs/ExampleTables.
 -- In order: the rows marked P; numbers in two and four bytes; the table of tracks and house order; the disk that the other examples make; their rows.
 use Prim.Native.Nat.{ℕ, _+_, _*_, _-_}
 use mathlib.Core.Path.{_≡_}

@@ -130,9 +130,12 @@ aloneRows =
     ∷ meets (firstTo 19 0 ∷ []) check 3 (faultAt 18 1 1) []
     ∷ meets (linkTo 1 0 0 ∷ []) check 2 (faultAt 19 1 0) []
     ∷ meets (linkTo 1 19 0 ∷ []) check 3 (faultAt 19 1 0) []
+    ∷ meets (linkTo 0 18 2 ∷ []) check 3 (faultAt 19 0 0) []
     ∷ meets (countOf9 0 ∷ []) check 7 (faultAt 18 1 0) []
     ∷ meets (countOf9 1 ∷ []) check 7 (faultAt 18 1 1) []
-    ∷ meets (mapOf255 2 ∷ []) check 8 (faultAt 2 255 255) []
+    ∷ meets (mapOf255 1 ∷ []) check 8 (faultAt 1 255 255) []
+    ∷ meets (mapOf255 17 ∷ []) check 8 (faultAt 17 255 255) []
+    ∷ meets (mapOf255 18 ∷ []) check 8 (faultAt 18 255 255) []
     ∷ meets (mapOf255 19 ∷ []) check 8 (faultAt 19 255 255) []
     ∷ meets [] (format [] 0x30 0x31) 9 (report 0 0) []
     ∷ meets [] (read longName (lent 4)) 9 (report 0 0) (lent 4)
@@ -143,9 +146,11 @@ aloneRows =
     ∷ meets [] (store nameA 1 []) 12 (report 0 0) []
     ∷ meets [] (read nameC (lent 4)) 13 (report 0 0) (lent 4)
     ∷ meets [] (scratch nameC) 13 (report 0 0) []
+    ∷ tells [] 2 (13 ∷ 0 ∷ 0 ∷ 255 ∷ [])
     ∷ meets (noSlotLeft ∷ []) (store nameC 1 []) 14 (report 0 0) []
     ∷ meets [] (store nameC 1 (zeros 1779)) 15 (report 0 0) []
     ∷ meets [] (read nameA (lent 299)) 16 (report 0 0) (lent 299)
+    ∷ lists (kind80 2 ∷ []) 768 6234 (4 ∷ 18 ∷ 1 ∷ 2 ∷ [])
     ∷ lists [] 768 127 (16 ∷ 0 ∷ 0 ∷ 255 ∷ [])
     ∷ block 8 [] check []
     ∷ block 10 [] (scratch nameA) []
