@@ -107,15 +107,21 @@ module _ {img out : Bytes} {first at : Address} {out′ : Bytes} {n k : ℕ} (w 
       pub room-more : n + 254 ≤ length (dataFrom img first)
       room-more = omega (arith, left, ap length more, length-append (dataOf s 254) (dataFrom img (linkOf s)), size)
 
-      pub copying-moved : Copying img out first (linkOf s) (splice out′ n (dataOf s 254)) (n + 254) (k + 1)
-      copying-moved = record {
-        chain = next-follows .rest;
-        room = w .room;
-        within = room-more;
-        rest = sym (drop-drop 254 n (dataFrom img first)) ∙ ap (drop 254) (w .rest ∙ more) ∙ drop-at (dataOf s 254) (dataFrom img (linkOf s)) 254 size;
-        output = next (dataOf s 254) (dataFrom img (linkOf s)) more ∙ ap (λ (m : ℕ). splice out 0 (take (n + m) (dataFrom img first))) size;
-        visited = omega (arith, w .visited, ap length (next-follows .sectors));
-      }
+      passed : drop (n + 254) (dataFrom img first) ≡ dataFrom img (linkOf s)
+      passed = sym (drop-drop 254 n (dataFrom img first)) ∙ ap (drop 254) (w .rest ∙ more) ∙ drop-at (dataOf s 254) (dataFrom img (linkOf s)) 254 size
+
+      pub copying-moved : {out″ : Bytes} {n′ k′ : ℕ} → out″ ≡ splice out′ n (dataOf s 254) → n′ ≡ n + 254 → k′ ≡ k + 1
+          → Copying img out first (linkOf s) out″ n′ k′
+      copying-moved {n′ = n′} copied long visited =
+          let here : n + length (dataOf s 254) ≡ n′ = omega (arith, size) in
+          record {
+            chain = next-follows .rest;
+            room = w .room;
+            within = omega (arith, room-more);
+            rest = rw long passed;
+            output = copied ∙ next (dataOf s 254) (dataFrom img (linkOf s)) more ∙ ap (λ (m : ℕ). splice out 0 (take m (dataFrom img first))) here;
+            visited = omega (arith, w .visited, ap length (next-follows .sectors));
+          }
 
     -- or, where it is the last, bytes 2 to its second byte
     module _ (last : byte s 0 < 1) (small : byte s 1 ≤ 255) where
@@ -131,12 +137,12 @@ module _ {img out : Bytes} {first at : Address} {out′ : Bytes} {n k : ℕ} (w 
       pub end-last : n + (byte s 1 - 1) ≡ length (dataFrom img first)
       end-last = omega (arith, left, ap length all, length-dataOf (w .chain) is (byte s 1 - 1) (omega arith))
 
-      pub copying-finished : ChainCopied img out first (k + 1) (splice out′ n rest)
-      copying-finished =
+      pub copying-finished : {out″ : Bytes} {k′ : ℕ} → out″ ≡ splice out′ n rest → k′ ≡ k + 1 → ChainCopied img out first k′ out″
+      copying-finished copied visited =
           let end : n + length rest ≡ length (dataFrom img first) = omega (arith, left, ap length all) in
           record {
             output =
-                next rest [] (all ∙ sym (append-nil rest))
+                copied ∙ next rest [] (all ∙ sym (append-nil rest))
                 ∙ ap (splice out 0) (ap (λ (m : ℕ). take m (dataFrom img first)) end ∙ take-length (dataFrom img first));
             sectors = omega (arith, w .visited, ap length alone);
           }

@@ -100,7 +100,7 @@ returns : tie.Need-returns Inv-loop μ-loop
 returns c =
     let k = c .before .before .before .before .before in
     let p = k .before .before in
-    rw (c .before .before .copy-data .ensures) (copying-finished (p .before .before .loop .inv) (lent p) (omega arith) (small k))
+    copying-finished (p .before .before .loop .inv) (lent p) (omega arith) (small k) (c .before .before .copy-data .ensures) (omega arith)
 
 same-length : tie.Need-same-length Inv-loop μ-loop
 same-length c = length-copied (c .before .before .before .before .before .before .before .before .before .before .before .before .pre .fits) (returns c)
@@ -128,7 +128,7 @@ loop-less c =
 loop-again : tie.Need-loop-again Inv-loop μ-loop
 loop-again c =
     let p = c .before .before .before .before .before .before .before in
-    rw (c .before .before .copy-data2 .ensures) (copying-moved (p .before .before .loop .inv) (lent p) (omega arith))
+    copying-moved (p .before .before .loop .inv) (lent p) (omega arith) (c .before .before .copy-data2 .ensures) (omega arith) (omega arith)
 
 pub copy-from-spec : {M : Type 1} → statement M
 copy-from-spec =
