@@ -104,7 +104,7 @@ pub record EndTells (img : Bytes) (f : File) : Type 0 where
 
 module _ (img : Bytes) (a : Accepted layout35 img) where
   -- slots are 0 to 143
-  number-lt : (f : File) → List·Memᴰ f (files layout35 (disk img)) → f .slot .number < 144
+  pub number-lt : (f : File) → List·Memᴰ f (files layout35 (disk img)) → f .slot .number < 144
   number-lt f m = omega (arith, ownerNumber-le35 img a (theFile f) m)
 
   -- A FILE'S ENTRY OF THE TABLE IS ITS END

@@ -1,23 +1,24 @@
 -- One step along a chain (01, Chains): its first sector, and what the two link bytes there say of the rest.
--- In order: the first sector; the last sector; a sector that is followed by another; bounds.
+-- In order: bounds; the first sector; the last sector; a sector that is followed by another.
 use Prim.Native.Nat.{ℕ, zero, suc, _+_, _-_, _*_, _≤_, _<_}
 use native.Mathlib.Omega.{arith}
 use mathlib.Core.Path.{_≡_, refl, sym, ap, _∙_}
 use mathlib.Core.Bool.{Bool, true, false, cond}
 use mathlib.Core.List.{List, [], _∷_}
-use lib.ListN.{length}
+use lib.ListN.{length, take, drop}
 use Rattle.d64spec.specs.Lists.{Bytes, byte}
-use Rattle.d64spec.specs.Answers.{Address, address}
+use Rattle.d64spec.specs.Answers.{Address}
 use Rattle.d64spec.specs.Geometry.{Geometry, layout35, onDisk, sectorNumber}
 use Rattle.d64spec.specs.Image.{Disk, disk}
 use Rattle.d64spec.specs.Chain.{Link, ends, to, bad, linkTo, decodeFileLink, fileLink, steps, Chain, follow}
 use Rattle.d64spec.proofs.BoundLaws.{sectorNumber-lt}
 use Rattle.d64spec.proofs.ChainLaws.{chain-follow}
 use Rattle.d64spec.proofs.RunTheorem.{sectors35}
-use Rattle.sectors.proofs.SectorLaws.{byte-disk, byte-disk-first}
+use Rattle.sectors.specs.Sectors.{Inside}
+use Rattle.sectors.proofs.SectorLaws.{length-disk, sector-lent}
 use Rattle.links.proofs.LinkLaws.{file-bad, file-ends, file-to}
 use Rattle.geometry.specs.Layout.{numberBy, IsFirsts}
-use Rattle.reading.specs.ChainReads.{sectorsFrom, ChainFrom}
+use Rattle.reading.specs.ChainReads.{linkOf, sectorsFrom, ChainFrom}
 
 pub follow-length : (g : Geometry) (link : Bytes → Link) (d : Disk) (n : ℕ) (k : Link) → length (follow g link d n k) ≤ n
 follow-length g link d zero k = omega arith
@@ -31,7 +32,8 @@ unfolding sectorsFrom
 sectorsFrom-le img r = omega (arith, follow-length layout35 (fileLink layout35) (disk img) (steps layout35) (to r), sectors35)
 
 -- a chain that is no longer is what is met
-sectorsFrom-chain : (img : Bytes) (r : Address) (l : List Address) → Chain layout35 (fileLink layout35) (disk img) (to r) l → length l ≤ 684 → sectorsFrom img r ≡ l
+sectorsFrom-chain : (img : Bytes) (r : Address) (l : List Address) → Chain layout35 (fileLink layout35) (disk img) (to r) l → length l ≤ 684
+    → sectorsFrom img r ≡ l
 unfolding sectorsFrom
 sectorsFrom-chain img r l c h = chain-follow layout35 (fileLink layout35) (disk img) (steps layout35) (to r) l c (omega (arith, sectors35))
 
@@ -47,7 +49,8 @@ module _ (g : Geometry) (link : Bytes → Link) (d : Disk) where
   chain-ends (r ∷ l) c = absurd (let e : ends ≡ to r = c .0 in let z : _≡_ {A = ℕ} 0 1 = cc in omega arith)
 
   -- a chain that starts at r has r first
-  pub chain-first : (r : Address) (l : List Address) → Chain g link d (to r) l → (m : List Address) × (l ≡ r ∷ m) × Chain g link d (link (d (sectorNumber g r))) m
+  pub chain-first : (r : Address) (l : List Address) → Chain g link d (to r) l
+      → (m : List Address) × (l ≡ r ∷ m) × Chain g link d (link (d (sectorNumber g r))) m
   chain-first r [] c = absurd (let z : _≡_ {A = ℕ} 0 1 = cc in omega arith)
   chain-first r (q ∷ l) c =
       let e : to r ≡ to q = c .0 in
@@ -56,16 +59,15 @@ module _ (g : Geometry) (link : Bytes → Link) (d : Disk) where
 
 -- ---- the step
 
--- n is the number of the sector r, which lies whole in the image, and whose two link bytes are read there
+-- n is the number of the sector r, which lies whole in the image
 pub record Visited (img : Bytes) (r : Address) (n : ℕ) : Type 0 where
   pub number : n ≡ sectorNumber layout35 r
-  pub inside : 256 * n + 256 ≤ length img
-  pub track : byte img (256 * n) ≡ byte (disk img (sectorNumber layout35 r)) 0
-  pub sector : byte img (256 * n + 1) ≡ byte (disk img (sectorNumber layout35 r)) 1
+  pub inside : Inside img n
 
--- the sector that they name
-abbrev pub linkAt : Bytes → ℕ → Address
-linkAt img n = address (byte img (256 * n)) (byte img (256 * n + 1))
+-- as the code lends it
+pub visited-lent : {img : Bytes} {r : Address} {n : ℕ} → Visited img r n
+    → take (256 * n + 256 - 256 * n) (drop (256 * n) img) ≡ disk img (sectorNumber layout35 r)
+visited-lent {img} {r} {n} v = sector-lent img n refl ∙ ap (disk img) (v .number)
 
 -- the sector q follows r
 pub record Follows (img : Bytes) (r q : Address) : Type 0 where
@@ -80,42 +82,48 @@ module _ {img : Bytes} {r : Address} (c : ChainFrom img r) where
   pub visited : {firsts : List ℕ} {n : ℕ} → IsFirsts firsts → n ≡ numberBy firsts r → Visited img r n
   visited {firsts} {n} numbers e =
       let is : n ≡ sectorNumber layout35 r = e ∙ numbers .agrees r (c .on) in
-      record {
-        number = is;
-        inside = omega (arith, number-lt, c .size);
-        track = rw is (sym (byte-disk-first img (sectorNumber layout35 r)));
-        sector = rw is (sym (byte-disk img (sectorNumber layout35 r) 1 (omega arith)));
-      }
+      record { number = is; inside = omega (arith, number-lt, c .size) }
 
   -- its sectors are r, and the rest of the chain
-  pub sectors-first : (m : List Address) × (sectorsFrom img r ≡ r ∷ m) × Chain layout35 (fileLink layout35) (disk img) (fileLink layout35 (disk img (sectorNumber layout35 r))) m
+  pub sectors-first : (m : List Address) × (sectorsFrom img r ≡ r ∷ m)
+      × Chain layout35 (fileLink layout35) (disk img) (fileLink layout35 (disk img (sectorNumber layout35 r))) m
   sectors-first = chain-first layout35 (fileLink layout35) (disk img) r (sectorsFrom img r) (c .chain)
 
-  module _ {n : ℕ} (v : Visited img r n) where
-    link : Chain layout35 (fileLink layout35) (disk img) (decodeFileLink layout35 (byte img (256 * n)) (byte img (256 * n + 1))) (sectors-first .0)
+  -- what the link in the sector's bytes s says
+  module _ {s : Bytes} (is : s ≡ disk img (sectorNumber layout35 r)) where
+    pub sector-full : length s ≡ 256
+    sector-full = ap length is ∙ length-disk img (sectorNumber layout35 r) (omega (arith, number-lt, c .size))
+
+    link : Chain layout35 (fileLink layout35) (disk img) (decodeFileLink layout35 (byte s 0) (byte s 1)) (sectors-first .0)
     unfolding fileLink
-    link = rw (v .track, v .sector) (sectors-first .2)
+    link = rw is (sectors-first .2)
 
     -- track 0: it is the last, and its second byte is 1 or more
-    pub last-used : byte img (256 * n) < 1 → 1 ≤ byte img (256 * n + 1)
-    last-used h = go (byte img (256 * n + 1)) refl
+    pub last-used : byte s 0 < 1 → 1 ≤ byte s 1
+    last-used h = go (byte s 1) refl
       where
-        go : (s : ℕ) → byte img (256 * n + 1) ≡ s → 1 ≤ s
-        go zero e = chain-bad layout35 (fileLink layout35) (disk img) (sectors-first .0) (rw (file-bad layout35 (byte img (256 * n)) (byte img (256 * n + 1)) h (omega arith)) at link)
-        go (suc s) e = omega arith
+        go : (n : ℕ) → byte s 1 ≡ n → 1 ≤ n
+        go zero e =
+            chain-bad layout35 (fileLink layout35) (disk img) (sectors-first .0) (rw (file-bad layout35 (byte s 0) (byte s 1) h (omega arith)) at link)
+        go (suc n) e = omega arith
 
-    pub last-alone : byte img (256 * n) < 1 → sectorsFrom img r ≡ r ∷ []
+    pub last-alone : byte s 0 < 1 → sectorsFrom img r ≡ r ∷ []
     last-alone h =
         sectors-first .1 ∙ ap (λ (x : List Address). r ∷ x)
-        (chain-ends layout35 (fileLink layout35) (disk img) (sectors-first .0) (rw (file-ends layout35 (byte img (256 * n)) (byte img (256 * n + 1)) h (last-used h)) at link))
+        (chain-ends layout35 (fileLink layout35) (disk img) (sectors-first .0) (rw (file-ends layout35 (byte s 0) (byte s 1) h (last-used h)) at link))
 
     -- any other track: the sector named is on the disk, and the chain goes on there
-    pub follows : 1 ≤ byte img (256 * n) → Follows img r (linkAt img n)
+    pub follows : 1 ≤ byte s 0 → Follows img r (linkOf s)
     unfolding linkTo
-    follows h = go (onDisk layout35 (linkAt img n)) refl (rw (file-to layout35 (byte img (256 * n)) (byte img (256 * n + 1)) h) at link)
+    follows h = go (onDisk layout35 (linkOf s)) refl (rw (file-to layout35 (byte s 0) (byte s 1) h) at link)
       where
-        go : (b : Bool) → onDisk layout35 (linkAt img n) ≡ b → Chain layout35 (fileLink layout35) (disk img) (cond b (to (linkAt img n)) bad) (sectors-first .0) → Follows img r (linkAt img n)
+        go : (b : Bool) → onDisk layout35 (linkOf s) ≡ b
+            → Chain layout35 (fileLink layout35) (disk img) (cond b (to (linkOf s)) bad) (sectors-first .0) → Follows img r (linkOf s)
         go true on k =
-            let met : sectorsFrom img (linkAt img n) ≡ sectors-first .0 = sectorsFrom-chain img (linkAt img n) (sectors-first .0) k (omega (arith, sectorsFrom-le img r, ap length (sectors-first .1))) in
-            record { rest = record { size = c .size; on = on; chain = rw met k }; sectors = sectors-first .1 ∙ ap (λ (x : List Address). r ∷ x) (sym met) }
+            let met : sectorsFrom img (linkOf s) ≡ sectors-first .0
+            = sectorsFrom-chain img (linkOf s) (sectors-first .0) k (omega (arith, sectorsFrom-le img r, ap length (sectors-first .1))) in
+            record {
+              rest = record { size = c .size; on = on; chain = rw met k };
+              sectors = sectors-first .1 ∙ ap (λ (x : List Address). r ∷ x) (sym met);
+            }
         go false on k = chain-bad layout35 (fileLink layout35) (disk img) (sectors-first .0) k

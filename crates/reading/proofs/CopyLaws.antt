@@ -1,93 +1,54 @@
--- The loops along a chain (01, Chains): what each keeps, from its start through each sector to the last.
--- In order: the walk for the last byte (`Ending`); the data of one sector; the copy (`Copying`).
+-- The copy of a chain's data (01, Chains; Read): what the loop keeps, from its start through each sector to the last.
+-- In order: the data of one sector; the copy (`Copying`).
 -- The output is always the bytes copied so far, put at the start of the output as it was.
-use Prim.Native.Nat.{ℕ, _+_, _-_, _*_, _≤_}
+use Prim.Native.Nat.{ℕ, _+_, _-_, _≤_, _<_}
 use native.Mathlib.Omega.{arith}
 use mathlib.Core.Path.{_≡_, refl, sym, ap, ap₂, _∙_}
 use mathlib.Core.List.{[], _∷_, _++_, append-assoc, append-nil}
 use lib.ListN.{length, take, drop, length-append, length-take, length-drop}
-use lib.Seq.{take-take, length-take-le, drop-at, take-add, drop-append-add, take-append-seam, drop-drop, take-length}
+use lib.Seq.{length-take-le, drop-at, take-add, drop-append-add, take-append-seam, drop-drop, take-length}
 use Rattle.d64spec.specs.Lists.{Bytes, byte, splice}
 use Rattle.d64spec.specs.Answers.{Address}
 use Rattle.d64spec.specs.Geometry.{layout35, sectorNumber}
 use Rattle.d64spec.specs.Image.{disk}
-use Rattle.d64spec.specs.Chain.{chainData}
-use Rattle.d64spec.specs.Store.{lastOf}
 use Rattle.d64spec.proofs.SpliceLaws.{length-splice}
 use Rattle.parts.proofs.OverwriteLaws.{copied-back}
-use Rattle.reading.specs.declared.copying.Copied.{Copied}
-use Rattle.reading.specs.ChainReads.{sectorsFrom, dataFrom, lastByteFrom, ChainFrom, CopyFits, DataFits, ChainCopied}
-use Rattle.reading.proofs.ChainStepLaws.{Visited, Follows, sectors-first}
-
--- ---- the walk for the last byte
-
--- the chain from `at` on is whole, and ends as the one from `first` on does
-pub record Ending (img : Bytes) (first at : Address) : Type 0 where
-  pub chain : ChainFrom img at
-  pub same : lastByteFrom img at ≡ lastByteFrom img first
-
-pub ending-last : {img : Bytes} {first at : Address} → Ending img first at → sectorsFrom img at ≡ at ∷ [] → byte (disk img (sectorNumber layout35 at)) 1 ≡ lastByteFrom img first
-unfolding lastByteFrom lastOf
-ending-last e alone = rw alone at (e .same)
-
-pub ending-moved : {img : Bytes} {first at next : Address} → Ending img first at → Follows img at next → Ending img first next
-unfolding lastByteFrom lastOf
-ending-moved {img} {first} {at} {next} e f =
-    let s = sectors-first (f .rest) in
-    record { chain = f .rest; same = (rw (f .sectors) (rw (s .1))) ∙ e .same }
+use Rattle.reading.specs.ChainReads.{linkOf, sectorsFrom, dataFrom, ChainFrom, CopyFits, DataFits, ChainCopied}
+use Rattle.reading.proofs.ChainStepLaws.{Follows, sectors-first, sector-full, last-alone, follows}
 
 -- ---- the data of one sector
 
-drop-link : (s : Bytes) → drop 2 (take 256 s) ≡ take 254 (drop 2 s)
-drop-link [] = refl
-drop-link (x ∷ []) = refl
-drop-link (x ∷ y ∷ s) = refl
+-- `size` bytes behind the link of a sector with bytes s
+abbrev pub dataOf : Bytes → ℕ → Bytes
+dataOf s size = take size (drop 2 s)
 
--- the bytes behind a sector's link are the image's
-data-disk : (img : Bytes) (n size : ℕ) → size ≤ 254 → take size (drop 2 (disk img n)) ≡ take size (drop (256 * n + 2) img)
-unfolding disk
-data-disk img n size h =
-    ap (take size) (drop-link (drop (256 * n) img)) ∙ take-take size 254 (drop 2 (drop (256 * n) img)) h
-    ∙ ap (take size) (drop-drop 2 (256 * n) img)
+module _ {img : Bytes} {r : Address} (c : ChainFrom img r) {s : Bytes} (is : s ≡ disk img (sectorNumber layout35 r)) where
+  length-dataOf : (size : ℕ) → size ≤ 254 → length (dataOf s size) ≡ size
+  length-dataOf size h = let full = sector-full c is in simp (length-take, length-drop) (omega arith)
 
--- `size` bytes behind the link of sector n, where they lie in the image
-abbrev pub dataOf : Bytes → ℕ → ℕ → Bytes
-dataOf img n size = take size (drop (256 * n + 2) img)
-
-module _ {img : Bytes} {r : Address} {n : ℕ} (v : Visited img r n) where
-  pub length-dataOf : (size : ℕ) → size ≤ 254 → length (dataOf img n size) ≡ size
-  length-dataOf size h = let inside = v .inside in simp (length-take, length-drop) (omega arith)
-
-  bytes-of : (size : ℕ) → size ≤ 254 → take size (drop 2 (disk img (sectorNumber layout35 r))) ≡ dataOf img n size
-  bytes-of size h = rw (v .number) (data-disk img (sectorNumber layout35 r) size h)
-
-  -- the last sector's are bytes 2 to s, s being its second byte
-  pub data-last : byte img (256 * n + 1) ≤ 255 → sectorsFrom img r ≡ r ∷ [] → dataFrom img r ≡ dataOf img n (byte img (256 * n + 1) - 1)
+  -- the last sector's are bytes 2 to n, n being its second byte
+  data-last : sectorsFrom img r ≡ r ∷ [] → dataFrom img r ≡ dataOf s (byte s 1 - 1)
   unfolding dataFrom
-  data-last small alone =
-      let e : byte img (256 * n + 1) + 1 - 2 ≡ byte img (256 * n + 1) - 1 = omega arith in
-      rw (alone, ← (v .sector), e) (bytes-of (byte img (256 * n + 1) - 1) (omega arith))
+  data-last alone = let e : byte s 1 + 1 - 2 ≡ byte s 1 - 1 = omega arith in rw (alone, ← is, e)
 
   -- any other's are bytes 2 to 255
-  pub data-more : {q : Address} → Follows img r q → dataFrom img r ≡ dataOf img n 254 ++ dataFrom img q
+  data-more : {q : Address} → Follows img r q → dataFrom img r ≡ dataOf s 254 ++ dataFrom img q
   unfolding dataFrom
-  data-more {q} f =
-      let s = sectors-first (f .rest) in
-      rw (f .sectors, s .1) (ap (λ (x : Bytes). x ++ chainData layout35 (disk img) (q ∷ s .0)) (bytes-of 254 (omega arith)))
+  data-more f = rw (f .sectors, sectors-first (f .rest) .1, ← is)
 
 -- what comes back of a loan of `size` bytes of the output when the data of a sector are copied over them
-module _ (img out : Bytes) (start size at : ℕ) (fits : DataFits img out start size at) where
+module _ (s out : Bytes) (size at : ℕ) (fits : DataFits s out size at) where
   -- the data as the code lends them
   abbrev lent : Bytes
-  lent = take (start + 2 + size - (start + 2)) (drop (start + 2) img)
+  lent = take (2 + size - 2) (drop 2 s)
 
   pub data-copied : {p : Bytes} → p ≡ take (length lent) lent ++ drop (length lent) (take (at + size - at) (drop at out))
-      → take at out ++ (p ++ drop (at + size - at) (drop at out)) ≡ splice out at (take size (drop (start + 2) img))
+      → take at out ++ (p ++ drop (at + size - at) (drop at out)) ≡ splice out at (dataOf s size)
   data-copied e =
       let inside = fits .inside in
-      let all : start + 2 + size - (start + 2) ≡ size = omega arith in
+      let all : 2 + size - 2 ≡ size = omega arith in
       let long : length lent ≡ size = simp (length-take, length-drop) (omega arith) in
-      copied-back out at size lent long e ∙ ap (λ (n : ℕ). splice out at (take n (drop (start + 2) img))) all
+      copied-back out at size lent long e ∙ ap (λ (n : ℕ). splice out at (dataOf s n)) all
 
 -- ---- the copy
 
@@ -126,50 +87,65 @@ module _ {img out : Bytes} {first at : Address} {out′ : Bytes} {n k : ℕ} (w 
   next b c e =
       let l : length (take n (dataFrom img first)) ≡ n = length-take-le n (dataFrom img first) (w .within) in
       let more : take (n + length b) (dataFrom img first) ≡ take n (dataFrom img first) ++ b
-      = take-add n (length b) (dataFrom img first) ∙ ap (λ (x : Bytes). take n (dataFrom img first) ++ take (length b) x) (w .rest ∙ e) ∙ ap (λ (x : Bytes). take n (dataFrom img first) ++ x) (take-append-seam b c) in
+      = take-add n (length b) (dataFrom img first)
+      ∙ ap (λ (x : Bytes). take n (dataFrom img first) ++ x) (ap (take (length b)) (w .rest ∙ e) ∙ take-append-seam b c) in
       ap₂ (λ (x : Bytes) (i : ℕ). splice x i b) (w .output) (sym l) ∙ splice-more out (take n (dataFrom img first)) b ∙ ap (splice out 0) (sym more)
 
-  module _ {i : ℕ} (v : Visited img at i) where
-    -- a sector's 254 bytes, and on to the next
-    module _ {q : Address} (f : Follows img at q) where
-      size : length (dataOf img i 254) ≡ 254
-      size = length-dataOf v 254 (omega arith)
+  -- s are the bytes of the sector at hand
+  module _ {s : Bytes} (is : s ≡ disk img (sectorNumber layout35 at)) where
+    -- its 254 bytes, and on to the next
+    module _ (linked : 1 ≤ byte s 0) where
+      pub next-follows : Follows img at (linkOf s)
+      next-follows = follows (w .chain) is linked
 
-      more : dataFrom img at ≡ dataOf img i 254 ++ dataFrom img q
-      more = data-more v f
+      size : length (dataOf s 254) ≡ 254
+      size = length-dataOf (w .chain) is 254 (omega arith)
+
+      more : dataFrom img at ≡ dataOf s 254 ++ dataFrom img (linkOf s)
+      more = data-more (w .chain) is next-follows
 
       pub room-more : n + 254 ≤ length (dataFrom img first)
-      room-more = omega (arith, left, ap length more, length-append (dataOf img i 254) (dataFrom img q), size)
+      room-more = omega (arith, left, ap length more, length-append (dataOf s 254) (dataFrom img (linkOf s)), size)
 
-      pub copying-moved : Copying img out first q (splice out′ n (dataOf img i 254)) (n + 254) (k + 1)
-      copying-moved = record {
-        chain = f .rest;
-        room = w .room;
-        within = room-more;
-        rest = sym (drop-drop 254 n (dataFrom img first)) ∙ ap (drop 254) (w .rest ∙ more) ∙ drop-at (dataOf img i 254) (dataFrom img q) 254 size;
-        output = next (dataOf img i 254) (dataFrom img q) more ∙ ap (λ (m : ℕ). splice out 0 (take (n + m) (dataFrom img first))) size;
-        visited = omega (arith, w .visited, ap length (f .sectors));
-      }
+      passed : drop (n + 254) (dataFrom img first) ≡ dataFrom img (linkOf s)
+      passed = sym (drop-drop 254 n (dataFrom img first)) ∙ ap (drop 254) (w .rest ∙ more) ∙ drop-at (dataOf s 254) (dataFrom img (linkOf s)) 254 size
 
-    -- the last sector's bytes 2 to s
-    module _ (small : byte img (256 * i + 1) ≤ 255) (alone : sectorsFrom img at ≡ at ∷ []) where
+      pub copying-moved : {out″ : Bytes} {n′ k′ : ℕ} → out″ ≡ splice out′ n (dataOf s 254) → n′ ≡ n + 254 → k′ ≡ k + 1
+          → Copying img out first (linkOf s) out″ n′ k′
+      copying-moved {n′ = n′} copied long visited =
+          let here : n + length (dataOf s 254) ≡ n′ = omega (arith, size) in
+          record {
+            chain = next-follows .rest;
+            room = w .room;
+            within = omega (arith, room-more);
+            rest = rw long passed;
+            output = copied ∙ next (dataOf s 254) (dataFrom img (linkOf s)) more ∙ ap (λ (m : ℕ). splice out 0 (take m (dataFrom img first))) here;
+            visited = omega (arith, w .visited, ap length (next-follows .sectors));
+          }
+
+    -- or, where it is the last, bytes 2 to its second byte
+    module _ (last : byte s 0 < 1) (small : byte s 1 ≤ 255) where
+      alone : sectorsFrom img at ≡ at ∷ []
+      alone = last-alone (w .chain) is last
+
       abbrev rest : Bytes
-      rest = dataOf img i (byte img (256 * i + 1) - 1)
+      rest = dataOf s (byte s 1 - 1)
 
       all : dataFrom img at ≡ rest
-      all = data-last v small alone
+      all = data-last (w .chain) is alone
 
-      pub end-last : n + (byte img (256 * i + 1) - 1) ≡ length (dataFrom img first)
-      end-last = omega (arith, left, ap length all, length-dataOf v (byte img (256 * i + 1) - 1) (omega arith))
+      pub end-last : n + (byte s 1 - 1) ≡ length (dataFrom img first)
+      end-last = omega (arith, left, ap length all, length-dataOf (w .chain) is (byte s 1 - 1) (omega arith))
 
-      pub copying-finished : ChainCopied img out first (record { length = n + (byte img (256 * i + 1) - 1); sectors = k + 1 }) (splice out′ n rest)
-      copying-finished =
+      pub copying-finished : {out″ : Bytes} {k′ : ℕ} → out″ ≡ splice out′ n rest → k′ ≡ k + 1 → ChainCopied img out first k′ out″
+      copying-finished copied visited =
           let end : n + length rest ≡ length (dataFrom img first) = omega (arith, left, ap length all) in
           record {
-            output = next rest [] (all ∙ sym (append-nil rest)) ∙ ap (splice out 0) (ap (λ (m : ℕ). take m (dataFrom img first)) end ∙ take-length (dataFrom img first));
-            bytes = end-last;
+            output =
+                copied ∙ next rest [] (all ∙ sym (append-nil rest))
+                ∙ ap (splice out 0) (ap (λ (m : ℕ). take m (dataFrom img first)) end ∙ take-length (dataFrom img first));
             sectors = omega (arith, w .visited, ap length alone);
           }
 
-pub length-copied : {img out : Bytes} {r : Address} {c : Copied} {out′ : Bytes} → CopyFits img out r → ChainCopied img out r c out′ → length out′ ≡ length out
+pub length-copied : {img out : Bytes} {r : Address} {k : ℕ} {out′ : Bytes} → CopyFits img out r → ChainCopied img out r k out′ → length out′ ≡ length out
 length-copied {img} {out} {r} f k = ap length (k .output) ∙ length-splice out 0 (dataFrom img r) (omega (arith, f .room))

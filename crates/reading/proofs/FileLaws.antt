@@ -1,5 +1,5 @@
 -- A file of a checked image, as its entry gives it (01, The directory; Chains): the chain from the entry's first sector on, and the file's length.
-use Prim.Native.Nat.{ℕ, zero, suc, _-_, _<_}
+use Prim.Native.Nat.{ℕ, zero, suc, _<_}
 use native.Mathlib.Omega.{arith}
 use mathlib.Core.Path.{_≡_, refl, sym, ap, _∙_}
 use mathlib.Core.Bool.{Bool, true, false, cond}
@@ -7,18 +7,17 @@ use mathlib.Core.List.{List, [], _∷_, List·Memᴰ, List·Memᴰ·head, List·
 use lib.ListN.{length, drop}
 use Rattle.d64spec.specs.Lists.{Bytes, byte}
 use Rattle.d64spec.specs.Answers.{Address, Fault, done, first}
-use Rattle.d64spec.specs.Geometry.{layout35, onDisk, sectorNumber}
+use Rattle.d64spec.specs.Geometry.{layout35, onDisk}
 use Rattle.d64spec.specs.Image.{disk}
 use Rattle.d64spec.specs.Chain.{to, bad, linkTo, fileLink, Chain, chainData}
 use Rattle.d64spec.specs.Directory.{Slot, fileOf, files, firstLink, countOf}
-use Rattle.d64spec.specs.Store.{lastOf}
 use Rattle.d64spec.specs.Accepted.{Accepted, ValidEntry}
-use Rattle.d64spec.specs.Facts.{lastUsed}
 use Rattle.d64spec.proofs.ResultLaws.{done-inj, refused≢done}
 use Rattle.d64spec.proofs.SplitLaws.{all-mem}
 use Rattle.d64spec.proofs.RunTheorem.{sectors35}
-use Rattle.d64spec.proofs.ReadTheorem.{file-length}
-use Rattle.reading.specs.ChainReads.{sectorsFrom, dataFrom, lastByteFrom, ChainFrom}
+use Rattle.diskcheck.specs.EndTable.{endOf}
+use Rattle.diskcheck.proofs.CheckedLaws.{end-tells}
+use Rattle.reading.specs.ChainReads.{sectorsFrom, dataFrom, ChainFrom}
 use Rattle.reading.specs.FileSlots.{firstOf, FileEntry}
 use Rattle.reading.proofs.ChainStepLaws.{chain-bad, sectors-first}
 
@@ -46,11 +45,6 @@ module _ (img : Bytes) (s : Slot) where
       go true e c = record { on = e; sectors = rw e; chain = c }
       go false e c = chain-bad layout35 (fileLink layout35) (disk img) (fileOf layout35 (disk img) s .sectors) c
 
--- the last sector of a chain, whatever sector the search for it starts from
-lastOf-chain : {img : Bytes} {r : Address} → ChainFrom img r → (q : Address) → lastOf q (sectorsFrom img r) ≡ lastOf r (sectorsFrom img r)
-unfolding lastOf
-lastOf-chain c q = rw (sectors-first c .1)
-
 module _ (img : Bytes) (a : Accepted layout35 img) (s : Slot) (element : List·Memᴰ (fileOf layout35 (disk img) s) (files layout35 (disk img))) where
   valid : ValidEntry layout35 (disk img) (fileOf layout35 (disk img) s)
   valid = all-mem (ValidEntry layout35 (disk img)) element (a .content .entry)
@@ -58,25 +52,22 @@ module _ (img : Bytes) (a : Accepted layout35 img) (s : Slot) (element : List·M
   pub sectors-of : fileOf layout35 (disk img) s .sectors ≡ sectorsFrom img (firstOf (s .bytes))
   sectors-of = starts img s valid .sectors
 
-  chain-of : ChainFrom img (firstOf (s .bytes))
+  pub chain-of : ChainFrom img (firstOf (s .bytes))
   chain-of = let h = starts img s valid in record { size = omega (arith, a .size, sectors35); on = h .on; chain = rw (h .sectors) at (h .chain) }
 
-  -- THE ENTRY OF A FILE of an accepted image of bytes
-  pub entry-of : ((k : ℕ) → byte img k < 256) → length (s .bytes) ≡ 30 → FileEntry img (s .bytes)
-  unfolding fileOf lastByteFrom dataFrom
-  entry-of small full =
-      let l = file-length layout35 img a small (fileOf layout35 (disk img) s) element in
+  -- THE ENTRY OF A FILE of an accepted image of bytes, with where its data end
+  pub entry-of : ((k : ℕ) → byte img k < 256) → length (s .bytes) ≡ 30 → {last : ℕ} → last ≡ endOf img (fileOf layout35 (disk img) s .sectors)
+      → FileEntry img (s .bytes) last
+  unfolding fileOf dataFrom
+  entry-of small full {last} end =
+      let l = end-tells img a small (fileOf layout35 (disk img) s) element in
       let e = sectors-of in
       let count : countOf (s .bytes) ≡ length (sectorsFrom img (firstOf (s .bytes))) = valid .sectorCount ∙ ap length e in
-      let same : lastUsed layout35 (disk img) (fileOf layout35 (disk img) s) ≡ lastByteFrom img (firstOf (s .bytes))
-      = ap (λ (m : List Address). byte (disk img (sectorNumber layout35 (lastOf (s .holder) m))) 1) e
-      ∙ ap (λ (q : Address). byte (disk img (sectorNumber layout35 q)) 1) (lastOf-chain chain-of (s .holder)) in
       record {
         full = full;
         chain = chain-of;
         count = count;
-        some = omega (arith, l .some, valid .sectorCount);
-        low = omega (arith, l .low, same);
-        high = omega (arith, l .high, same);
-        bytes = ap (λ (m : List Address). length (chainData layout35 (disk img) m)) (sym e) ∙ omega (arith, l .bytes, same, valid .sectorCount);
+        some = omega (arith, count, ap length (sectors-first chain-of .1));
+        low = omega (arith, l .low, end);
+        bytes = ap (λ (m : List Address). length (chainData layout35 (disk img) m)) (sym e) ∙ omega (arith, l .bytes, end, valid .sectorCount);
       }

@@ -23,7 +23,6 @@ use Rattle.answers.specs.declared.Verdict.the-variants.{Fine, Refused}
 use Rattle.answers.specs.declared.Report.{Report}
 use Rattle.answers.specs.Faults.{faultOf, verdictOf, answerTo, replyOf}
 use Rattle.answers.proofs.RefusedLaws.{refused-reply, call-refused, size-true, size-false, check-sized}
-use Rattle.reading.specs.declared.copying.Copied.{Copied}
 use Rattle.reading.specs.declared.FileInformation.{FileInformation}
 use Rattle.reading.specs.declared.Told.{Told}
 use Rattle.reading.specs.FileSlots.{firstOf}
@@ -38,16 +37,16 @@ module _ (img out : Bytes) (r : Address) where
   read-short h = rw (lt-leb (length (dataFrom img r)) (length out) h)
 
   -- an output too short for the data
-  pub short-reply : {rep : Report} → rep ≡ record { verdict = Refused code.the-variants.WrongBuffer; length = 0; sectors = 0 } → length out < length (dataFrom img r)
-      → replyOf rep img out ≡ reply img out (readFrom img out r)
+  pub short-reply : {rep : Report} → rep ≡ record { verdict = Refused code.the-variants.WrongBuffer; length = 0; sectors = 0 }
+      → length out < length (dataFrom img r) → replyOf rep img out ≡ reply img out (readFrom img out r)
   unfolding faultOf
   short-reply e h = refused-reply code.the-variants.WrongBuffer e (read-short h)
 
   -- an output with room for them
-  pub whole-reply : {c : Copied} {out′ : Bytes} → length (dataFrom img r) ≤ length out → ChainCopied img out r c out′
-      → replyOf (record { verdict = Fine; length = c .length; sectors = c .sectors }) img out′ ≡ reply img out (readFrom img out r)
+  pub whole-reply : {size k : ℕ} {out′ : Bytes} → length (dataFrom img r) ≤ length out → ChainCopied img out r k out′ → size ≡ length (dataFrom img r)
+      → replyOf (record { verdict = Fine; length = size; sectors = k }) img out′ ≡ reply img out (readFrom img out r)
   unfolding readFrom reply verdictOf answerTo
-  whole-reply h k = rw (le-leb (length (dataFrom img r)) (length out) h) (rw (k .output, k .bytes, k .sectors))
+  whole-reply h copied long = rw (le-leb (length (dataFrom img r)) (length out) h) (rw (copied .output, copied .sectors, long))
 
 -- ---- the telling of an entry
 
@@ -91,13 +90,14 @@ module _ (img name out : Bytes) where
         read-some r e sectors = rw (size-true img size, asked, check-sized img (size-true img size) checked, e, sectors)
 
   -- THE REPLY TO A READ that is refused
-  pub read-refused : {rep : Report} (f : code.Fault) → rep ≡ record { verdict = Refused f; length = 0; sectors = 0 } → callRead layout35 img name out ≡ refused (faultOf f)
-      → replyOf rep img out ≡ perform layout35 img (read name out)
+  pub read-refused : {rep : Report} (f : code.Fault) → rep ≡ record { verdict = Refused f; length = 0; sectors = 0 }
+      → callRead layout35 img name out ≡ refused (faultOf f) → replyOf rep img out ≡ perform layout35 img (read name out)
   unfolding attempt outputBuffer
   read-refused f e r = call-refused img (read name out) f e r
 
   -- THE REPLY TO A READ of the chain that starts at r
-  pub read-replied : {x : Reply} (r : Address) → callRead layout35 img name out ≡ readFrom img out r → x ≡ reply img out (readFrom img out r) → x ≡ perform layout35 img (read name out)
+  pub read-replied : {x : Reply} (r : Address) → callRead layout35 img name out ≡ readFrom img out r → x ≡ reply img out (readFrom img out r)
+      → x ≡ perform layout35 img (read name out)
   unfolding perform attempt outputBuffer
   read-replied r e k = k ∙ ap (reply img out) (sym e)
 
@@ -108,7 +108,8 @@ module _ (img : Bytes) (position : ℕ) where
   unfolding callTell checkImage
   tell-fault {f} e = go (rightSize layout35 img) refl e
     where
-      go : (b : Bool) → rightSize layout35 img ≡ b → (need b wrongSize >> checkDisk layout35 (disk img)) ≡ refused f → callTell layout35 img position ≡ refused f
+      go : (b : Bool) → rightSize layout35 img ≡ b → (need b wrongSize >> checkDisk layout35 (disk img)) ≡ refused f
+          → callTell layout35 img position ≡ refused f
       go true size c = rw (size, c)
       go false size c = let same : wrongSize ≡ f = cc in rw (size, same)
 
@@ -127,8 +128,8 @@ module _ (img : Bytes) (position : ℕ) where
     tell-some e sectors = rw (sound .0, sound .1, e, sectors)
 
   -- THE REPLY TO A TELL that is refused
-  pub tell-refused : {told : Told} (f : code.Fault) → told ≡ record { verdict = Refused f; information = nothingTold } → callTell layout35 img position ≡ refused (faultOf f)
-      → tellReplyOf told ≡ tellReply (callTell layout35 img position)
+  pub tell-refused : {told : Told} (f : code.Fault) → told ≡ record { verdict = Refused f; information = nothingTold }
+      → callTell layout35 img position ≡ refused (faultOf f) → tellReplyOf told ≡ tellReply (callTell layout35 img position)
   unfolding tellReply noInformation verdictOf answerTo
   tell-refused f e r = rw (e, r)
 

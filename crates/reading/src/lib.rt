@@ -9,8 +9,7 @@ ghost use Rattle.d64spec.specs.Read.{callTell, tellReply};
 ghost use Rattle.d64spec.specs.Reply.{reply, validNameArgument};
 ghost use Rattle.d64spec.specs.Call.{read, perform};
 ghost use Rattle.answers.specs.Faults.{replyOf};
-ghost use Rattle.finding.specs.FileSlots.{CheckedSlots};
-ghost use Rattle.reading.specs.FileSlots.{firstOf, FileEntry};
+ghost use Rattle.reading.specs.FileSlots.{firstOf, FileEntry, CheckedFiles};
 ghost use Rattle.reading.specs.Replies.{readFrom, toldOf, nothingTold, informationOf, tellReplyOf};
 use answers::Fault;
 use answers::Report;
@@ -50,34 +49,40 @@ fn tell_nothing(fault: Fault) -> Told
     }
 }
 
-// Copies the file of an occupied slot of a checked image, or refuses it with 16 where the output is too short.
-fn read_slot(img: &[u8], slot: &[u8], out: &mut [u8]) -> Report
-    requires { ⌜ FileEntry (now img) (now slot) ⌝ }
-    ensures { λ r. ⌜ replyOf r (now (img .entry)) (now (out .exit)) ≡ reply (now (img .entry)) (now (out .entry)) (readFrom (now (img .entry)) (now (out .entry)) (firstOf (now (slot .entry)))) ⌝ }
+// Copies the file of an occupied slot of a checked image, which ends at byte `last` of its last sector, or refuses it with 16 where the output
+// is too short.
+fn read_slot(img: &[u8], slot: &[u8], last: u8, out: &mut [u8]) -> Report
+    requires { ⌜ FileEntry (now img) (now slot) last ⌝ }
+    ensures { λ r. ⌜ replyOf r (now (img .entry)) (now (out .exit))
+        ≡ reply (now (img .entry)) (now (out .entry)) (readFrom (now (img .entry)) (now (out .entry)) (firstOf (now (slot .entry)))) ⌝ }
 {
     let first = Address {
         track: slot[1],
         sector: slot[2],
     };
     let count = entry::sector_count(slot) as usize;
-    // an output with room for every data byte of the chain's sectors is long enough, whatever its last sector holds
-    if out.len() < 254 * count {
-        let last = copying::last_byte(img, first) as usize;
-        if out.len() < 254 * (count - 1) + last - 1 {
-            return answers::refuse(Fault::WrongBuffer);
-        }
+    let length = 254 * (count - 1) + last as usize - 1;
+    if out.len() < length {
+        return answers::refuse(Fault::WrongBuffer);
     }
-    let copied = copying::copy_chain(img, first, out);
+    let sectors = copying::copy_chain(img, first, out);
     Report {
         verdict: Verdict::Fine,
-        length: copied.length as u32,
-        sectors: copied.sectors as u16,
+        length: length as u32,
+        sectors: sectors as u16,
     }
 }
 
 // The same for the file of this name, looked for among the slots 0 to end - 1 of a checked image; refused with 13 where none has it.
-fn read_found(img: &[u8], name: &[u8], sectors: &[u8; 18], end: usize, out: &mut [u8]) -> Report
-    requires { ⌜ CheckedSlots (now img) (now sectors) end × (validNameArgument (now name) ≡ true) ⌝ }
+fn read_found<'a>(
+    img: &[u8],
+    name: &[u8],
+    sectors: &'a [u8; 18],
+    ends: &'a [u8; 144],
+    end: usize,
+    out: &mut [u8],
+) -> Report
+    requires { ⌜ CheckedFiles (now img) (now sectors) (now ends) end × (validNameArgument (now name) ≡ true) ⌝ }
     ensures { λ r. ⌜ replyOf r (now (img .entry)) (now (out .exit)) ≡ perform layout35 (now (img .entry)) (read (now (name .entry)) (now (out .entry))) ⌝ }
 {
     let track18 = &img[91392..96256];
@@ -85,7 +90,7 @@ fn read_found(img: &[u8], name: &[u8], sectors: &[u8; 18], end: usize, out: &mut
     if k == end {
         return answers::refuse(Fault::NotFound);
     }
-    read_slot(img, directory::slot_at(track18, sectors, k), out)
+    read_slot(img, directory::slot_at(track18, sectors, k), ends[k], out)
 }
 
 // Reads the file of this name: its bytes at the start of the output, the rest of it as it was; its length and its chain's length.
@@ -103,21 +108,23 @@ pub fn read_file(img: &[u8], name: &[u8], out: &mut [u8]) -> Report
     let verdict = checked.verdict;
     match verdict {
         Verdict::Refused(fault) => answers::refuse(fault),
-        Verdict::Fine => read_found(img, name, &checked.sectors, 8 * checked.count, out),
+        Verdict::Fine => read_found(
+            img,
+            name,
+            &checked.sectors,
+            &checked.ends,
+            8 * checked.count,
+            out,
+        ),
     }
 }
 
-// What the slot of a file of a checked image says, and the length of its chain's data.
-fn tell_slot(img: &[u8], slot: &[u8]) -> FileInformation
-    requires { ⌜ FileEntry (now img) (now slot) ⌝ }
+// What the slot of a file of a checked image says, and the file's length, which ends at byte `last` of its last sector.
+fn tell_slot(img: &[u8], slot: &[u8], last: u8) -> FileInformation
+    requires { ⌜ FileEntry (now img) (now slot) last ⌝ }
     ensures { λ r. ⌜ informationOf r ≡ toldOf (now (img .entry)) (now (slot .entry)) ⌝ }
 {
-    let first = Address {
-        track: slot[1],
-        sector: slot[2],
-    };
     let count = entry::sector_count(slot);
-    let last = copying::last_byte(img, first);
     let mut name = [0u8; 16];
     bytes::copy(&slot[3..19], &mut name);
     FileInformation {
@@ -131,8 +138,14 @@ fn tell_slot(img: &[u8], slot: &[u8]) -> FileInformation
 }
 
 // The same for the file at a position, looked for among the slots 0 to end - 1 of a checked image; refused with 13 where there are not so many.
-fn tell_found(img: &[u8], position: usize, sectors: &[u8; 18], end: usize) -> Told
-    requires { ⌜ CheckedSlots (now img) (now sectors) end ⌝ }
+fn tell_found<'a>(
+    img: &[u8],
+    position: usize,
+    sectors: &'a [u8; 18],
+    ends: &'a [u8; 144],
+    end: usize,
+) -> Told
+    requires { ⌜ CheckedFiles (now img) (now sectors) (now ends) end ⌝ }
     ensures { λ r. ⌜ tellReplyOf r ≡ tellReply (callTell layout35 (now (img .entry)) position) ⌝ }
 {
     let track18 = &img[91392..96256];
@@ -142,7 +155,7 @@ fn tell_found(img: &[u8], position: usize, sectors: &[u8; 18], end: usize) -> To
     }
     Told {
         verdict: Verdict::Fine,
-        information: tell_slot(img, directory::slot_at(track18, sectors, k)),
+        information: tell_slot(img, directory::slot_at(track18, sectors, k), ends[k]),
     }
 }
 
@@ -154,6 +167,12 @@ pub fn tell_file(img: &[u8], position: usize) -> Told
     let verdict = checked.verdict;
     match verdict {
         Verdict::Refused(fault) => tell_nothing(fault),
-        Verdict::Fine => tell_found(img, position, &checked.sectors, 8 * checked.count),
+        Verdict::Fine => tell_found(
+            img,
+            position,
+            &checked.sectors,
+            &checked.ends,
+            8 * checked.count,
+        ),
     }
 }

@@ -1,5 +1,6 @@
 -- The loop that clears a chain (01, Scratch; Chains): what it keeps, from its start through each sector to the last.
--- In order: one sector cleared; sectors cleared in another order; what is kept (`Clearing`); the sector at hand is as it was; it is cleared, and its mark moved.
+-- In order: one sector cleared; sectors cleared in another order; where a chain ends; what is kept (`Clearing`); the sector at hand is as it was; it is
+-- cleared, and its mark moved.
 use Prim.Native.Nat.{ℕ, _+_, _-_, _*_, _/_, _%_, _≤_, _<_}
 use native.Mathlib.Omega.{arith}
 use native.Mathlib.Decide.{decLt}
@@ -9,11 +10,12 @@ use mathlib.Core.List.{List, [], _∷_, _++_, map}
 use lib.ListN.{length, take, drop}
 use lib.Dec.{eqb, ltb}
 use borrow.Author.Tests.{eq-eqb, ne-eqb}
-use Rattle.d64spec.specs.Lists.{Bytes, count, indicator, zeros}
-use Rattle.d64spec.specs.Answers.{Address, address}
+use Rattle.d64spec.specs.Lists.{Bytes, byte, count, indicator, zeros}
+use Rattle.d64spec.specs.Answers.{Address}
 use Rattle.d64spec.specs.Geometry.{layout35, sectorNumber}
 use Rattle.d64spec.specs.Image.{Disk, disk, put}
 use Rattle.d64spec.specs.Owner.{claimCount, isFree}
+use Rattle.d64spec.specs.Store.{lastOf}
 use Rattle.d64spec.specs.Scratch.{clearSectors}
 use Rattle.d64spec.proofs.ClearLaws.{clear-in, clear-other}
 use Rattle.d64spec.proofs.SpliceLaws.{splice-all}
@@ -26,10 +28,10 @@ use Rattle.mapentry.specs.MapEntry.{Entries}
 use Rattle.bam.specs.Bam.{movedMark}
 use Rattle.bamlaws.specs.Expected.{Expects, freeAfter}
 use Rattle.bamlaws.proofs.FollowLaws.{expects-start, expects-moved, expects-agree}
-use Rattle.reading.specs.ChainReads.{sectorsFrom, lastByteFrom, ChainFrom}
-use Rattle.reading.proofs.ChainStepLaws.{Visited, linkAt, Follows, sectors-first, last-alone, follows}
-use Rattle.reading.proofs.CopyLaws.{ending-last, ending-moved}
-use Rattle.scratching.specs.Scratches.{linkOf, Unlinked, SectorCleared, ChainOwned, ChainCleared}
+use Rattle.diskcheck.specs.EndTable.{endOf}
+use Rattle.reading.specs.ChainReads.{linkOf, sectorsFrom, ChainFrom}
+use Rattle.reading.proofs.ChainStepLaws.{Visited, Follows, sectors-first, last-alone, follows}
+use Rattle.scratching.specs.Scratches.{Unlinked, SectorCleared, ChainOwned, ChainCleared}
 
 -- how often sector n stands among these
 abbrev times : ℕ → List Address → ℕ
@@ -68,6 +70,18 @@ module _ (l m : List Address) (same : (n : ℕ) → times n l ≡ times n m) whe
   unfolding freeAfter
   free-same v before r = ap (λ (k : ℕ). cond (ltb 0 k) v (before r)) (same (sectorNumber layout35 r))
 
+-- ---- where a chain ends
+
+-- at its last sector's second byte
+end-alone : (img : Bytes) (r : Address) → sectorsFrom img r ≡ r ∷ [] → byte (disk img (sectorNumber layout35 r)) 1 ≡ endOf img (sectorsFrom img r)
+unfolding endOf lastOf
+end-alone img r e = rw e
+
+-- as it does from the next sector on
+end-follows : (img : Bytes) {r q : Address} → Follows img r q → endOf img (sectorsFrom img q) ≡ endOf img (sectorsFrom img r)
+unfolding endOf lastOf
+end-follows img f = rw (f .sectors, sectors-first (f .rest) .1)
+
 -- ---- what the loop keeps
 
 -- k sectors of the chain from `first` on are zeroed and free in the map, and the chain goes on at `at`, as it was in the image at the start
@@ -79,7 +93,7 @@ pub record Clearing (img : Bytes) (first at : Address) (img′ : Bytes) (es′ :
   pub marks : Expects (freeAfter true cleared (isFree layout35 (disk img))) es′
   pub apart : (n : ℕ) → times n cleared + times n (sectorsFrom img at) ≡ times n (sectorsFrom img first)
   pub left : k + length (sectorsFrom img at) ≡ length (sectorsFrom img first)
-  pub same : lastByteFrom img at ≡ lastByteFrom img first
+  pub same : endOf img (sectorsFrom img at) ≡ endOf img (sectorsFrom img first)
   pub track : at .track < 256
   pub sector : at .sector < 256
 
@@ -134,16 +148,16 @@ module _ {img : Bytes} {es : Entries} {first at : Address} {img′ : Bytes} {es�
 
     module _ {link : Address} {img″ : Bytes} (step : SectorCleared img′ n link img″) where
       -- its link was the one that it had at the start
-      link-as-was : link ≡ linkAt img n
-      link-as-was = step .had ∙ ap linkOf (ap (disk img′) (v .number) ∙ as-was) ∙ sym (ap₂ address (v .track) (v .sector))
+      link-as-was : link ≡ linkOf (disk img own)
+      link-as-was = step .had ∙ ap linkOf (ap (disk img′) (v .number) ∙ as-was)
 
       -- the sector that the link names is the chain's next
       pub next : 1 ≤ link .track → Follows img at link
-      next h = rw link-as-was (follows (w .chain) v (omega (arith, ap (λ (r : Address). r .track) link-as-was)))
+      next h = rw link-as-was (follows (w .chain) refl (omega (arith, ap (λ (r : Address). r .track) link-as-was)))
 
       -- or it is the last
       pub alone : link .track < 1 → sectorsFrom img at ≡ at ∷ []
-      alone h = last-alone (w .chain) v (omega (arith, ap (λ (r : Address). r .track) link-as-was))
+      alone h = last-alone (w .chain) refl (omega (arith, ap (λ (r : Address). r .track) link-as-was))
 
       sectors″ : disk img″ ≡ clearSectors layout35 (at ∷ w .cleared) (disk img)
       sectors″ = step .zeroed ∙ ap₂ (λ (d : Disk) (m : ℕ). put d m (zeros 256)) (w .sectors) (v .number)
@@ -164,7 +178,7 @@ module _ {img : Bytes} {es : Entries} {first at : Address} {img′ : Bytes} {es�
           marks = marks″;
           apart = λ m. omega (arith, w .apart m, ap (times m) (f .sectors));
           left = omega (arith, w .left, ap length (f .sectors));
-          same = ending-moved (record { chain = w .chain; same = w .same }) f .same;
+          same = end-follows img f ∙ w .same;
           track = t;
           sector = s;
         }
@@ -177,5 +191,5 @@ module _ {img : Bytes} {es : Entries} {first at : Address} {img′ : Bytes} {es�
               size = size″;
               marks = expects-agree marks″ (λ r on. free-same (at ∷ w .cleared) (sectorsFrom img first) all true (isFree layout35 (disk img)) r);
               number = omega (arith, w .left, ap length e);
-              last = is ∙ ap (λ (r : Address). r .sector) link-as-was ∙ v .sector ∙ ending-last (record { chain = w .chain; same = w .same }) e;
+              last = is ∙ ap (λ (r : Address). r .sector) link-as-was ∙ end-alone img at e ∙ w .same;
             }

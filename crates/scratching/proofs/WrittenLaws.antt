@@ -1,11 +1,11 @@
 -- The file of a slot scratched in the image (01, Scratch): its chain as the code reads it, and that what is written is document 01's disk.
--- In order: the map put into its sector; the first sector of a slot's file; the slot's bytes; the file; its chain is owned; the image after; the report.
+-- In order: the map put into its sector; the first sector of a slot's file; the slot; the file; its chain is owned; the image after; the report.
 use Prim.Native.Nat.{ℕ, zero, suc, _+_, _-_, _*_, _≤_, _<_}
 use native.Mathlib.Omega.{arith}
 use mathlib.Core.Path.{_≡_, refl, sym, ap, ap₂, _∙_, subst}
 use mathlib.Core.Bool.{true, cond}
 use mathlib.Core.List.{List, [], map}
-use lib.ListN.{length, take, drop, length-take, length-drop}
+use lib.ListN.{length, drop}
 use lib.Dec.{eqb, ltb}
 use borrow.Author.Tests.{eq-eqb, lt-ltb}
 use Rattle.d64spec.specs.Lists.{Bytes, byte, count, part, splice, zeros}
@@ -24,7 +24,6 @@ use Rattle.d64spec.proofs.InPlaceLaws.{disk-image}
 use Rattle.d64spec.proofs.FrameLaws.{Sound}
 use Rattle.d64spec.proofs.MapBytes.{Prepared}
 use Rattle.d64spec.proofs.OtherBytes.{byte-small}
-use Rattle.d64spec.proofs.SlotLaws.{slot-bytes-at}
 use Rattle.d64spec.proofs.ScratchLaws
 use Rattle.d64spec.proofs.ScratchStep.{sound-of, Found, found}
 use Rattle.d64spec.proofs.RunTheorem.{valid35, sectors35}
@@ -37,10 +36,12 @@ use Rattle.mapsector.specs.MapSector.{storedEntries}
 use Rattle.bamlaws.specs.Expected.{Expects, freeAfter}
 use Rattle.bamlaws.proofs.FollowLaws.{expects-loaded, expects-agree, map-follows}
 use Rattle.directory.proofs.Track18Laws.{number-18}
-use Rattle.reading.specs.ChainReads.{sectorsFrom, dataFrom}
-use Rattle.reading.specs.FileSlots.{firstOf, FileEntry}
-use Rattle.reading.proofs.ChainStepLaws.{sectorsFrom-le}
-use Rattle.reading.proofs.FileLaws.{sectors-of, entry-of}
+use Rattle.diskcheck.specs.EndTable.{endOf}
+use Rattle.diskcheck.proofs.CheckedLaws.{end-tells}
+use Rattle.reading.specs.ChainReads.{sectorsFrom, ChainFrom}
+use Rattle.reading.specs.FileSlots.{firstOf}
+use Rattle.reading.proofs.ChainStepLaws.{sectorsFrom-le, sectors-first}
+use Rattle.reading.proofs.FileLaws.{sectors-of, chain-of}
 use Rattle.scratching.specs.declared.Cleared.{Cleared}
 use Rattle.imagemap.specs.ImageMaps.{MapWritten}
 use Rattle.scratching.specs.Scratches.{ChainCleared, startOf, EntryOwned, FileCleared, slotOn, fileOn, FileThere}
@@ -75,7 +76,7 @@ file-cleared e {before = before} {marked = marked} chain written = record { befo
 abbrev m : ℕ
 m = sectorNumber layout35 mapAddress
 
--- ---- the slot's bytes
+-- ---- the slot
 
 module _ {img : Bytes} {holder index : ℕ} (t : FileThere img holder index) where
   size-there : length img ≡ 174848
@@ -91,19 +92,9 @@ module _ {img : Bytes} {holder index : ℕ} (t : FileThere img holder index) whe
   abbrev n : ℕ
   n = 357 + holder
 
-  bytes-are : b ≡ take 30 (drop (32 * index + 2) (disk img n))
-  unfolding slotOn slotIn
-  bytes-are = slot-bytes-at (disk img (sectorNumber layout35 (address 18 holder))) index ∙ ap (λ (k : ℕ). take 30 (drop (32 * index + 2) (disk img k))) (number-18 holder)
-
   -- the sector is whole
   whole : Whole layout35 (disk img)
   whole = disk-whole layout35 img (t .accepted .size)
-
-  long : length (disk img n) ≡ 256
-  long = whole .full n (omega (arith, t .inside, sectors35))
-
-  full : length b ≡ 30
-  full = let place = t .place in ap length bytes-are ∙ simp (length-take, length-drop) (omega (arith, long))
 
   -- ---- the file
 
@@ -141,21 +132,20 @@ module _ {img : Bytes} {holder index : ℕ} (t : FileThere img holder index) whe
 
   -- ---- its chain is owned
 
-  module _ (small : (i : ℕ) → byte img i < 256) where
-    entry : FileEntry img b
-    unfolding fileOn slotOn slotIn
-    entry = entry-of img (t .accepted) s (t .element) small full
+  chain-there : ChainFrom img (firstOf b)
+  unfolding fileOn slotOn slotIn
+  chain-there = chain-of img (t .accepted) s (t .element)
 
-    pub entry-owned : EntryOwned img holder index
-    entry-owned = record {
-      place = t .place;
-      chain = record {
-        chain = entry .chain;
-        owned = λ k. omega (arith, claims k, ap (λ (l : List Address). count k (map (sectorNumber layout35) l)) sectors-are);
-        once = t .accepted .content .once;
-        marks = expects-loaded d (t .accepted .content) (whole .full m (omega (arith, number-18 0, sectors35))) (byte-small img small m);
-      };
-    }
+  pub entry-owned : ((i : ℕ) → byte img i < 256) → EntryOwned img holder index
+  entry-owned small = record {
+    place = t .place;
+    chain = record {
+      chain = chain-there;
+      owned = λ k. omega (arith, claims k, ap (λ (l : List Address). count k (map (sectorNumber layout35) l)) sectors-are);
+      once = t .accepted .content .once;
+      marks = expects-loaded d (t .accepted .content) (whole .full m (omega (arith, number-18 0, sectors35))) (byte-small img small m);
+    };
+  }
 
   -- ---- the image after
 
@@ -218,17 +208,15 @@ module _ {img : Bytes} {holder index : ℕ} (t : FileThere img holder index) whe
 
     -- what the length of the file is counted from
     pub told : ((i : ℕ) → byte img i < 256) → LengthTold c (length (chainData layout35 d (f .sectors)))
-    unfolding dataFrom
     told small =
-        let e = entry small in
-        let last = cleared .last in
-        let bytes : length (chainData layout35 d (f .sectors)) ≡ length (dataFrom img (firstOf b)) = ap (λ (l : List Address). length (chainData layout35 d l)) sectors-are in
+        let e = end-tells img (t .accepted) small f (t .element) in
+        let last : c .last ≡ endOf img (f .sectors) = cleared .last ∙ ap (endOf img) (sym sectors-are) in
         record {
-          some = omega (arith, number-is, ap length sectors-are, e .count, e .some);
-          few = omega (arith, number-is, ap length sectors-are, sectorsFrom-le img (firstOf b));
+          some = omega (arith, cleared .number, ap length (sectors-first chain-there .1));
+          few = omega (arith, cleared .number, sectorsFrom-le img (firstOf b));
           low = omega (arith, last, e .low);
           high = omega (arith, last, e .high);
-          bytes = omega (arith, bytes, number-is, ap length sectors-are, e .count, e .bytes, last);
+          bytes = omega (arith, number-is, last, e .bytes);
         }
 
     -- THE REPLY OF A SCRATCH that is done

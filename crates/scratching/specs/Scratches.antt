@@ -5,7 +5,7 @@ use mathlib.Core.Path.{_≡_}
 use mathlib.Core.Bool.{true}
 use mathlib.Core.List.{List, List·Memᴰ, map}
 use lib.ListN.{length}
-use Rattle.d64spec.specs.Lists.{Bytes, byte, count, zeros}
+use Rattle.d64spec.specs.Lists.{Bytes, count, zeros}
 use Rattle.d64spec.specs.Answers.{Address, address}
 use Rattle.d64spec.specs.Geometry.{layout35, sectorNumber, mapAddress}
 use Rattle.d64spec.specs.Image.{disk, put}
@@ -19,17 +19,14 @@ use Rattle.sectors.specs.Sectors.{overwrittenIn}
 use Rattle.mapentry.specs.MapEntry.{Entries}
 use Rattle.mapsector.specs.MapSector.{mapEntries}
 use Rattle.bamlaws.specs.Expected.{Expects, freeAfter}
+use Rattle.diskcheck.specs.EndTable.{endOf}
 use Rattle.finding.specs.FileSlots.{CheckedSlots}
-use Rattle.reading.specs.ChainReads.{sectorsFrom, lastByteFrom, ChainFrom}
+use Rattle.reading.specs.ChainReads.{linkOf, sectorsFrom, ChainFrom}
 use Rattle.reading.specs.FileSlots.{firstOf}
 use Rattle.imagemap.specs.ImageMaps.{MapWritten}
 use Rattle.scratching.specs.declared.Cleared.{Cleared}
 
 -- ---- a sector
-
--- the address that a sector's first two bytes name (01, Chains)
-abbrev pub linkOf : Bytes → Address
-linkOf s = address (byte s 0) (byte s 1)
 
 -- every byte of a sector is 0, and this is the link that it had (01, Scratch; Chains)
 pub record Unlinked (s : Bytes) (link : Address) (s′ : Bytes) : Type 0 where
@@ -62,7 +59,7 @@ pub record ChainCleared (img : Bytes) (r : Address) (c : Cleared) (img′ : Byte
   pub size : length img′ ≡ length img
   pub marks : Expects (freeAfter true (sectorsFrom img r) (isFree layout35 (disk img))) es′
   pub number : c .count ≡ length (sectorsFrom img r)
-  pub last : c .last ≡ lastByteFrom img r
+  pub last : c .last ≡ endOf img (sectorsFrom img r)
 
 -- ---- a slot
 

@@ -8,7 +8,7 @@ use Rattle.answers.specs.declared.Fault.the-variants.{WrongSize, BadNameArgumen
 use Rattle.answers.specs.Faults.{faultOf}
 use Rattle.diskcheck.proofs.CheckedLaws.{refused-image}
 use Rattle.reading.proofs.ReplyLaws.{read-size, read-name, read-fault, read-refused}
-use Rattle.finding.proofs.CheckedSlotLaws.{checked-slots}
+use Rattle.reading.proofs.FoundLaws.{checked-files}
 use borrow.Author.Needs.{needs}
 use Rattle.reading.proofs.read_file.Statement.{statement}
 use Rattle.reading.proofs.read_file.Tie as tie
@@ -20,7 +20,8 @@ returns : tie.Need-returns
 unfolding faultOf
 returns c =
     let a = c .before .before .before .before .before .args in
-    read-refused (a .img .now) (a .name .now) (a .out .now) WrongSize (c .refuse .ensures) (read-size (a .img .now) (a .name .now) (a .out .now) (λ size. c .before .if1 .taken (omega arith)))
+    read-refused (a .img .now) (a .name .now) (a .out .now) WrongSize (c .refuse .ensures)
+    (read-size (a .img .now) (a .name .now) (a .out .now) (λ size. c .before .if1 .taken (omega arith)))
 
 valid-name-argument-requires : tie.Need-valid-name-argument-requires
 valid-name-argument-requires c κs = search needs
@@ -33,7 +34,8 @@ unfolding faultOf
 returns-2 c =
     let a = c .before .before .before .before .before .before .before .args in
     let asked = sym (c .before .before .valid-name-argument .ensures) ∙ not-true _ (c .before .if2 .taken) in
-    read-refused (a .img .now) (a .name .now) (a .out .now) BadNameArgument (c .refuse2 .ensures) (read-name (a .img .now) (a .name .now) (a .out .now) (omega arith) asked)
+    read-refused (a .img .now) (a .name .now) (a .out .now) BadNameArgument (c .refuse2 .ensures)
+    (read-name (a .img .now) (a .name .now) (a .out .now) (omega arith) asked)
 
 check-image-requires : tie.Need-check-image-requires
 check-image-requires c κs = search needs
@@ -56,9 +58,9 @@ asked c = sym (c .before .valid-name-argument .ensures) ∙ not-false _ (c .if2 
 
 read-found-requires : tie.Need-read-found-requires
 read-found-requires c κs =
-    let e = c .before .before .before in
+    let e = c .before .before .before .before in
     let k = e .before .before in
-    (checked-slots (k .check-image .ensures) (e .enum-told .given .1), asked (k .before))
+    (checked-files (k .check-image .ensures) (e .enum-told .given .1), asked (k .before))
 
 returns-3 : tie.Need-returns-3
 returns-3 c =
@@ -66,7 +68,8 @@ returns-3 c =
     let v = c .before .before in
     let k = v .before .before in
     read-refused (a .img .now) (a .name .now) (a .out .now) _ (c .refuse3 .ensures)
-    (read-fault (a .img .now) (a .name .now) (a .out .now) (omega arith) (asked (k .before)) (refused-image (k .check-image .ensures) _ (v .verdict .given .1)))
+    (read-fault (a .img .now) (a .name .now) (a .out .now) (omega arith) (asked (k .before))
+    (refused-image (k .check-image .ensures) _ (v .verdict .given .1)))
 
 same-length : tie.Need-same-length
 same-length c = search needs

@@ -1,14 +1,11 @@
 -- `reading::read_found` meets its contract. In order: the slots; the file of the name; its bytes.
 use native.Mathlib.Omega.{arith}
-use mathlib.Core.Path.{_≡_}
-use Rattle.d64spec.specs.Geometry.{layout35}
-use Rattle.d64spec.specs.Read.{callRead}
+use mathlib.Core.Path.{refl}
 use Rattle.answers.specs.declared.Fault.the-variants.{NotFound}
 use Rattle.answers.specs.Faults.{faultOf}
-use Rattle.reading.specs.FileSlots.{firstOf, FileEntry}
-use Rattle.reading.specs.Replies.{readFrom}
+use Rattle.reading.specs.FileSlots.{firstOf}
 use Rattle.reading.proofs.ReplyLaws.{read-refused, read-replied}
-use Rattle.reading.proofs.FoundLaws.{none-named, some-named}
+use Rattle.reading.proofs.FoundLaws.{InSlot, slot-lt, entry-in, none-named, in-named, some-named}
 use borrow.Author.Needs.{needs}
 use Rattle.reading.proofs.read_found.Statement.{statement}
 use Rattle.reading.proofs.read_found.Tie as tie
@@ -38,24 +35,37 @@ returns c =
 slot-at-requires : tie.Need-slot-at-requires
 slot-at-requires c κs = search needs
 
--- the slot found is the file's
-found : (c : tie.After-slot-at) → FileEntry (c .before .before .before .before .before .before .before .args .img .now) (c .slot-at .result .now)
-    × (callRead layout35 (c .before .before .before .before .before .before .before .args .img .now) (c .before .before .before .before .before .before .before .args .name .now) (c .before .before .before .before .before .before .before .args .out .now) ≡ readFrom (c .before .before .before .before .before .before .before .args .img .now) (c .before .before .before .before .before .before .before .args .out .now) (firstOf (c .slot-at .result .now)))
+-- the slot found holds the file of the name
+found : (c : tie.Else1)
+    → let k = c .before in
+    let s = k .before .before .before .before .before in
+    InSlot (s .args .img .now) (s .args .sectors .now) (k .find-named .result)
 found c =
+    let s = c .before .before .before .before .before .before in
+    in-named (s .pre .0) (s .args .name .now) (s .pre .1) (c .before .find-named .ensures) (c .if1 .left)
+
+element-copy-out-read-slot : tie.Need-element-copy-out-read-slot
+element-copy-out-read-slot c =
     let s = c .before .before .before .before .before .before .before in
-    some-named (s .pre .0) (s .args .name .now) (s .pre .1) (c .before .before .find-named .ensures) (s .args .out .now) (λ i. omega (arith, c .before .before .before .before .before .before .shared-slice-known .given i)) (c .before .if1 .left) (c .slot-at .ensures)
+    omega (arith, slot-lt (s .pre .0) (found (c .before)))
 
 read-slot-requires : tie.Need-read-slot-requires
-read-slot-requires c κs = found (c .before) .0
+read-slot-requires c κs =
+    let t = c .before .before in
+    let k = t .before .before .before .before .before .before in
+    entry-in (k .before .pre .0) (found (t .before)) (λ i. omega (arith, k .shared-slice-known .given i)) (t .slot-at .ensures) refl
 
 same-length : tie.Need-same-length
 same-length c = search needs
 
 returns-2 : tie.Need-returns-2
 returns-2 c =
-    let a = c .before .before .before .before .before .before .before .before .before .before .before .args in
-    let s = c .before .before .before .before in
-    read-replied (a .img .now) (a .name .now) (a .out .now) (firstOf (s .slot-at .result .now)) (found s .1) (c .before .before .read-slot .ensures)
+    let t = c .before .before .before .before .before in
+    let e = t .before in
+    let s = e .before .before .before .before .before .before in
+    read-replied (s .args .img .now) (s .args .name .now) (s .args .out .now) (firstOf (t .slot-at .result .now))
+    (some-named (s .pre .0) (s .args .name .now) (s .pre .1) (e .before .find-named .ensures) (e .if1 .left) (s .args .out .now) (t .slot-at .ensures))
+    (c .before .before .read-slot .ensures)
 
 pub read-found-spec : {M : Type 1} → statement M
 read-found-spec =
@@ -68,6 +78,7 @@ read-found-spec =
     refuse-requires
     returns
     slot-at-requires
+    element-copy-out-read-slot
     read-slot-requires
     same-length
     returns-2)

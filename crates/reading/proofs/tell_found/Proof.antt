@@ -1,15 +1,10 @@
 -- `reading::tell_found` meets its contract. In order: the slots; the file at the position; what its entry says.
 use native.Mathlib.Omega.{arith}
-use mathlib.Core.Path.{_≡_}
-use Rattle.d64spec.specs.Answers.{done}
-use Rattle.d64spec.specs.Geometry.{layout35}
-use Rattle.d64spec.specs.Read.{callTell}
+use mathlib.Core.Path.{refl}
 use Rattle.answers.specs.declared.Fault.the-variants.{NotFound}
 use Rattle.answers.specs.Faults.{faultOf}
-use Rattle.reading.specs.FileSlots.{FileEntry}
-use Rattle.reading.specs.Replies.{toldOf}
 use Rattle.reading.proofs.ReplyLaws.{tell-refused, tell-replied}
-use Rattle.reading.proofs.FoundLaws.{none-placed, some-placed}
+use Rattle.reading.proofs.FoundLaws.{InSlot, slot-lt, entry-in, none-placed, in-placed, some-placed}
 use borrow.Author.Needs.{needs}
 use Rattle.reading.proofs.tell_found.Statement.{statement}
 use Rattle.reading.proofs.tell_found.Tie as tie
@@ -39,20 +34,33 @@ returns c =
 slot-at-requires : tie.Need-slot-at-requires
 slot-at-requires c κs = search needs
 
--- the slot found is the file's
-found : (c : tie.After-slot-at) → FileEntry (c .before .before .before .before .before .args .img .now) (c .slot-at .result .now)
-    × (callTell layout35 (c .before .before .before .before .before .args .img .now) (c .before .before .before .before .before .args .position) ≡ done (toldOf (c .before .before .before .before .before .args .img .now) (c .slot-at .result .now)))
+-- the slot found holds the file at the position
+found : (c : tie.Else1)
+    → let k = c .before in
+    let s = k .before .before .before in
+    InSlot (s .args .img .now) (s .args .sectors .now) (k .find-placed .result)
 found c =
+    let s = c .before .before .before .before in
+    in-placed (s .pre) (s .args .position) (c .before .find-placed .ensures) (c .if1 .left)
+
+element-copy-out-tell-slot : tie.Need-element-copy-out-tell-slot
+element-copy-out-tell-slot c =
     let s = c .before .before .before .before .before in
-    some-placed (s .pre) (s .args .position) (c .before .before .find-placed .ensures) (λ i. omega (arith, c .before .before .before .before .shared-slice-known .given i)) (c .before .if1 .left) (c .slot-at .ensures)
+    omega (arith, slot-lt (s .pre) (found (c .before)))
 
 tell-slot-requires : tie.Need-tell-slot-requires
-tell-slot-requires c κs = found c .0
+tell-slot-requires c κs =
+    let e = c .before .before in
+    let k = e .before .before .before in
+    entry-in (k .before .pre) (found e) (λ i. omega (arith, k .shared-slice-known .given i)) (c .before .slot-at .ensures) refl
 
 returns-2 : tie.Need-returns-2
 returns-2 c =
-    let a = c .before .before .before .before .before .before .args in
-    tell-replied (a .img .now) (a .position) (c .tell-slot .result) (found (c .before) .1) (c .tell-slot .ensures)
+    let t = c .before .before in
+    let e = t .before in
+    let s = e .before .before .before .before in
+    tell-replied (s .args .img .now) (s .args .position) (c .tell-slot .result)
+    (some-placed (s .pre) (s .args .position) (e .before .find-placed .ensures) (e .if1 .left) (t .slot-at .ensures)) (c .tell-slot .ensures)
 
 pub tell-found-spec : {M : Type 1} → statement M
 tell-found-spec =
@@ -65,5 +73,6 @@ tell-found-spec =
     tell-nothing-requires
     returns
     slot-at-requires
+    element-copy-out-tell-slot
     tell-slot-requires
     returns-2)

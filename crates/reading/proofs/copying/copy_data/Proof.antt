@@ -7,12 +7,6 @@ use Rattle.reading.proofs.copying.copy_data.Tie as tie
 add-copy : tie.Need-add-copy
 add-copy c = search needs
 
-add-copy-2 : tie.Need-add-copy-2
-add-copy-2 c = search needs
-
-add-copy-3 : tie.Need-add-copy-3
-add-copy-3 c = search needs
-
 sub-copy : tie.Need-sub-copy
 sub-copy c = search needs
 
@@ -22,8 +16,8 @@ part-copy-start c = search needs
 part-copy-end : tie.Need-part-copy-end
 part-copy-end c = search needs
 
-add-copy-4 : tie.Need-add-copy-4
-add-copy-4 c = search needs
+add-copy-2 : tie.Need-add-copy-2
+add-copy-2 c = search needs
 
 sub-copy-2 : tie.Need-sub-copy-2
 sub-copy-2 c = search needs
@@ -42,20 +36,18 @@ same-length c = search needs
 
 returns : tie.Need-returns
 returns c =
-    let a = c .before .before .before .before .before .before .before .args in
-    data-copied (a .img .now) (a .out .now) (a .start) (a .size) (a .at) (c .before .before .before .before .before .before .before .pre) (c .before .before .copy .ensures .1)
+    let s = c .before .before .before .before .before .before .before in
+    data-copied (s .args .sector .now) (s .args .out .now) (s .args .size) (s .args .at) (s .pre) (c .before .before .copy .ensures .1)
 
 pub copy-data-spec : {M : Type 1} → statement M
 copy-data-spec =
     tie.close
     (tie.spec
     add-copy
-    add-copy-2
-    add-copy-3
     sub-copy
     part-copy-start
     part-copy-end
-    add-copy-4
+    add-copy-2
     sub-copy-2
     part-copy-start-2
     part-copy-end-2
