@@ -21,20 +21,19 @@ fn copy_from(img: &[u8], first: Address, out: &mut [u8], firsts: &[u16; 35]) -> 
     ensures { λ r. ⌜ ChainCopied (now (img .entry)) (now (out .entry)) (addressOf first) r (now (out .exit)) ⌝ }
 {
     let mut at = first;
-    let mut length: usize = 0;
     let mut sectors: usize = 0;
     loop {
         let n = geometry::number_by(firsts, at);
         let part = &img[256 * n..256 * n + 256];
         let track = part[0];
         let sector = part[1];
+        let copied = 254 * sectors;
         sectors += 1;
         if track == 0 {
-            copy_data(part, sector as usize - 1, out, length);
+            copy_data(part, sector as usize - 1, out, copied);
             return sectors;
         }
-        copy_data(part, 254, out, length);
-        length += 254;
+        copy_data(part, 254, out, copied);
         at = Address { track, sector };
     }
 }

@@ -17,10 +17,10 @@ use Rattle.reading.proofs.copying.copy_from.Statement.{statement}
 use Rattle.reading.proofs.copying.copy_from.Tie as tie
 
 abbrev Inv-loop : tie.InvT-loop
-Inv-loop img out₀ firsts at₀ n₀ k₀ out at n k = Copying img out₀ (addressOf at₀) (addressOf at) out n k
+Inv-loop img out₀ firsts at₀ k₀ out at k = Copying img out₀ (addressOf at₀) (addressOf at) out (254 * k) k
 
 abbrev μ-loop : tie.MeasureT-loop
-μ-loop img out₀ firsts at₀ n₀ k₀ out at n k = length (sectorsFrom img (addressOf at))
+μ-loop img out₀ firsts at₀ k₀ out at k = length (sectorsFrom img (addressOf at))
 
 loop-holds : tie.Need-loop-holds Inv-loop μ-loop
 loop-holds c = copying-start (c .before .before .pre .fits)
@@ -64,6 +64,12 @@ shared-slice-read-track c = omega (arith, at-hand (c .before .before) .inside)
 
 shared-slice-read-sector : tie.Need-shared-slice-read-sector Inv-loop μ-loop
 shared-slice-read-sector c = omega (arith, at-hand (c .before .before .before) .inside)
+
+mul-copied : tie.Need-mul-copied Inv-loop μ-loop
+mul-copied c =
+    let l = c .before .before .before .before in
+    let a = l .before .before .before .args in
+    omega (arith, l .loop .inv .visited, sectorsFrom-le (a .img .now) (addressOf (a .first)))
 
 add-sectors : tie.Need-add-sectors Inv-loop μ-loop
 add-sectors c =
@@ -114,12 +120,6 @@ copy-data-requires-2 c κs =
       room = omega (arith, room-more w (lent p) (omega arith), w .room, length-output w);
     }
 
-add-length : tie.Need-add-length Inv-loop μ-loop
-add-length c =
-    let p = c .before .before .before .before .before .before .before in
-    let w = p .before .before .loop .inv in
-    omega (arith, room-more w (lent p) (omega arith), w .room)
-
 loop-less : tie.Need-loop-less Inv-loop μ-loop
 loop-less c =
     let p = c .before .before .before .before .before .before .before in
@@ -146,6 +146,7 @@ copy-from-spec =
     part-part-end
     shared-slice-read-track
     shared-slice-read-sector
+    mul-copied
     add-sectors
     cast-copy-data
     sub-copy-data
@@ -153,6 +154,5 @@ copy-from-spec =
     same-length
     returns
     copy-data-requires-2
-    add-length
     loop-less
     loop-again)
