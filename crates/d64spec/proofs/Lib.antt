@@ -1,4 +1,5 @@
 pub mod ExampleTables
+pub mod EdgeTables
 pub mod ListLaws
 pub mod ChainLaws
 pub mod PigeonholeLaws

@@ -24,3 +24,4 @@ pub mod Facts
 pub mod Exact
 pub mod Examples
 pub mod Trial
+pub mod Edges
