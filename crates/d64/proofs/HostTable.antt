@@ -44,15 +44,17 @@ lent n = replicate n 0xEE
 abbrev unplacedBlock : Bytes
 unplacedBlock = 0 ∷ 0 ∷ 255 ∷ zeros 6
 
--- TELL: done, with the rest of the entry as it was; 13 before 16; 16 for a short entry; 16 for the block before all
+-- TELL: done, with the rest of the entry as it was, and with no rest; 13 before 16; 16 for a short entry; 16 for the block before all
 pub tells-computed : map seen
     (hostTell smallLayout imageWithA (lent 9) 0 (lent 27)
+    ∷ hostTell smallLayout imageWithA (lent 9) 0 (lent 25)
     ∷ hostTell smallLayout imageWithA (lent 9) 1 (lent 24)
     ∷ hostTell smallLayout imageWithA (lent 9) 0 (lent 24)
     ∷ hostTell smallLayout [] (lent 9) 0 (lent 24)
     ∷ hostTell smallLayout [] (lent 8) 0 (lent 24)
     ∷ [])
     ≡ (0 ∷ (unplacedBlock ++ (0x82 ∷ (nameA ++ (replicate 15 0xA0 ++ (19 ∷ 0 ∷ 2 ∷ 0 ∷ 44 ∷ 1 ∷ 0 ∷ 0 ∷ lent 2))))))
+    ∷ (0 ∷ (unplacedBlock ++ (0x82 ∷ (nameA ++ (replicate 15 0xA0 ++ (19 ∷ 0 ∷ 2 ∷ 0 ∷ 44 ∷ 1 ∷ 0 ∷ 0 ∷ []))))))
     ∷ (13 ∷ (unplacedBlock ++ lent 24))
     ∷ (16 ∷ (unplacedBlock ++ lent 24))
     ∷ (1 ∷ (unplacedBlock ++ lent 24))
@@ -61,14 +63,16 @@ pub tells-computed : map seen
 unfolding hostTell hostForm tellInto entryBytes freshImage imageWithA afterCall sent smallLayout hostCall perform reply attempt outputBuffer answerBlock callFormat callStore callTell checkImage rightSize validNameArgument validKind writable filesNamed image disk put first sectorNumber onDisk firstOn sectorsOn total tracks mapOnes mapBit sectorsNeeded allocationOrder allocationTracks ascending descending sectorsOfTrack lastOf formattedDisk formattedMap formatHeader freeAfterFormat padded expectedEntry expectedBit bitmapByte rewriteMap claimCount claimList claimsOf directorySectors files occupied fileOf slotIn slotsIn firstLink linkTo fileLink directoryLink decodeFileLink decodeDirectoryLink freeForFiles freeForDirectory emptySlots slotPlaceFor placement storedDisk writeSlot overwriteSlot growDirectory newEntry checkDisk checkDirectory checkSlot checkEntry entryCorrect wrongBits validType validName nameOf
 tells-computed = refl
 
--- LISTING: done, with the length of its 85 bytes and no sectors, and the rest of the text as it was; 16 for a short text; 1 before 16; 16 for the block before all
+-- LISTING: done, with the length of its 85 bytes and no sectors, and the rest of the text as it was, and with no rest; 16 for a short text; 1 before 16; 16 for the block before all
 pub listings-computed : map (λ r. r .number ∷ (r .blockAfter ++ drop 85 (r .outputAfter)))
     (hostListing smallLayout (take 768 imageWithA) (lent 9) (lent 87)
+    ∷ hostListing smallLayout (take 768 imageWithA) (lent 9) (lent 85)
     ∷ hostListing smallLayout (take 768 imageWithA) (lent 9) (lent 84)
     ∷ hostListing smallLayout (take 767 imageWithA) (lent 9) (lent 84)
     ∷ hostListing smallLayout (take 767 imageWithA) (lent 10) (lent 84)
     ∷ [])
     ≡ (0 ∷ 0 ∷ 0 ∷ 255 ∷ 85 ∷ (zeros 5 ++ lent 2))
+    ∷ (0 ∷ 0 ∷ 0 ∷ 255 ∷ 85 ∷ zeros 5)
     ∷ (16 ∷ unplacedBlock)
     ∷ (1 ∷ unplacedBlock)
     ∷ (16 ∷ lent 10)

@@ -1,5 +1,6 @@
 pub mod ExampleTables
 pub mod OrderTables
+pub mod EdgeTables
 pub mod ListLaws
 pub mod ChainLaws
 pub mod PigeonholeLaws

@@ -7,7 +7,9 @@ use lib.Dec.{eqb, ltb}
 use borrow.Author.Tests.{eqb-true, le-ltb, lt-ltb, ltb-true}
 use Rattle.d64spec.specs.Answers.{address}
 use Rattle.d64spec.specs.Geometry.{Geometry, onDisk, sectorsOn}
+use Rattle.d64spec.specs.Image.{Disk}
 use Rattle.d64spec.specs.Chain.{bad, decodeDirectoryLink, decodeFileLink, ends, linkTo, to}
+use Rattle.d64spec.specs.Directory.{Slot, entryByte, firstLink}
 
 -- ---- files
 
@@ -33,6 +35,25 @@ pub file-off : (g : Geometry) (t s : ℕ) → 1 ≤ t → sectorsOn g t ≤ s �
 unfolding decodeFileLink linkTo onDisk
 file-off g zero s h k = absurd (omega arith)
 file-off g (suc t) s h k = rw (le-ltb s (sectorsOn g (suc t)) k)
+
+-- ---- a file's first link, bytes 03-04 of its slot
+
+module _ (g : Geometry) (d : Disk) (s : Slot) where
+  -- A FILE MAY START ANYWHERE ON THE DISK, track 18 included
+  pub first-goes-on : entryByte (s .bytes) 0x04 < sectorsOn g (entryByte (s .bytes) 0x03)
+      → firstLink g d s ≡ to (address (entryByte (s .bytes) 0x03) (entryByte (s .bytes) 0x04))
+  unfolding firstLink linkTo onDisk
+  first-goes-on h = rw (lt-ltb (entryByte (s .bytes) 0x04) (sectorsOn g (entryByte (s .bytes) 0x03)) h)
+
+  -- everything else is a bad link
+  pub first-off : sectorsOn g (entryByte (s .bytes) 0x03) ≤ entryByte (s .bytes) 0x04 → firstLink g d s ≡ bad
+  unfolding firstLink linkTo onDisk
+  first-off h = rw (le-ltb (entryByte (s .bytes) 0x04) (sectorsOn g (entryByte (s .bytes) 0x03)) h)
+
+  -- and so is track 0, whatever the second byte is
+  pub first-track-0 : entryByte (s .bytes) 0x03 ≡ 0 → firstLink g d s ≡ bad
+  unfolding sectorsOn
+  first-track-0 e = first-off (rw e (omega arith))
 
 -- ---- the directory
 

@@ -1,13 +1,13 @@
 -- What is read and what is told: the one file of a name, whole; the file at a position; and how many bytes a file holds (01, Read; Tell; Chains).
-use Prim.Native.Nat.{ℕ, zero, suc, _+_, _*_, _-_, _≤_, _<_}
+use Prim.Native.Nat.{ℕ, zero, suc, _+_, _*_, _-_, _/_, _%_, _≤_, _<_}
 use native.Mathlib.Omega.{arith}
 use mathlib.Core.Path.{_≡_, refl, sym, ap, _∙_, subst}
 use mathlib.Core.Bool.{Bool, true, false, cond}
 use mathlib.Core.List.{List, [], _∷_, _++_, map, List·Memᴰ, List·Memᴰ·head, List·Memᴰ·tail}
-use lib.ListN.{length, drop}
+use lib.ListN.{length, drop, getD}
 use Rattle.d64spec.specs.Lists.{All, Bytes, byte, equal}
 use Rattle.d64spec.specs.Answers.{Address, Fault, address, done, first, notFound, wrongSize}
-use Rattle.d64spec.specs.Geometry.{Geometry, Valid, onDisk, sectorNumber, total}
+use Rattle.d64spec.specs.Geometry.{Geometry, Valid, directoryStart, onDisk, sectorNumber, total}
 use Rattle.d64spec.specs.Image.{Disk, disk}
 use Rattle.d64spec.specs.Chain.{Chain, Link, bad, chainData, decodeFileLink, ends, fileLink, linkTo, to}
 use Rattle.d64spec.specs.Directory.{File, entryByte, files, firstLink, nameField, nameOf, padded, plainEntryOf, plainList, validName}
@@ -31,7 +31,7 @@ use Rattle.d64spec.proofs.SplitLaws.{mem-mid, all-mem}
 use Rattle.d64spec.proofs.NamedLaws.{filesNamed-one}
 use Rattle.d64spec.proofs.RefusalLaws.{zero-change}
 use Rattle.d64spec.proofs.OtherBytes.{byte-small}
-use Rattle.d64spec.proofs.LengthLaws.{data-length}
+use Rattle.d64spec.proofs.LengthLaws.{data-byte, data-length}
 use Rattle.d64spec.proofs.HostLaws.{accepted-of}
 
 -- ---- links
@@ -104,6 +104,27 @@ module _ (g : Geometry) (img : Bytes) (size : length img ≡ 256 * total g) (sma
 -- A FILE OF k SECTORS HOLDS 254(k-1) + n-1 BYTES: each file of an accepted image of bytes
 pub file-length : (g : Geometry) (img : Bytes) → Accepted g img → ((k : ℕ) → byte img k < 256) → (f : File) → List·Memᴰ f (files g (disk img)) → FileLength g (disk img) f
 file-length g img a small f m = entry-length g img (a .size) small f (all-mem (ValidEntry g (disk img)) m (a .content .entry))
+
+-- EACH BYTE OF A FILE, on an accepted image: byte i is byte 2 + i % 254 of the sector i / 254 of its chain. The default of getD is met by no byte
+pub file-bytes : (g : Geometry) (img : Bytes) → Accepted g img → (f : File) → List·Memᴰ f (files g (disk img))
+    → (i : ℕ) → i < length (chainData g (disk img) (f .sectors))
+    → byte (chainData g (disk img) (f .sectors)) i ≡ byte (disk img (sectorNumber g (getD (f .sectors) (i / 254) directoryStart))) (2 + i % 254)
+file-bytes g img a f m i h = bytes-at (f .sectors) on i h
+  where
+    e : ValidEntry g (disk img) f
+    e = all-mem (ValidEntry g (disk img)) m (a .content .entry)
+
+    on : All (λ x. x < total g) (map (sectorNumber g) (f .sectors))
+    on = chain-on g (fileLink g) (disk img) (fileLink-on g) (firstLink g (disk img) (f .slot)) (f .sectors) (firstLink-on g (disk img) (f .slot)) (e .chain)
+
+    full-at : (l : List Address) → All (λ x. x < total g) (map (sectorNumber g) l) → All (λ r. length (disk img (sectorNumber g r)) ≡ 256) l
+    full-at [] o = tt
+    full-at (r ∷ l) o = (disk-whole g img (a .size) .full (sectorNumber g r) (o .0), full-at l (o .1))
+
+    bytes-at : (l : List Address) → All (λ x. x < total g) (map (sectorNumber g) l) → (i : ℕ) → i < length (chainData g (disk img) l)
+        → byte (chainData g (disk img) l) i ≡ byte (disk img (sectorNumber g (getD l (i / 254) directoryStart))) (2 + i % 254)
+    bytes-at [] o i h = absurd (omega arith)
+    bytes-at (r ∷ l) o i h = data-byte g (disk img) directoryStart r l (full-at (r ∷ l) o) i h
 
 -- ---- read
 

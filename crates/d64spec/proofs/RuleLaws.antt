@@ -2,20 +2,24 @@
 use Prim.Native.Nat.{ℕ, zero, suc, _-_, _≤_, _<_}
 use native.Mathlib.Omega.{arith}
 use mathlib.Core.Path.{_≡_, refl, sym, ap}
-use mathlib.Core.Bool.{Bool, true, false, not, _&&_, _||_}
+use mathlib.Core.Bool.{Bool, true, false, cond, not, _&&_, _||_}
 use mathlib.Core.Logic.{_⊎_, inl, inr, ⊎-elim, _↔_}
-use mathlib.Core.List.{[], _∷_, map}
+use mathlib.Core.List.{[], _∷_, _++_, map}
 use lib.ListN.{length, drop, replicate, length-append, length-take}
 use lib.Dec.{eqb, ltb}
 use borrow.Author.Tests.{eq-eqb, ne-eqb, eqb-true, ltb-true, lt-ltb}
 use Rattle.d64spec.proofs.ListLaws.{equal-refl, eq-of-equal}
 use Rattle.d64spec.proofs.MapLaws.{and-true, both-true}
-use Rattle.d64spec.specs.Lists.{Bytes, byte, count, equal, filter, indicator, range}
-use Rattle.d64spec.specs.Geometry.{Geometry, mapAddress, sectorNumber}
+use Rattle.d64spec.specs.Lists.{ascending, Bytes, byte, count, equal, filter, indicator, range, zeros}
+use Rattle.d64spec.specs.Geometry.{Geometry, firstOn, layout35, mapAddress, sectorNumber}
 use Rattle.d64spec.specs.Image.{Disk}
 use Rattle.d64spec.specs.Directory.{isEmpty, kindOf, nameField, nameOf, padded, validName, validType}
 use Rattle.d64spec.specs.Rules.{HoldsName, IsKind, IsName, MayWrite, typeBytes}
 use Rattle.d64spec.specs.Reply.{validKind, validNameArgument, writable}
+
+-- bytes 02 to 1F of a slot whose bytes 05 to 14 are the field
+abbrev entryNamed : Bytes → Bytes
+entryNamed field = 0x81 ∷ 17 ∷ 0 ∷ (field ++ zeros 11)
 
 -- THE TYPE BYTES THAT ARE CARRIED, of all 256
 pub types-are : filter validType (range 0 256) ≡ typeBytes
@@ -29,6 +33,45 @@ empties-are = refl
 -- THE KIND of each type byte that is carried, locked or not
 pub kinds-are : map (λ b. kindOf (b ∷ [])) typeBytes ≡ 1 ∷ 2 ∷ 3 ∷ 1 ∷ 2 ∷ 3 ∷ []
 kinds-are = refl
+
+-- OF ALL 256 BYTES only $A0 is no name of one byte, asked for and on disk; and the name on disk is that byte
+pub name-bytes-are : filter (λ c. not (validNameArgument (c ∷ []))) (range 0 256) ≡ 0xA0 ∷ []
+unfolding validNameArgument
+name-bytes-are = refl
+
+pub field-bytes-are :
+    filter (λ c. not (validName (entryNamed (c ∷ replicate 15 0xA0)) && equal (nameOf (entryNamed (c ∷ replicate 15 0xA0))) (c ∷ []))) (range 0 256)
+    ≡ 0xA0 ∷ []
+unfolding validName nameOf padded
+field-bytes-are = refl
+
+-- A NAME HAS 1 TO 16 BYTES, asked for and on disk
+pub name-lengths-are : filter (λ n. validNameArgument (replicate n 0x41)) (range 0 40) ≡ ascending 1 16
+unfolding validNameArgument ascending
+name-lengths-are = refl
+
+pub field-lengths-are : filter (λ n. validName (entryNamed (replicate n 0x41 ++ replicate (16 - n) 0xA0))) (range 0 17) ≡ ascending 1 16
+unfolding validName nameOf padded ascending
+field-lengths-are = refl
+
+-- $A0 AMONG OTHER BYTES breaks a name, asked for and on disk: of 16 places only behind the other 15 is it padding
+pub name-gaps-are : filter (λ n. validNameArgument (replicate n 0x41 ++ (0xA0 ∷ replicate (15 - n) 0x41))) (range 0 16) ≡ []
+unfolding validNameArgument
+name-gaps-are = refl
+
+pub field-gaps-are : filter (λ n. validName (entryNamed (replicate n 0x41 ++ (0xA0 ∷ replicate (15 - n) 0x41)))) (range 0 16) ≡ 15 ∷ []
+unfolding validName nameOf padded
+field-gaps-are = refl
+
+-- OF THE KINDS 0 TO 299 only 1, 2 and 3 are taken
+pub taken-kinds-are : filter validKind (range 0 300) ≡ 1 ∷ 2 ∷ 3 ∷ []
+unfolding validKind
+taken-kinds-are = refl
+
+-- OF ALL 256 DOS VERSIONS only $00 and $41 allow writing
+pub versions-are : filter (λ v. writable layout35 (λ n. cond (eqb n 357) (0x12 ∷ 0x01 ∷ v ∷ []) [])) (range 0 256) ≡ 0x00 ∷ 0x41 ∷ []
+unfolding writable layout35 sectorNumber firstOn
+versions-are = refl
 
 -- A NAME ARGUMENT IS TAKEN exactly when it is a name
 pub name-argument-exact : (n : Bytes) → (validNameArgument n ≡ true) ↔ IsName n

@@ -39,6 +39,15 @@ sectors-fit l (suc n) e =
     let z : (suc n + 253) / 254 ≡ length l = sym (ap (λ (b : Bool). cond b 1 ((suc n + 253) / 254)) (ne-eqb (suc n) 0 (λ x. omega arith))) ∙ e in
     fits-of l (suc n) (omega arith) (omega arith) (λ x. omega arith)
 
+-- THE SECTORS THAT n BYTES NEED (01, Store): 1 for none, else as few as hold them
+pub needed-none : sectorsNeeded 0 ≡ 1
+unfolding sectorsNeeded
+needed-none = refl
+
+pub needed-exact : (n : ℕ) → 1 ≤ n → (n ≤ 254 * sectorsNeeded n) × (254 * (sectorsNeeded n - 1) < n)
+unfolding sectorsNeeded
+needed-exact n h = rw (ne-eqb n 0 (λ e. omega arith)) (omega arith, omega arith)
+
 -- a link to a sector of the disk
 pub link-is : (g : Geometry) (r : Address) → onDisk g r ≡ true → linkTo g (r .track) (r .sector) ≡ to r
 unfolding linkTo

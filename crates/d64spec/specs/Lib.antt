@@ -25,3 +25,4 @@ pub mod Exact
 pub mod Examples
 pub mod Trial
 pub mod TwoFaults
+pub mod Edges

@@ -1,0 +1,90 @@
+-- The rows of specs/Edges hold: what the worked examples do not reach, computed, so that a definition that is wrong only there is refused.
+use Prim.Native.Nat.{ℕ, _*_}
+use mathlib.Core.Path.{_≡_, refl}
+use mathlib.Core.List.{[], _∷_, _++_, map}
+use lib.ListN.{replicate}
+use Rattle.d64spec.specs.Lists.{ascending, descending, join, range}
+use Rattle.d64spec.specs.Answers.{answerOf, first}
+use Rattle.d64spec.specs.Geometry.{allocationOrder, allocationTracks, firstOn, layout35, onDisk, sectorNumber, sectorsOfTrack, sectorsOn, total, tracks}
+use Rattle.d64spec.specs.Image.{disk, image, put}
+use Rattle.d64spec.specs.Chain.{decodeDirectoryLink, decodeFileLink, directoryLink, fileLink, linkTo}
+use Rattle.d64spec.specs.Directory.{directorySectors, fileOf, files, firstLink, nameOf, occupied, padded, slotIn, slotsIn, validName, validType}
+use Rattle.d64spec.specs.Owner.{claimCount, claimList, claimsOf, freeForDirectory, freeForFiles}
+use Rattle.d64spec.specs.Map.{bitmapByte, entryCorrect, expectedBit, expectedEntry, mapBit, mapOnes, rewriteMap, wrongBits}
+use Rattle.d64spec.specs.Check.{checkDirectory, checkDisk, checkEntry, checkImage, checkSlot, rightSize}
+use Rattle.d64spec.specs.Reply.{filesNamed, reply, validKind, validNameArgument, writable}
+use Rattle.d64spec.specs.Format.{callFormat, formatHeader, formattedDisk, formattedMap, freeAfterFormat}
+use Rattle.d64spec.specs.Read.{callRead, callTell, noInformation, tellReply}
+use Rattle.d64spec.specs.Store.{callStore, emptySlots, growDirectory, lastOf, newEntry, overwriteSlot, placement, sectorsNeeded, slotPlaceFor, storedDisk, writeSlot}
+use Rattle.d64spec.specs.Scratch.{callScratch, scratchedDisk}
+use Rattle.d64spec.specs.Call.{attempt, callCheck, outputBuffer, perform, read}
+use Rattle.d64spec.specs.Listing.{bytesOfTrack18, callListing, digit, diskOfTrack18, freeTotal, headFrame, line, listingOutput, listingReply, listingText, refusalLine, sleeveOutput, slotFrame}
+use Rattle.d64spec.specs.Host.{answerBlock, hostCall}
+use Rattle.d64spec.specs.Trial.{afterCall, fieldsOf, freshImage, imageWithA, imageWithAB, lentBlock, nameA, sent, smallLayout}
+use Rattle.d64spec.specs.Edges.{answerFields, answersAt, bitmaps, dirtyHole, faultsAt, filledHole, firstAndLast, formatted180, holeFilled, houseNumbers, lockedUsr, longerNumbers, manyFree, name16, onTrack18, sameBitmaps, sent600, shownFaults, writtenPart, wrongTracks}
+
+-- DOCUMENT 01'S TABLE OF ANSWERS, for every place
+pub answers-are : (t s n : ℕ) → map (λ f. answerFields (answerOf f)) (faultsAt t s n) ≡ answersAt t s n
+answers-are t s n = refl
+
+-- HOUSE ORDER, sector by sector
+pub house-numbers : map (sectorNumber layout35) (allocationOrder layout35) ≡ houseNumbers
+unfolding houseNumbers allocationOrder allocationTracks sectorsOfTrack sectorsOn sectorNumber firstOn ascending descending tracks layout35
+house-numbers = refl
+
+-- track 18's sectors are 357 to 375
+pub numbers-of-18 : map (sectorNumber layout35) (sectorsOfTrack layout35 18) ≡ ascending 357 375
+unfolding sectorsOfTrack sectorsOn sectorNumber firstOn ascending layout35
+numbers-of-18 = refl
+
+-- TRACK t HAS FOUR BYTES AT 4t
+pub map-at35 : (t : ℕ) → layout35 .mapAt t ≡ 4 * t
+unfolding layout35
+map-at35 t = refl
+
+-- THE BIT OF EACH SECTOR: all 24 bits of the entries of all 35 tracks
+pub bits-are : map wrongTracks bitmaps ≡ replicate 5 []
+unfolding bitmaps wrongTracks sameBitmaps mapBit ascending layout35
+bits-are = refl
+
+-- the ones among a track's own sectors, where all 24 bits are 1
+pub ones-are : map (mapOnes layout35 (sameBitmaps (replicate 3 0xFF))) (ascending 1 35)
+    ≡ replicate 17 21 ++ (replicate 7 19 ++ (replicate 6 18 ++ replicate 5 17))
+unfolding sameBitmaps mapOnes mapBit sectorsOn ascending layout35
+ones-are = refl
+
+-- EVERY BYTE OF 18/0 after a format
+pub formatted-180 : formattedDisk layout35 name16 0xFF 0x80 357 ≡ formatted180
+unfolding formatted180 formattedDisk formattedMap formatHeader freeAfterFormat padded expectedEntry expectedBit bitmapByte ascending sectorNumber firstOn sectorsOn tracks put layout35
+formatted-180 = refl
+
+-- ---- calls on the small disk
+
+-- what they give
+pub record EdgesHold : Type 0 where
+  -- tell gives the type byte as it stands: a locked USR file
+  pub locked : fieldsOf (tellReply (callTell smallLayout lockedUsr 0)) ≡ 0 ∷ 0 ∷ 0 ∷ 255 ∷ 0xC3 ∷ (nameA ++ (replicate 15 0xA0 ++ (19 ∷ 0 ∷ 2 ∷ 300 ∷ [])))
+  -- a file on track 18 is read, and no byte behind its last
+  pub on18 : hostCall smallLayout onTrack18 lentBlock (read nameA (replicate 257 7)) .outputAfter ≡ range 2 254 ++ (100 ∷ 7 ∷ 7 ∷ [])
+  -- freed sectors are used again by the same rule, whatever they hold; bytes 00-01 of a slot stay, and so does all that is free
+  pub hole : writtenPart filledHole ≡ holeFilled
+  -- every call on an image that is longer gives 1
+  pub longer : longerNumbers ≡ replicate 7 1
+  -- the listing gives the disk name and the ids as they stand, F0F1 .. FEFF and FF80, and the sum in two bytes, 10F7
+  pub ends : firstAndLast (sleeveOutput smallLayout manyFree)
+      ≡ join (map (λ c. 0x46 ∷ c ∷ []) (range 0x30 10 ++ range 0x41 6)) ++ (0x46 ∷ 0x46 ∷ 0x38 ∷ 0x30 ∷ 0x0A ∷ 0x31 ∷ 0x30 ∷ 0x46 ∷ 0x37 ∷ 0x0A ∷ [])
+  -- the faults that track 18 shows: 02, 04, 05, 06
+  pub shown : map (sleeveOutput smallLayout) shownFaults
+      ≡ (0x30 ∷ 0x32 ∷ 0x0A ∷ []) ∷ (0x30 ∷ 0x34 ∷ 0x0A ∷ []) ∷ (0x30 ∷ 0x35 ∷ 0x0A ∷ []) ∷ (0x30 ∷ 0x36 ∷ 0x0A ∷ []) ∷ []
+
+-- WHAT NO EXAMPLE REACHES, on a small disk
+pub edges-hold : EdgesHold
+unfolding lockedUsr onTrack18 writtenPart filledHole holeFilled dirtyHole sent600 longerNumbers manyFree firstAndLast shownFaults callListing listingText headFrame slotFrame line digit freeTotal diskOfTrack18 listingReply sleeveOutput bytesOfTrack18 listingOutput refusalLine afterCall freshImage imageWithA imageWithAB sent smallLayout fieldsOf hostCall perform reply attempt outputBuffer answerBlock callCheck callFormat callRead callStore callScratch callTell tellReply noInformation checkImage rightSize validNameArgument validKind writable filesNamed image disk put first sectorNumber onDisk firstOn sectorsOn total tracks mapOnes mapBit sectorsNeeded allocationOrder allocationTracks ascending descending sectorsOfTrack lastOf formattedDisk formattedMap formatHeader freeAfterFormat padded expectedEntry expectedBit bitmapByte rewriteMap claimCount claimList claimsOf directorySectors files occupied fileOf slotIn slotsIn firstLink linkTo fileLink directoryLink decodeFileLink decodeDirectoryLink freeForFiles freeForDirectory emptySlots slotPlaceFor placement storedDisk writeSlot overwriteSlot growDirectory newEntry scratchedDisk checkDisk checkDirectory checkSlot checkEntry entryCorrect wrongBits validType validName nameOf
+edges-hold = record {
+  locked = refl;
+  on18 = refl;
+  hole = refl;
+  longer = refl;
+  ends = refl;
+  shown = refl;
+}
