@@ -4,11 +4,17 @@ mod copying;
 
 ghost use mathlib.Core.Path.{_≡_};
 ghost use mathlib.Core.Bool.{true};
+ghost use Prim.Native.Nat.{_<_};
+ghost use lib.ListN.{length};
+ghost use Rattle.d64spec.specs.Lists.{All};
 ghost use Rattle.d64spec.specs.Geometry.{layout35};
+ghost use Rattle.d64spec.specs.Listing.{bytesOfTrack18};
 ghost use Rattle.d64spec.specs.Read.{callTell, tellReply};
 ghost use Rattle.d64spec.specs.Reply.{reply, validNameArgument};
 ghost use Rattle.d64spec.specs.Call.{read, perform};
 ghost use Rattle.answers.specs.Faults.{replyOf};
+ghost use Rattle.diskcheck.specs.SlotChecks.{LentSlot};
+ghost use Rattle.finding.specs.FileSlots.{slotNamed, slotPlaced};
 ghost use Rattle.reading.specs.FileSlots.{firstOf, FileEntry, CheckedFiles};
 ghost use Rattle.reading.specs.Replies.{readFrom, toldOf, nothingTold, informationOf, tellReplyOf};
 use answers::Fault;
@@ -49,6 +55,30 @@ fn tell_nothing(fault: Fault) -> Told
     }
 }
 
+// Bytes 02 to 1F of slot k of an image.
+fn slot_of<'a>(img: &'a [u8], sectors: &[u8; 18], k: usize) -> &'a [u8]
+    requires { ⌜ (length (now img) ≡ 174848) × All (λ s. s < 19) (now sectors) ⌝ }
+    ensures { λ r. ⌜ LentSlot (now (img .entry)) (now (sectors .entry)) k (now r) ⌝ }
+{
+    directory::slot_at(&img[91392..96256], sectors, k)
+}
+
+// The first of the slots 0 to end - 1 that holds the name, or `end` where none does.
+fn slot_named(img: &[u8], name: &[u8], sectors: &[u8; 18], end: usize) -> usize
+    requires { ⌜ length (now img) ≡ 174848 ⌝ }
+    ensures { λ r. ⌜ r ≡ slotNamed (bytesOfTrack18 layout35 (now (img .entry))) (now (sectors .entry)) (now (name .entry)) 0 end ⌝ }
+{
+    finding::find_named(&img[91392..96256], sectors, name, end)
+}
+
+// The slot of the file at a position among the slots 0 to end - 1, or `end` where there are not so many.
+fn slot_placed(img: &[u8], position: usize, sectors: &[u8; 18], end: usize) -> usize
+    requires { ⌜ length (now img) ≡ 174848 ⌝ }
+    ensures { λ r. ⌜ r ≡ slotPlaced (bytesOfTrack18 layout35 (now (img .entry))) (now (sectors .entry)) position 0 end ⌝ }
+{
+    finding::find_placed(&img[91392..96256], sectors, position, end)
+}
+
 // Copies the file of an occupied slot of a checked image, which ends at byte `last` of its last sector, or refuses it with 16 where the output
 // is too short.
 fn read_slot(img: &[u8], slot: &[u8], last: u8, out: &mut [u8]) -> Report
@@ -85,12 +115,11 @@ fn read_found<'a>(
     requires { ⌜ CheckedFiles (now img) (now sectors) (now ends) end × (validNameArgument (now name) ≡ true) ⌝ }
     ensures { λ r. ⌜ replyOf r (now (img .entry)) (now (out .exit)) ≡ perform layout35 (now (img .entry)) (read (now (name .entry)) (now (out .entry))) ⌝ }
 {
-    let track18 = &img[91392..96256];
-    let k = finding::find_named(track18, sectors, name, end);
+    let k = slot_named(img, name, sectors, end);
     if k == end {
         return answers::refuse(Fault::NotFound);
     }
-    read_slot(img, directory::slot_at(track18, sectors, k), ends[k], out)
+    read_slot(img, slot_of(img, sectors, k), ends[k], out)
 }
 
 // Reads the file of this name: its bytes at the start of the output, the rest of it as it was; its length and its chain's length.
@@ -148,14 +177,13 @@ fn tell_found<'a>(
     requires { ⌜ CheckedFiles (now img) (now sectors) (now ends) end ⌝ }
     ensures { λ r. ⌜ tellReplyOf r ≡ tellReply (callTell layout35 (now (img .entry)) position) ⌝ }
 {
-    let track18 = &img[91392..96256];
-    let k = finding::find_placed(track18, sectors, position, end);
+    let k = slot_placed(img, position, sectors, end);
     if k == end {
         return tell_nothing(Fault::NotFound);
     }
     Told {
         verdict: Verdict::Fine,
-        information: tell_slot(img, directory::slot_at(track18, sectors, k), ends[k]),
+        information: tell_slot(img, slot_of(img, sectors, k), ends[k]),
     }
 }
 

@@ -4,7 +4,7 @@ use native.Mathlib.Omega.{arith}
 use mathlib.Core.Path.{_≡_, sym, ap, _∙_}
 use mathlib.Core.Bool.{true, false}
 use mathlib.Core.List.{List}
-use lib.ListN.{take, drop, getD}
+use lib.ListN.{getD}
 use Rattle.d64spec.specs.Lists.{Bytes, equal}
 use Rattle.d64spec.specs.Answers.{address, notFound, writeForbidden, refused, done, first}
 use Rattle.d64spec.specs.Geometry.{layout35}
@@ -26,10 +26,6 @@ use Rattle.finding.proofs.FindLaws.{slotNamed-le}
 use Rattle.finding.proofs.CheckedSlotLaws.{lentTrack18, found-none, found-some, by-name}
 use Rattle.scratching.specs.Scratches.{slotOn, fileOn, FileThere, MayScratch}
 use Rattle.scratching.proofs.ReplyLaws.{scratch-forbidden, scratch-none, scratch-some}
-
--- the slot of a name, by track 18 as the code lends it
-pub named-lent : (img ss name : List ℕ) (end : ℕ) {k : ℕ} → k ≡ slotNamed (take 4864 (drop 91392 img)) ss name 0 end → k ≡ slotNamed (bytesOfTrack18 layout35 img) ss name 0 end
-named-lent img ss name end e = e ∙ ap (λ (b : Bytes). slotNamed b ss name 0 end) (track18-lent img)
 
 pub forbidden : {img : Bytes} {ss : List ℕ} {end : ℕ} → CheckedSlots img ss end → (name : Bytes) → validNameArgument name ≡ true → writable layout35 (disk img) ≡ false
     → callScratch layout35 img name ≡ refused writeForbidden

@@ -1,26 +1,20 @@
 -- `reading::read_found` meets its contract. In order: the slots; the file of the name; its bytes.
 use native.Mathlib.Omega.{arith}
-use mathlib.Core.Path.{refl}
+use mathlib.Core.Path.{_≡_, refl}
+use Rattle.d64spec.specs.Geometry.{layout35}
+use Rattle.d64spec.specs.Read.{callRead}
 use Rattle.answers.specs.declared.Fault.the-variants.{NotFound}
 use Rattle.answers.specs.Faults.{faultOf}
 use Rattle.reading.specs.FileSlots.{firstOf}
+use Rattle.reading.specs.Replies.{readFrom}
 use Rattle.reading.proofs.ReplyLaws.{read-refused, read-replied}
-use Rattle.reading.proofs.FoundLaws.{InSlot, slot-lt, entry-in, none-named, in-named, some-named}
+use Rattle.reading.proofs.FoundLaws.{FileIn, none-named, some-named}
 use borrow.Author.Needs.{needs}
 use Rattle.reading.proofs.read_found.Statement.{statement}
 use Rattle.reading.proofs.read_found.Tie as tie
 
-sub-track18 : tie.Need-sub-track18
-sub-track18 c = search needs
-
-part-track18-start : tie.Need-part-track18-start
-part-track18-start c = search needs
-
-part-track18-end : tie.Need-part-track18-end
-part-track18-end c = search needs
-
-find-named-requires : tie.Need-find-named-requires
-find-named-requires c κs = search needs
+slot-named-requires : tie.Need-slot-named-requires
+slot-named-requires c κs = search needs
 
 refuse-requires : tie.Need-refuse-requires
 refuse-requires c κs = search needs
@@ -28,32 +22,32 @@ refuse-requires c κs = search needs
 returns : tie.Need-returns
 unfolding faultOf
 returns c =
-    let s = c .before .before .before .before .before .before .before in
+    let k = c .before .before in
+    let s = k .before .before .before .before in
     read-refused (s .args .img .now) (s .args .name .now) (s .args .out .now) NotFound (c .refuse .ensures)
-    (none-named (s .pre .0) (s .args .name .now) (s .pre .1) (c .before .before .find-named .ensures) (s .args .out .now) (omega arith))
+    (none-named (s .pre .0) (s .args .name .now) (s .pre .1) (k .slot-named .ensures) (s .args .out .now) (omega arith))
 
-slot-at-requires : tie.Need-slot-at-requires
-slot-at-requires c κs = search needs
+slot-of-requires : tie.Need-slot-of-requires
+slot-of-requires c κs = search needs
 
--- the slot found holds the file of the name
-found : (c : tie.Else1)
-    → let k = c .before in
-    let s = k .before .before .before .before .before in
-    InSlot (s .args .img .now) (s .args .sectors .now) (k .find-named .result)
+-- the slot found is the file's
+found : (c : tie.After-slot-of)
+    → let k = c .before .before in
+    let a = k .before .before .before .before .args in
+    FileIn (a .img .now) (a .ends .now) (k .slot-named .result) (c .slot-of .result .now)
+    × (callRead layout35 (a .img .now) (a .name .now) (a .out .now) ≡ readFrom (a .img .now) (a .out .now) (firstOf (c .slot-of .result .now)))
 found c =
-    let s = c .before .before .before .before .before .before in
-    in-named (s .pre .0) (s .args .name .now) (s .pre .1) (c .before .find-named .ensures) (c .if1 .left)
+    let k = c .before .before in
+    let i = k .before .before .before in
+    let s = i .before in
+    some-named (s .pre .0) (s .args .name .now) (s .pre .1) (k .slot-named .ensures) (s .args .out .now) (λ n. omega (arith, i .shared-slice-known .given n))
+    (c .before .if1 .left) (c .slot-of .ensures)
 
 element-copy-out-read-slot : tie.Need-element-copy-out-read-slot
-element-copy-out-read-slot c =
-    let s = c .before .before .before .before .before .before .before in
-    omega (arith, slot-lt (s .pre .0) (found (c .before)))
+element-copy-out-read-slot c = omega (arith, found c .0 .below)
 
 read-slot-requires : tie.Need-read-slot-requires
-read-slot-requires c κs =
-    let t = c .before .before in
-    let k = t .before .before .before .before .before .before in
-    entry-in (k .before .pre .0) (found (t .before)) (λ i. omega (arith, k .shared-slice-known .given i)) (t .slot-at .ensures) refl
+read-slot-requires c κs = found (c .before .before) .0 .entry refl
 
 same-length : tie.Need-same-length
 same-length c = search needs
@@ -61,23 +55,17 @@ same-length c = search needs
 returns-2 : tie.Need-returns-2
 returns-2 c =
     let t = c .before .before .before .before .before in
-    let e = t .before in
-    let s = e .before .before .before .before .before .before in
-    read-replied (s .args .img .now) (s .args .name .now) (s .args .out .now) (firstOf (t .slot-at .result .now))
-    (some-named (s .pre .0) (s .args .name .now) (s .pre .1) (e .before .find-named .ensures) (e .if1 .left) (s .args .out .now) (t .slot-at .ensures))
-    (c .before .before .read-slot .ensures)
+    let a = t .before .before .before .before .before .before .args in
+    read-replied (a .img .now) (a .name .now) (a .out .now) (firstOf (t .slot-of .result .now)) (found t .1) (c .before .before .read-slot .ensures)
 
 pub read-found-spec : {M : Type 1} → statement M
 read-found-spec =
     tie.close
     (tie.spec
-    sub-track18
-    part-track18-start
-    part-track18-end
-    find-named-requires
+    slot-named-requires
     refuse-requires
     returns
-    slot-at-requires
+    slot-of-requires
     element-copy-out-read-slot
     read-slot-requires
     same-length

@@ -1,25 +1,20 @@
 -- `reading::tell_found` meets its contract. In order: the slots; the file at the position; what its entry says.
 use native.Mathlib.Omega.{arith}
-use mathlib.Core.Path.{refl}
+use mathlib.Core.Path.{_≡_, refl}
+use Rattle.d64spec.specs.Answers.{done}
+use Rattle.d64spec.specs.Geometry.{layout35}
+use Rattle.d64spec.specs.Read.{callTell}
 use Rattle.answers.specs.declared.Fault.the-variants.{NotFound}
 use Rattle.answers.specs.Faults.{faultOf}
+use Rattle.reading.specs.Replies.{toldOf}
 use Rattle.reading.proofs.ReplyLaws.{tell-refused, tell-replied}
-use Rattle.reading.proofs.FoundLaws.{InSlot, slot-lt, entry-in, none-placed, in-placed, some-placed}
+use Rattle.reading.proofs.FoundLaws.{FileIn, none-placed, some-placed}
 use borrow.Author.Needs.{needs}
 use Rattle.reading.proofs.tell_found.Statement.{statement}
 use Rattle.reading.proofs.tell_found.Tie as tie
 
-sub-track18 : tie.Need-sub-track18
-sub-track18 c = search needs
-
-part-track18-start : tie.Need-part-track18-start
-part-track18-start c = search needs
-
-part-track18-end : tie.Need-part-track18-end
-part-track18-end c = search needs
-
-find-placed-requires : tie.Need-find-placed-requires
-find-placed-requires c κs = search needs
+slot-placed-requires : tie.Need-slot-placed-requires
+slot-placed-requires c κs = search needs
 
 tell-nothing-requires : tie.Need-tell-nothing-requires
 tell-nothing-requires c κs = search needs
@@ -27,52 +22,46 @@ tell-nothing-requires c κs = search needs
 returns : tie.Need-returns
 unfolding faultOf
 returns c =
-    let s = c .before .before .before .before .before in
+    let k = c .before .before in
+    let s = k .before .before in
     tell-refused (s .args .img .now) (s .args .position) NotFound (c .tell-nothing .ensures)
-    (none-placed (s .pre) (s .args .position) (c .before .before .find-placed .ensures) (omega arith))
+    (none-placed (s .pre) (s .args .position) (k .slot-placed .ensures) (omega arith))
 
-slot-at-requires : tie.Need-slot-at-requires
-slot-at-requires c κs = search needs
+slot-of-requires : tie.Need-slot-of-requires
+slot-of-requires c κs = search needs
 
--- the slot found holds the file at the position
-found : (c : tie.Else1)
-    → let k = c .before in
-    let s = k .before .before .before in
-    InSlot (s .args .img .now) (s .args .sectors .now) (k .find-placed .result)
+-- the slot found is the file's
+found : (c : tie.After-slot-of)
+    → let k = c .before .before in
+    let a = k .before .before .args in
+    FileIn (a .img .now) (a .ends .now) (k .slot-placed .result) (c .slot-of .result .now)
+    × (callTell layout35 (a .img .now) (a .position) ≡ done (toldOf (a .img .now) (c .slot-of .result .now)))
 found c =
-    let s = c .before .before .before .before in
-    in-placed (s .pre) (s .args .position) (c .before .find-placed .ensures) (c .if1 .left)
+    let k = c .before .before in
+    let i = k .before in
+    some-placed (i .before .pre) (i .before .args .position) (k .slot-placed .ensures) (λ n. omega (arith, i .shared-slice-known .given n))
+    (c .before .if1 .left) (c .slot-of .ensures)
 
 element-copy-out-tell-slot : tie.Need-element-copy-out-tell-slot
-element-copy-out-tell-slot c =
-    let s = c .before .before .before .before .before in
-    omega (arith, slot-lt (s .pre) (found (c .before)))
+element-copy-out-tell-slot c = omega (arith, found c .0 .below)
 
 tell-slot-requires : tie.Need-tell-slot-requires
-tell-slot-requires c κs =
-    let e = c .before .before in
-    let k = e .before .before .before in
-    entry-in (k .before .pre) (found e) (λ i. omega (arith, k .shared-slice-known .given i)) (c .before .slot-at .ensures) refl
+tell-slot-requires c κs = found (c .before) .0 .entry refl
 
 returns-2 : tie.Need-returns-2
 returns-2 c =
     let t = c .before .before in
-    let e = t .before in
-    let s = e .before .before .before .before in
-    tell-replied (s .args .img .now) (s .args .position) (c .tell-slot .result)
-    (some-placed (s .pre) (s .args .position) (e .before .find-placed .ensures) (e .if1 .left) (t .slot-at .ensures)) (c .tell-slot .ensures)
+    let a = t .before .before .before .before .args in
+    tell-replied (a .img .now) (a .position) (c .tell-slot .result) (found t .1) (c .tell-slot .ensures)
 
 pub tell-found-spec : {M : Type 1} → statement M
 tell-found-spec =
     tie.close
     (tie.spec
-    sub-track18
-    part-track18-start
-    part-track18-end
-    find-placed-requires
+    slot-placed-requires
     tell-nothing-requires
     returns
-    slot-at-requires
+    slot-of-requires
     element-copy-out-tell-slot
     tell-slot-requires
     returns-2)

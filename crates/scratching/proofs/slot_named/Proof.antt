@@ -1,5 +1,5 @@
 -- `scratching::slot_named` meets its contract: the part lent is track 18.
-use Rattle.scratching.proofs.FoundLaws.{named-lent}
+use Rattle.reading.proofs.FoundLaws.{named-lent}
 use borrow.Author.Needs.{needs}
 use Rattle.scratching.proofs.slot_named.Statement.{statement}
 use Rattle.scratching.proofs.slot_named.Tie as tie
