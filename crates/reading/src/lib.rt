@@ -148,7 +148,7 @@ pub fn read_file(img: &[u8], name: &[u8], out: &mut [u8]) -> Report
     }
 }
 
-// What the slot of a file of a checked image says, and the file's length, which ends at byte `last` of its last sector.
+// What the slot of a file of a checked image says, and the file's length; the file ends at byte `last` of its last sector.
 fn tell_slot(img: &[u8], slot: &[u8], last: u8) -> FileInformation
     requires { ⌜ FileEntry (now img) (now slot) last ⌝ }
     ensures { λ r. ⌜ informationOf r ≡ toldOf (now (img .entry)) (now (slot .entry)) ⌝ }
