@@ -82,14 +82,14 @@ file-start g d f e = go (f .sectors) (e .chain)
 
 -- ---- how many bytes a file holds
 
-module _ (g : Geometry) (img : Bytes) (size : length img ≡ 256 * total g) (small : (k : ℕ) → byte img k < 256) where
+module _ (g : Geometry) (img : Bytes) (size : length img ≡ 256 * total g) where
   full : (l : List Address) → All (λ x. x < total g) (map (sectorNumber g) l) → All (λ r. length (disk img (sectorNumber g r)) ≡ 256) l
   full [] a = tt
   full (r ∷ l) a = (disk-whole g img size .full (sectorNumber g r) (a .0), full l (a .1))
 
-  entry-length : (f : File) → ValidEntry g (disk img) f → FileLength g (disk img) f
+  entry-length : ((k : ℕ) → byte img k < 256) → (f : File) → ValidEntry g (disk img) f → FileLength g (disk img) f
   unfolding fileLink lastOf firstLink
-  entry-length f e =
+  entry-length small f e =
       let s = file-start g (disk img) f e in
       let r : Address = address (entryByte (f .slot .bytes) 0x03) (entryByte (f .slot .bytes) 0x04) in
       let l : List Address = s .0 in
@@ -117,14 +117,10 @@ file-bytes g img a f m i h = bytes-at (f .sectors) on i h
     on : All (λ x. x < total g) (map (sectorNumber g) (f .sectors))
     on = chain-on g (fileLink g) (disk img) (fileLink-on g) (firstLink g (disk img) (f .slot)) (f .sectors) (firstLink-on g (disk img) (f .slot)) (e .chain)
 
-    full-at : (l : List Address) → All (λ x. x < total g) (map (sectorNumber g) l) → All (λ r. length (disk img (sectorNumber g r)) ≡ 256) l
-    full-at [] o = tt
-    full-at (r ∷ l) o = (disk-whole g img (a .size) .full (sectorNumber g r) (o .0), full-at l (o .1))
-
     bytes-at : (l : List Address) → All (λ x. x < total g) (map (sectorNumber g) l) → (i : ℕ) → i < length (chainData g (disk img) l)
         → byte (chainData g (disk img) l) i ≡ byte (disk img (sectorNumber g (getD l (i / 254) directoryStart))) (2 + i % 254)
     bytes-at [] o i h = absurd (omega arith)
-    bytes-at (r ∷ l) o i h = data-byte g (disk img) directoryStart r l (full-at (r ∷ l) o) i h
+    bytes-at (r ∷ l) o i h = data-byte g (disk img) directoryStart r l (full g img (a .size) (r ∷ l) o) i h
 
 -- ---- read
 
