@@ -20,7 +20,7 @@ use Rattle.d64spec.specs.Store.{callStore, emptySlots, growDirectory, lastOf, n
 use Rattle.d64spec.specs.Call.{attempt, outputBuffer, perform}
 use Rattle.d64spec.specs.Listing.{callListing, digit, diskOfTrack18, freeTotal, headFrame, line, listingText, slotFrame}
 use Rattle.d64spec.specs.Host.{answerBlock, hostCall}
-use Rattle.d64spec.specs.Trial.{afterCall, freshImage, imageWithA, nameA, sent, smallLayout}
+use Rattle.d64spec.specs.Trial.{afterCall, freshImage, imageWithA, lent, nameA, sent, smallLayout}
 use Rattle.d64spec.specs.Host.{HostReply}
 use Rattle.d64.specs.HostForms.{entryBytes, hostForm, hostListing, hostTell, listInto, tellInto}
 
@@ -35,10 +35,6 @@ entry-computed = refl
 -- what the host sees: the number, the answer block, the output
 abbrev seen : HostReply → Bytes
 seen r = r .number ∷ (r .blockAfter ++ r .outputAfter)
-
--- n bytes lent, none of them what a call leaves there
-abbrev lent : ℕ → Bytes
-lent n = replicate n 0xEE
 
 -- a refusal without a place
 abbrev unplacedBlock : Bytes

@@ -20,11 +20,11 @@ use Rattle.d64spec.specs.Scratch.{callScratch, scratchedDisk}
 use Rattle.d64spec.specs.Call.{attempt, callCheck, outputBuffer, perform, read}
 use Rattle.d64spec.specs.Listing.{bytesOfTrack18, callListing, digit, diskOfTrack18, freeTotal, headFrame, line, listingOutput, listingReply, listingText, refusalLine, sleeveOutput, slotFrame}
 use Rattle.d64spec.specs.Host.{answerBlock, hostCall}
-use Rattle.d64spec.specs.Trial.{afterCall, fieldsOf, freshImage, imageWithA, imageWithAB, lentBlock, nameA, sent, smallLayout}
-use Rattle.d64spec.specs.Edges.{answerFields, answersAt, bitmaps, dirtyHole, faultsAt, filledHole, firstAndLast, formatted180, holeFilled, houseNumbers, lockedUsr, longerNumbers, manyFree, name16, onTrack18, sameBitmaps, sent600, shownFaults, writtenPart, wrongTracks}
+use Rattle.d64spec.specs.Trial.{afterCall, answerBytes, fieldsOf, freshImage, imageWithA, imageWithAB, lentBlock, nameA, sent, smallLayout}
+use Rattle.d64spec.specs.Edges.{answersAt, bitmaps, dirtyHole, faultsAt, filledHole, firstAndLast, formatted180, holeFilled, houseNumbers, lockedUsr, longerNumbers, manyFree, name16, onTrack18, sameBitmaps, sent600, shownFaults, writtenPart, wrongTracks}
 
 -- DOCUMENT 01'S TABLE OF ANSWERS, for every place
-pub answers-are : (t s n : ℕ) → map (λ f. answerFields (answerOf f)) (faultsAt t s n) ≡ answersAt t s n
+pub answers-are : (t s n : ℕ) → map (λ f. answerBytes (answerOf f)) (faultsAt t s n) ≡ answersAt t s n
 answers-are t s n = refl
 
 -- HOUSE ORDER, sector by sector

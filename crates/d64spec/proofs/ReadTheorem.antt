@@ -45,7 +45,7 @@ linkTo-to g t s r e = go (onDisk g (address t s)) e
     go true e′ = cc
     go false e′ = absurd (let z : _≡_ {A = ℕ} 0 1 = cc in omega arith)
 
-linkTo-ends : (g : Geometry) (t s : ℕ) → linkTo g t s ≡ ends → ⊥
+pub linkTo-ends : (g : Geometry) (t s : ℕ) → linkTo g t s ≡ ends → ⊥
 unfolding linkTo
 linkTo-ends g t s e = go (onDisk g (address t s)) e
   where

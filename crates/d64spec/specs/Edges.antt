@@ -8,7 +8,7 @@ use mathlib.Core.List.{List, [], _∷_, _++_, map}
 use lib.ListN.{drop, replicate, take}
 use lib.Dec.{eqb}
 use Rattle.d64spec.specs.Lists.{Bytes, ascending, equal, filter, join, part, range, splice, zeros}
-use Rattle.d64spec.specs.Answers.{Answer, Fault, address, wrongSize, badLink, alreadyOwned, badType, badName, duplicateName, wrongCount, wrongMapEntry, badNameArgument, badKindArgument, writeForbidden, nameExists, notFound, directoryFull, diskFull, wrongBuffer}
+use Rattle.d64spec.specs.Answers.{Fault, address, wrongSize, badLink, alreadyOwned, badType, badName, duplicateName, wrongCount, wrongMapEntry, badNameArgument, badKindArgument, writeForbidden, nameExists, notFound, directoryFull, diskFull, wrongBuffer}
 use Rattle.d64spec.specs.Geometry.{layout35}
 use Rattle.d64spec.specs.Map.{mapBit}
 use Rattle.d64spec.specs.Read.{callTell, tellReply}
@@ -18,10 +18,6 @@ use Rattle.d64spec.specs.Host.{hostCall}
 use Rattle.d64spec.specs.Trial.{afterCall, imageWithA, imageWithAB, lentBlock, nameA, nameB, nameC, patch18, smallLayout}
 
 -- ---- answers (01, Answer numbers)
-
--- number, track, sector, slot
-abbrev pub answerFields : Answer → List ℕ
-answerFields a = a .number ∷ a .track ∷ a .sector ∷ a .slot ∷ []
 
 -- the faults in the order of document 01's table, at sector s of track t and at slot n
 abbrev pub faultsAt : ℕ → ℕ → ℕ → List Fault

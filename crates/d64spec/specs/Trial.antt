@@ -8,6 +8,7 @@ use mathlib.Core.List.{List, [], _∷_, _++_, map}
 use lib.ListN.{length, take, drop, replicate}
 use lib.Dec.{eqb}
 use Rattle.d64spec.specs.Lists.{Bytes, filter, equal, join, range, splice, zeros}
+use Rattle.d64spec.specs.Answers.{Answer}
 use Rattle.d64spec.specs.Geometry.{Geometry}
 use Rattle.d64spec.specs.Read.{TellReply, callTell, tellReply}
 use Rattle.d64spec.specs.Call.{Call, check, format, read, store, scratch}
@@ -41,9 +42,13 @@ nameOf16 = 0x01 ∷ 0x12 ∷ 0x23 ∷ 0x34 ∷ 0x45 ∷ 0x56 ∷ 0x67 ∷ 0x78 �
 unfoldable pub sent : Bytes
 sent = range 1 200 ++ range 1 100
 
--- nine bytes lent for the answer, none of them what a call leaves there
+-- n bytes lent, none of them what a call leaves there
+abbrev pub lent : ℕ → Bytes
+lent n = replicate n 0xEE
+
+-- nine of them for the answer
 abbrev pub lentBlock : Bytes
-lentBlock = replicate 9 0xEE
+lentBlock = lent 9
 
 -- the image after a host call
 unfoldable pub afterCall : Bytes → Call → Bytes
@@ -165,12 +170,15 @@ faultAt t s slot = t ∷ s ∷ slot ∷ zeros 6
 abbrev pub report : ℕ → ℕ → Bytes
 report n k = 0 ∷ 0 ∷ 255 ∷ n ∷ 0 ∷ 0 ∷ 0 ∷ k ∷ 0 ∷ []
 
+-- an answer in one list: number, track, sector, slot
+abbrev pub answerBytes : Answer → Bytes
+answerBytes a = a .number ∷ a .track ∷ a .sector ∷ a .slot ∷ []
+
 -- what tell gives, in one list: number and place, type, name, first sector, count, length
 unfoldable pub fieldsOf : TellReply → Bytes
 fieldsOf r =
     let i = r .information in
-    r .answer .number ∷ r .answer .track ∷ r .answer .sector ∷ r .answer .slot
-    ∷ i .typeByte ∷ (i .nameBytes ++ (i .firstTrack ∷ i .firstSector ∷ i .sectorCount ∷ i .byteLength ∷ []))
+    answerBytes (r .answer) ++ (i .typeByte ∷ (i .nameBytes ++ (i .firstTrack ∷ i .firstSector ∷ i .sectorCount ∷ i .byteLength ∷ [])))
 
 -- whether a row is as document 01 says
 unfoldable pub callHolds : CallRow → Bool

@@ -8,12 +8,11 @@ use mathlib.Core.List.{List, [], _∷_, _++_}
 use lib.ListN.{take, replicate}
 use lib.Dec.{eqb}
 use Rattle.d64spec.specs.Lists.{Bytes, filter, equal, join, zeros}
-use Rattle.d64spec.specs.Answers.{Answer}
 use Rattle.d64spec.specs.Read.{callTell, tellReply}
 use Rattle.d64spec.specs.Call.{Call, check, format, read, store, scratch}
 use Rattle.d64spec.specs.Listing.{callListing, listingReply}
 use Rattle.d64spec.specs.Host.{hostCall}
-use Rattle.d64spec.specs.Trial.{smallLayout, nameA, nameC, entryOn19, patch18, relink, faultAt, report, fieldsOf}
+use Rattle.d64spec.specs.Trial.{smallLayout, nameA, nameC, lent, entryOn19, patch18, relink, faultAt, report, answerBytes, fieldsOf}
 
 -- ---- an image
 
@@ -78,14 +77,6 @@ pub data FaultRow : Type 0 where
   block : ℕ → List Flaw → Call → Bytes → FaultRow  -- the length of a block that is refused with 16, and the output; block, output and image stay
   tells : List Flaw → ℕ → Bytes → FaultRow  -- a position; number and place, and all zero besides
   lists : List Flaw → ℕ → ℕ → Bytes → FaultRow  -- so many bytes of track 18, and of a text buffer; number and place, length 0, and the buffer stays
-
--- n bytes lent, none of them what a call leaves there
-abbrev pub lent : ℕ → Bytes
-lent n = replicate n 0xEE
-
--- an answer in one list
-abbrev pub answerBytes : Answer → Bytes
-answerBytes a = a .number ∷ a .track ∷ a .sector ∷ a .slot ∷ []
 
 -- whether a row is as document 01 says
 unfoldable pub faultHolds : FaultRow → Bool

@@ -1,12 +1,11 @@
 -- A file's chain under way: claimed sector by sector in the owner table.
 -- In order: the links on the way; the outcome of a claim that has passed some sectors; the invariant, its start, its ends and its step.
-use Prim.Native.Nat.{ℕ, zero, suc, _+_, _*_, _-_, _≤_, _<_}
+use Prim.Native.Nat.{ℕ, zero, suc, _+_, _≤_, _<_}
 use native.Mathlib.Omega.{arith}
-use native.Mathlib.Nat.{add-sub-cancel-left}
 use mathlib.Core.Path.{_≡_, refl, sym, ap, ap₂, _∙_}
 use mathlib.Core.Bool.{Bool, true, false, cond, _&&_}
 use mathlib.Core.List.{List, _∷_, map}
-use lib.ListN.{length, take, drop, getD, set, length-set}
+use lib.ListN.{length, getD, set, length-set}
 use lib.Dec.{eqb, ltb}
 use borrow.Author.Tests.{eq-eqb, ne-eqb, lt-ltb, le-ltb}
 use Rattle.d64spec.specs.Lists.{Bytes, byte}
@@ -34,11 +33,6 @@ use Rattle.diskcheck.specs.Chains.{Claimed, claimOf, claimed, heldBy, cl
 use Rattle.diskcheck.proofs.EndLaws.{lastByte, walk-last}
 
 -- ---- the links on the way
-
--- a sector lent as a part of the image: the width is as the code has it
-pub sector-lent : (img : Bytes) (n : ℕ) → take (256 * n + 256 - 256 * n) (drop (256 * n) img) ≡ disk img n
-unfolding disk
-sector-lent img n = simp add-sub-cancel-left
 
 -- the link of the bytes t and s after n sectors of a chain: a slot's first link, then those in its sectors
 unfoldable pub linkAfter : ℕ → ℕ → ℕ → Link

@@ -4,32 +4,23 @@ use Prim.Native.Nat.{ℕ, _<_}
 use native.Mathlib.Omega.{arith}
 use native.Mathlib.Decide.{ℕ-discrete}
 use mathlib.Core.Path.{_≡_, refl, sym, ap, _∙_}
-use mathlib.Core.Bool.{Bool, true, false, cond}
 use mathlib.Core.List.{List, [], _∷_, List·Memᴰ, List·Memᴰ·head, List·Memᴰ·tail}
 use lib.ListN.{length, getD, set, length-set}
 use lib.Seq.{getD-set-same, getD-set-other}
 use Rattle.d64spec.specs.Lists.{Bytes, byte}
-use Rattle.d64spec.specs.Answers.{Address, address, done}
-use Rattle.d64spec.specs.Geometry.{layout35, onDisk, sectorNumber}
+use Rattle.d64spec.specs.Answers.{Address, done}
+use Rattle.d64spec.specs.Geometry.{layout35, sectorNumber}
 use Rattle.d64spec.specs.Image.{disk}
-use Rattle.d64spec.specs.Chain.{ends, to, bad, linkTo, fileLink, steps, Chain}
+use Rattle.d64spec.specs.Chain.{linkTo, fileLink, steps, Chain}
 use Rattle.d64spec.specs.Directory.{File}
 use Rattle.d64spec.specs.Store.{lastOf}
 use Rattle.d64spec.proofs.WalkLaws.{walk-sound}
+use Rattle.d64spec.proofs.ReadTheorem.{linkTo-ends}
 use Rattle.owners.specs.OwnerTable.{owned}
 use Rattle.diskcheck.specs.Chains.{chainWalk}
 use Rattle.diskcheck.specs.EndTable.{endOf, withEnds}
 
 -- ---- a chain's last sector
-
--- a slot's first link does not end a chain
-linkTo-ends : (t s : ℕ) → linkTo layout35 t s ≡ ends → ⊥
-unfolding linkTo
-linkTo-ends t s e = go (onDisk layout35 (address t s)) e
-  where
-    go : (b : Bool) → cond b (to (address t s)) bad ≡ ends → ⊥
-    go true e′ = let z : _≡_ {A = ℕ} 0 1 = cc in omega arith
-    go false e′ = let z : _≡_ {A = ℕ} 0 1 = cc in omega arith
 
 module _ (img : Bytes) where
   -- the second byte of the last sector that is met after `holder`
@@ -40,7 +31,7 @@ module _ (img : Bytes) where
   pub last-byte : (holder : Address) (t s : ℕ) (l : List Address) → Chain layout35 (fileLink layout35) (disk img) (linkTo layout35 t s) l
       → lastByte holder l ≡ endOf img l
   unfolding endOf lastOf
-  last-byte holder t s [] c = absurd (linkTo-ends t s c)
+  last-byte holder t s [] c = absurd (linkTo-ends layout35 t s c)
   last-byte holder t s (r ∷ l) c = refl
 
   -- of the definition's walk

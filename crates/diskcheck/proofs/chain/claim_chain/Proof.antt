@@ -6,8 +6,9 @@ use mathlib.Core.Path.{refl, sym, _∙_}
 use lib.ListN.{take, drop}
 use borrow.Author.Needs.{needs}
 use borrow.Author.Tests.{not-true, not-false}
+use Rattle.sectors.proofs.SectorLaws.{sector-lent}
 use Rattle.owners.proofs.TableLaws.{freeCount}
-use Rattle.diskcheck.proofs.ChainLaws.{sector-lent, Claims, chainClaim, Named, named, Moved, claims-start, claims-off, claims-owned, claims-moved}
+use Rattle.diskcheck.proofs.ChainLaws.{Claims, chainClaim, Named, named, Moved, claims-start, claims-off, claims-owned, claims-moved}
 use Rattle.diskcheck.proofs.chain.claim_chain.Statement.{statement}
 use Rattle.diskcheck.proofs.chain.claim_chain.Tie as tie
 
@@ -95,7 +96,7 @@ moved : (c : tie.Else2 Inv-loop μ-loop)
 moved c =
     let n = c .before .before in
     let l = n .before .before .before in
-    claims-moved (l .loop .inv) (on-disk n) (sector-lent _ _) (c .if2 .left) (l .before .before .pre .0 .owner)
+    claims-moved (l .loop .inv) (on-disk n) (sector-lent _ _ refl) (c .if2 .left) (l .before .before .pre .0 .owner)
 
 loop-less : tie.Need-loop-less Inv-loop μ-loop
 loop-less c = let m = moved (c .before .before .before) in omega (arith, m .fewer)
