@@ -14,7 +14,7 @@ use Rattle.d64spec.specs.Chain.{chainData}
 use Rattle.d64spec.specs.Directory.{File, files}
 use Rattle.d64spec.specs.Owner.{freeForFiles}
 use Rattle.d64spec.specs.Check.{DirectoryContents, checkDisk, rightSize}
-use Rattle.d64spec.specs.Reply.{Change, changed, filesNamed, validKind, validNameArgument, writable}
+use Rattle.d64spec.specs.Reply.{Change, changed, filesNamed, storableKind, validNameArgument, writable}
 use Rattle.d64spec.specs.Format.{callFormat, formattedDisk}
 use Rattle.d64spec.specs.Read.{callRead, readChange}
 use Rattle.d64spec.specs.Store.{SlotPlace, callStore, sectorsNeeded, slotPlaceFor, storeChange}
@@ -58,7 +58,7 @@ read-done g img name out ch e =
 pub record StoreDone (g : Geometry) (img name : Bytes) (kind : ℕ) (bs : Bytes) (ch : Change) : Type 0 where
   pub size : rightSize g img ≡ true
   pub asked : validNameArgument name ≡ true
-  pub kind-asked : validKind kind ≡ true
+  pub kind-asked : storableKind kind ≡ true
   pub contents : DirectoryContents
   pub checked : checkDisk g (disk img) ≡ done contents
   pub may-write : writable g (disk img) ≡ true
@@ -73,7 +73,7 @@ unfolding callStore
 store-done g img name kind bs ch e =
     let h1 = need-done (rightSize g img) wrongSize _ ch e in
     let h2 = need-done (validNameArgument name) badNameArgument _ ch (h1 .1) in
-    let h3 = need-done (validKind kind) badKindArgument _ ch (h2 .1) in
+    let h3 = need-done (storableKind kind) badKindArgument _ ch (h2 .1) in
     let h4 = then-done (checkDisk g (disk img)) _ ch (h3 .1) in
     let h5 = need-done (writable g (disk img)) writeForbidden _ ch (h4 .2) in
     let h6 = need-done (eqb (length (filesNamed name (files g (disk img)))) 0) nameExists _ ch (h5 .1) in

@@ -12,7 +12,7 @@ use Rattle.d64spec.specs.Directory.{directorySectors, fileOf, files, fir
 use Rattle.d64spec.specs.Owner.{claimCount, claimList, claimsOf, freeForDirectory, freeForFiles}
 use Rattle.d64spec.specs.Map.{bitmapByte, entryCorrect, expectedBit, expectedEntry, mapBit, mapOnes, rewriteMap, wrongBits}
 use Rattle.d64spec.specs.Check.{checkDirectory, checkDisk, checkEntry, checkImage, checkSlot, rightSize}
-use Rattle.d64spec.specs.Reply.{filesNamed, reply, validKind, validNameArgument, writable}
+use Rattle.d64spec.specs.Reply.{filesNamed, reply, storableKind, validNameArgument, writable}
 use Rattle.d64spec.specs.Format.{callFormat, formatHeader, formattedDisk, formattedMap, freeAfterFormat}
 use Rattle.d64spec.specs.Read.{callRead, callTell, noInformation, tellReply}
 use Rattle.d64spec.specs.Store.{callStore, emptySlots, growDirectory, lastOf, newEntry, overwriteSlot, placement, sectorsNeeded, slotPlaceFor, storedDisk, writeSlot}
@@ -79,7 +79,7 @@ pub record EdgesHold : Type 0 where
 
 -- WHAT NO EXAMPLE REACHES, on a small disk
 pub edges-hold : EdgesHold
-unfolding lockedUsr onTrack18 writtenPart filledHole holeFilled dirtyHole sent600 longerNumbers manyFree firstAndLast shownFaults callListing listingText headFrame slotFrame line digit freeTotal diskOfTrack18 listingReply sleeveOutput bytesOfTrack18 listingOutput refusalLine afterCall freshImage imageWithA imageWithAB sent smallLayout fieldsOf hostCall perform reply attempt outputBuffer answerBlock callCheck callFormat callRead callStore callScratch callTell tellReply noInformation checkImage rightSize validNameArgument validKind writable filesNamed image disk put first sectorNumber onDisk firstOn sectorsOn total tracks mapOnes mapBit sectorsNeeded allocationOrder allocationTracks ascending descending sectorsOfTrack lastOf formattedDisk formattedMap formatHeader freeAfterFormat padded expectedEntry expectedBit bitmapByte rewriteMap claimCount claimList claimsOf directorySectors files occupied fileOf slotIn slotsIn firstLink linkTo fileLink directoryLink decodeFileLink decodeDirectoryLink freeForFiles freeForDirectory emptySlots slotPlaceFor placement storedDisk writeSlot overwriteSlot growDirectory newEntry scratchedDisk checkDisk checkDirectory checkSlot checkEntry entryCorrect wrongBits validType validName nameOf
+unfolding lockedUsr onTrack18 writtenPart filledHole holeFilled dirtyHole sent600 longerNumbers manyFree firstAndLast shownFaults callListing listingText headFrame slotFrame line digit freeTotal diskOfTrack18 listingReply sleeveOutput bytesOfTrack18 listingOutput refusalLine afterCall freshImage imageWithA imageWithAB sent smallLayout fieldsOf hostCall perform reply attempt outputBuffer answerBlock callCheck callFormat callRead callStore callScratch callTell tellReply noInformation checkImage rightSize validNameArgument storableKind writable filesNamed image disk put first sectorNumber onDisk firstOn sectorsOn total tracks mapOnes mapBit sectorsNeeded allocationOrder allocationTracks ascending descending sectorsOfTrack lastOf formattedDisk formattedMap formatHeader freeAfterFormat padded expectedEntry expectedBit bitmapByte rewriteMap claimCount claimList claimsOf directorySectors files occupied fileOf slotIn slotsIn firstLink linkTo fileLink directoryLink decodeFileLink decodeDirectoryLink freeForFiles freeForDirectory emptySlots slotPlaceFor placement storedDisk writeSlot overwriteSlot growDirectory newEntry scratchedDisk checkDisk checkDirectory checkSlot checkEntry entryCorrect wrongBits validType validName nameOf
 edges-hold = record {
   locked = refl;
   on18 = refl;

@@ -12,15 +12,15 @@ use Rattle.d64spec.specs.Lists.{Bytes, count, equal, filter, indicator, 
 use Rattle.d64spec.specs.Answers.{Address}
 use Rattle.d64spec.specs.Directory.{countOf, entryByte, isEmpty, kindOf, nameField, nameOf, padded, validName, validType}
 use Rattle.d64spec.specs.Rules.{NewEntryBytes}
-use Rattle.d64spec.specs.Reply.{validKind, validNameArgument}
+use Rattle.d64spec.specs.Reply.{storableKind, validNameArgument}
 use Rattle.d64spec.specs.Store.{newEntry}
 use Rattle.d64spec.proofs.ListLaws.{equal-refl}
 use Rattle.d64spec.proofs.MapLaws.{and-true, both-true}
 use Rattle.d64spec.proofs.SplitLaws.{filter-append}
 use Rattle.d64spec.proofs.FormatLaws.{padded-length, name-short}
 
-pub kind-small : (k : ℕ) → validKind k ≡ true → (1 ≤ k) × (k ≤ 3)
-unfolding validKind
+pub kind-small : (k : ℕ) → storableKind k ≡ true → (1 ≤ k) × (k ≤ 3)
+unfolding storableKind
 kind-small k e = go (eqb k 1) (eqb k 2) (eqb k 3) refl refl refl e
   where
     go : (a b c : Bool) → eqb k 1 ≡ a → eqb k 2 ≡ b → eqb k 3 ≡ c → (a || (b || c)) ≡ true → (1 ≤ k) × (k ≤ 3)
@@ -53,7 +53,7 @@ name-of-padded n k h =
     filter-append (λ c. not (eqb c 0xA0)) n (replicate k 0xA0)
     ∙ ap₂ (λ (x y : Bytes). x ++ y) (name-kept n h) (padding-dropped k) ∙ append-nil n
 
-module _ (name : Bytes) (kind : ℕ) (r : Address) (k : ℕ) (asked : validNameArgument name ≡ true) (kind-asked : validKind kind ≡ true) where
+module _ (name : Bytes) (kind : ℕ) (r : Address) (k : ℕ) (asked : validNameArgument name ≡ true) (kind-asked : storableKind kind ≡ true) where
   -- the entry
   abbrev entry : Bytes
   entry = newEntry name kind r k

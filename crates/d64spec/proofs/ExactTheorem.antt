@@ -17,7 +17,7 @@ use Rattle.d64spec.specs.Geometry.{Geometry, Valid, total}
 use Rattle.d64spec.specs.Image.{disk}
 use Rattle.d64spec.specs.Chain.{chainData}
 use Rattle.d64spec.specs.Directory.{File, Slot, files, nameOf, occupied}
-use Rattle.d64spec.specs.Rules.{IsKind}
+use Rattle.d64spec.specs.Rules.{IsStorableKind}
 use Rattle.d64spec.specs.Owner.{freeForDirectory, freeForFiles}
 use Rattle.d64spec.specs.Check.{rightSize}
 use Rattle.d64spec.specs.Accepted.{Accepted}
@@ -170,7 +170,7 @@ module _ (g : Geometry) (v : Valid g) (img : Bytes) where
 module _ (g : Geometry) (v : Valid g) (img name : Bytes) (kind : ℕ) (bytes : Bytes) where
   -- what a store asks up to the check
   abbrev upToCheck : List Condition
-  upToCheck = asksSize g img ∷ asksName name ∷ asks (IsKind kind) badKindArgument ∷ diskConditions g (disk img)
+  upToCheck = asksSize g img ∷ asksName name ∷ asks (IsStorableKind kind) badKindArgument ∷ diskConditions g (disk img)
 
   -- what it asks then, before the room
   abbrev beforeRoom : List Condition

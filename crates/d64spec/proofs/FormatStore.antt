@@ -10,7 +10,7 @@ use Rattle.d64spec.specs.Answers.{done}
 use Rattle.d64spec.specs.Geometry.{Geometry, layout35}
 use Rattle.d64spec.specs.Image.{disk}
 use Rattle.d64spec.specs.Directory.{File, files, plainEntryOf, plainList}
-use Rattle.d64spec.specs.Rules.{IsKind, IsName}
+use Rattle.d64spec.specs.Rules.{IsStorableKind, IsName}
 use Rattle.d64spec.specs.Owner.{freeForFiles}
 use Rattle.d64spec.specs.Reply.{writable}
 use Rattle.d64spec.specs.Format.{callFormat}
@@ -43,7 +43,7 @@ no-file g img name e h = ∥∥₁-elim (h .there) (λ a b. absurd a) (λ m. non
     none (f ∷ l) m z = let y : _≡_ {A = ℕ} 0 1 = cc in omega arith
 
 module _ (img name : Bytes) (id1 id2 : ℕ) (formatted : perform layout35 img (format name id1 id2) .answer .number ≡ 0)
-    (file : Bytes) (kind : ℕ) (bytes : Bytes) (is-name : IsName file) (is-kind : IsKind kind) where
+    (file : Bytes) (kind : ℕ) (bytes : Bytes) (is-name : IsName file) (is-kind : IsStorableKind kind) where
   -- the formatted image
   abbrev after : Bytes
   after = perform layout35 img (format name id1 id2) .change .imageAfter

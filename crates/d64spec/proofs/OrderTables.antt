@@ -11,7 +11,7 @@ use Rattle.d64spec.specs.Directory.{directorySectors, fileOf, files, fir
 use Rattle.d64spec.specs.Owner.{claimCount, claimList, claimsOf, freeForDirectory, freeForFiles}
 use Rattle.d64spec.specs.Map.{bitmapByte, entryCorrect, expectedBit, expectedEntry, mapBit, mapOnes, rewriteMap, wrongBits}
 use Rattle.d64spec.specs.Check.{checkDirectory, checkDisk, checkEntry, checkImage, checkSlot, rightSize}
-use Rattle.d64spec.specs.Reply.{filesNamed, reply, validKind, validNameArgument, writable}
+use Rattle.d64spec.specs.Reply.{filesNamed, reply, storableKind, validNameArgument, writable}
 use Rattle.d64spec.specs.Format.{callFormat, formatHeader, formattedDisk, formattedMap, freeAfterFormat}
 use Rattle.d64spec.specs.Read.{callRead, callTell, noInformation, tellReply}
 use Rattle.d64spec.specs.Store.{callStore, emptySlots, growDirectory, lastOf, newEntry, overwriteSlot, placement, sectorsNeeded, slotPlaceFor, storedDisk, writeSlot}
@@ -35,7 +35,7 @@ pub record PairsHold : Type 0 where
 
 -- OF TWO FAULTS, DOCUMENT 01'S FIRST: every neighbouring pair of every call
 pub pairs-hold : PairsHold
-unfolding aloneRows checkPairs formatPairs readPairs storePairs scratchPairs tellPairs listingPairs faultHolds spoil sound listingReply callListing listingText headFrame slotFrame line digit freeTotal diskOfTrack18 entryOn19 smallLayout fieldsOf hostCall perform reply attempt outputBuffer answerBlock callCheck callFormat callRead callStore callScratch callTell tellReply noInformation checkImage rightSize validNameArgument validKind writable filesNamed image disk put first sectorNumber onDisk firstOn sectorsOn total tracks mapOnes mapBit sectorsNeeded allocationOrder allocationTracks ascending descending sectorsOfTrack lastOf formattedDisk formattedMap formatHeader freeAfterFormat padded expectedEntry expectedBit bitmapByte rewriteMap claimCount claimList claimsOf directorySectors files occupied fileOf slotIn slotsIn firstLink linkTo fileLink directoryLink decodeFileLink decodeDirectoryLink freeForFiles freeForDirectory emptySlots slotPlaceFor placement storedDisk writeSlot overwriteSlot growDirectory newEntry scratchedDisk checkDisk checkDirectory checkSlot checkEntry entryCorrect wrongBits validType validName nameOf
+unfolding aloneRows checkPairs formatPairs readPairs storePairs scratchPairs tellPairs listingPairs faultHolds spoil sound listingReply callListing listingText headFrame slotFrame line digit freeTotal diskOfTrack18 entryOn19 smallLayout fieldsOf hostCall perform reply attempt outputBuffer answerBlock callCheck callFormat callRead callStore callScratch callTell tellReply noInformation checkImage rightSize validNameArgument storableKind writable filesNamed image disk put first sectorNumber onDisk firstOn sectorsOn total tracks mapOnes mapBit sectorsNeeded allocationOrder allocationTracks ascending descending sectorsOfTrack lastOf formattedDisk formattedMap formatHeader freeAfterFormat padded expectedEntry expectedBit bitmapByte rewriteMap claimCount claimList claimsOf directorySectors files occupied fileOf slotIn slotsIn firstLink linkTo fileLink directoryLink decodeFileLink decodeDirectoryLink freeForFiles freeForDirectory emptySlots slotPlaceFor placement storedDisk writeSlot overwriteSlot growDirectory newEntry scratchedDisk checkDisk checkDirectory checkSlot checkEntry entryCorrect wrongBits validType validName nameOf
 pairs-hold = record {
   alone = refl;
   checks = refl;

@@ -14,11 +14,11 @@ use Rattle.d64spec.specs.Geometry.{Geometry, Valid, sectorsOn, total}
 use Rattle.d64spec.specs.Image.{Disk, disk}
 use Rattle.d64spec.specs.Chain.{chainData}
 use Rattle.d64spec.specs.Directory.{File, Slot, files, occupied}
-use Rattle.d64spec.specs.Rules.{IsKind, IsName, MayWrite}
+use Rattle.d64spec.specs.Rules.{IsStorableKind, IsName, MayWrite}
 use Rattle.d64spec.specs.Owner.{freeForDirectory, freeForFiles}
 use Rattle.d64spec.specs.Check.{checkDisk, checkImage, rightSize}
 use Rattle.d64spec.specs.Accepted.{AcceptedDisk}
-use Rattle.d64spec.specs.Reply.{Change, filesNamed, reply, unchanged, validKind, validNameArgument, writable}
+use Rattle.d64spec.specs.Reply.{Change, filesNamed, reply, unchanged, storableKind, validNameArgument, writable}
 use Rattle.d64spec.specs.Format.{callFormat}
 use Rattle.d64spec.specs.Read.{FileInformation, callRead, callTell, noInformation, tellReply}
 use Rattle.d64spec.specs.Store.{SlotPlace, callStore, emptySlots, inEmptySlot, inNewSector, sectorsNeeded, slotPlaceFor}
@@ -144,7 +144,7 @@ module _ (g : Geometry) (v : Valid g) (img : Bytes) where
   decided-store : (name : Bytes) (kind : ℕ) (bs : Bytes) → Decided (callStore g img name kind bs) (conditions g img (store name kind bs))
   unfolding callStore conditions
   decided-store name kind bs =
-      decided-then decided-size (λ h. decided-then (decided-name name) (λ h. decided-then (decided-need (validKind kind) badKindArgument (IsKind kind) (kind-exact kind)) (λ h. decided-checked (λ a.
+      decided-then decided-size (λ h. decided-then (decided-name name) (λ h. decided-then (decided-need (storableKind kind) badKindArgument (IsStorableKind kind) (kind-exact kind)) (λ h. decided-checked (λ a.
       decided-then decided-version (λ h.
       decided-then (decided-need _ nameExists _ (eqb-exact (length (filesNamed name (files g (disk img)))) 0)) (λ h.
       decided-bind (decided-place g (disk img)) (λ place e h.

@@ -14,8 +14,8 @@ use Rattle.d64spec.specs.Lists.{ascending, Bytes, byte, count, equal, fi
 use Rattle.d64spec.specs.Geometry.{Geometry, firstOn, layout35, mapAddress, sectorNumber}
 use Rattle.d64spec.specs.Image.{Disk}
 use Rattle.d64spec.specs.Directory.{isEmpty, kindOf, nameField, nameOf, padded, validName, validType}
-use Rattle.d64spec.specs.Rules.{HoldsName, IsKind, IsName, MayWrite, typeBytes}
-use Rattle.d64spec.specs.Reply.{validKind, validNameArgument, writable}
+use Rattle.d64spec.specs.Rules.{HoldsName, IsStorableKind, IsName, MayWrite, typeBytes}
+use Rattle.d64spec.specs.Reply.{storableKind, validNameArgument, writable}
 
 -- bytes 02 to 1F of a slot whose bytes 05 to 14 are the field
 abbrev entryNamed : Bytes → Bytes
@@ -64,8 +64,8 @@ unfolding validName nameOf padded
 field-gaps-are = refl
 
 -- OF THE KINDS 0 TO 299 only 1, 2 and 3 are taken
-pub taken-kinds-are : filter validKind (range 0 300) ≡ 1 ∷ 2 ∷ 3 ∷ []
-unfolding validKind
+pub taken-kinds-are : filter storableKind (range 0 300) ≡ 1 ∷ 2 ∷ 3 ∷ []
+unfolding storableKind
 taken-kinds-are = refl
 
 -- OF ALL 256 DOS VERSIONS only $00 and $41 allow writing
@@ -96,8 +96,8 @@ true-or false b (inl h) = absurd (let z : _≡_ {A = ℕ} 0 1 = cc in omega arit
 true-or false b (inr h) = h
 
 -- A KIND IS TAKEN exactly when it is 1, 2 or 3
-pub kind-exact : (k : ℕ) → (validKind k ≡ true) ↔ IsKind k
-unfolding validKind
+pub kind-exact : (k : ℕ) → (storableKind k ≡ true) ↔ IsStorableKind k
+unfolding storableKind
 kind-exact k = (
   (λ e. ⊎-elim (λ h. inl (eqb-true k 1 h)) (λ h. inr (⊎-elim (λ x. inl (eqb-true k 2 x)) (λ x. inr (eqb-true k 3 x)) (or-true (eqb k 2) (eqb k 3) h))) (or-true (eqb k 1) (eqb k 2 || eqb k 3) e)),
   (λ h. true-or (eqb k 1) (eqb k 2 || eqb k 3)

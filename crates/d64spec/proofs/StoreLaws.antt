@@ -16,7 +16,7 @@ use Rattle.d64spec.specs.Directory.{File, PlainEntry, Slot, countOf, dir
 use Rattle.d64spec.specs.Owner.{Among, claimCount, fileClaims}
 use Rattle.d64spec.specs.Map.{rewriteMap}
 use Rattle.d64spec.specs.Accepted.{ValidEntry}
-use Rattle.d64spec.specs.Reply.{validKind, validNameArgument}
+use Rattle.d64spec.specs.Reply.{storableKind, validNameArgument}
 use Rattle.d64spec.specs.Store.{SlotPlace, newEntry, writeChain}
 use Rattle.d64spec.specs.Changes.{DataWritten, EntryWrites, EntryWritten, addedSectors}
 use Rattle.d64spec.proofs.ListLaws.{count-append, zero-of-none, eq-of-equal}
@@ -67,7 +67,7 @@ pub record StoreLeaves (g : Geometry) (d d2 : Disk) (place : SlotPlace) (l : Lis
 
 module _ (g : Geometry) (v : Valid g) (d : Disk) (a : Sound g d) (r : Address) (l : List Address) (on : All (λ x. onDisk g x ≡ true) (r ∷ l)) (place : SlotPlace)
     (room : (n : ℕ) → claimCount g d n + count n (map (sectorNumber g) (r ∷ l)) + count n (map (sectorNumber g) (addedSectors place)) ≤ 1)
-    (bs : Bytes) (fits : Fits (r ∷ l) (length bs)) (name : Bytes) (kind : ℕ) (asked : validNameArgument name ≡ true) (kind-asked : validKind kind ≡ true)
+    (bs : Bytes) (fits : Fits (r ∷ l) (length bs)) (name : Bytes) (kind : ℕ) (asked : validNameArgument name ≡ true) (kind-asked : storableKind kind ≡ true)
     (new : nameCount name (map (λ f. nameOf (f .slot .bytes)) (files g d)) ≡ 0)
     (d2 : Disk) (e : Entered g d (writeChain g (r ∷ l) bs d) d2 (newEntry name kind r (length (r ∷ l))) place) where
   -- the directory's new sector, by number

@@ -17,7 +17,7 @@ use Rattle.d64spec.specs.Directory.{Slot, directorySectors, files, isEmp
 use Rattle.d64spec.specs.Owner.{claimCount, freeForDirectory, freeForFiles, isFree}
 use Rattle.d64spec.specs.Map.{rewriteMap}
 use Rattle.d64spec.specs.Accepted.{Accepted}
-use Rattle.d64spec.specs.Reply.{Change, reply, validKind, validNameArgument}
+use Rattle.d64spec.specs.Reply.{Change, reply, storableKind, validNameArgument}
 use Rattle.d64spec.specs.Store.{SlotPlace, callStore, emptySlots, inEmptySlot, inNewSector, newEntry, placement, sectorsNeeded, slotPlaceFor, storedDisk, writeChain, writeSlot}
 use Rattle.d64spec.specs.Call.{store}
 use Rattle.d64spec.specs.Host.{HostReply, hostReply}
@@ -133,7 +133,7 @@ place-case g d place e = go (emptySlots g d) (freeForDirectory g d) refl refl e
 -- ---- the reply
 
 module _ (g : Geometry) (v : Valid g) (img : Bytes) (a : Accepted g img) (name : Bytes) (kind : ℕ) (bs : Bytes)
-    (asked : validNameArgument name ≡ true) (kind-asked : validKind kind ≡ true) (new : nameCount name (map (λ f. nameOf (f .slot .bytes)) (files g (disk img))) ≡ 0)
+    (asked : validNameArgument name ≡ true) (kind-asked : storableKind kind ≡ true) (new : nameCount name (map (λ f. nameOf (f .slot .bytes)) (files g (disk img))) ≡ 0)
     (r : Address) (l : List Address) (taken : Taken g (disk img) (r ∷ l)) (fits : Fits (r ∷ l) (length bs)) where
   -- the image's disk
   abbrev d : Disk
@@ -234,7 +234,7 @@ pub store-enough : {g : Geometry} {img name : Bytes} {kind : ℕ} {bs : Bytes} {
 store-enough {g} {img} {bs = bs} h = placement-length g (disk img) (sectorsNeeded (length bs)) (h .room)
 
 by-placement : (g : Geometry) (v : Valid g) (img : Bytes) (a : Accepted g img) (name : Bytes) (kind : ℕ) (bs : Bytes)
-    → validNameArgument name ≡ true → validKind kind ≡ true → nameCount name (map (λ f. nameOf (f .slot .bytes)) (files g (disk img))) ≡ 0
+    → validNameArgument name ≡ true → storableKind kind ≡ true → nameCount name (map (λ f. nameOf (f .slot .bytes)) (files g (disk img))) ≡ 0
     → (l : List Address) → Taken g (disk img) l → length l ≡ sectorsNeeded (length bs) → (place : SlotPlace) → PlaceCase g (disk img) place
     → (p : HostReply) → p .number ≡ 0 → p .imageAfter ≡ image g (storedDisk g (disk img) place l name kind bs) → StepHolds g img (store name kind bs) p
 unfolding storedDisk

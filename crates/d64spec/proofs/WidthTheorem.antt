@@ -16,7 +16,7 @@ use Rattle.d64spec.specs.Directory.{File, Slot, files, nameOf, occupiedI
 use Rattle.d64spec.specs.Owner.{freeForDirectory, freeForFiles}
 use Rattle.d64spec.specs.Check.{DirectoryContents, checkDirectory, checkDisk, checkImage, rightSize}
 use Rattle.d64spec.specs.Accepted.{AcceptedDisk}
-use Rattle.d64spec.specs.Reply.{Change, Reply, filesNamed, reply, validKind, validNameArgument, writable}
+use Rattle.d64spec.specs.Reply.{Change, Reply, filesNamed, reply, storableKind, validNameArgument, writable}
 use Rattle.d64spec.specs.Format.{callFormat}
 use Rattle.d64spec.specs.Read.{callRead, callTell, tellReply}
 use Rattle.d64spec.specs.Store.{SlotPlace, callStore, emptySlots, inEmptySlot, inNewSector, placement, sectorsNeeded, slotPlaceFor}
@@ -135,7 +135,7 @@ module _ (g : Geometry) (v : Valid g) (few : tracks g < 256) (img : Bytes) where
       let k = file-report name c e f h in record { bytes = k .0; sectors = k .1 })))))
   attempt-fits (store name kind bs) =
       sized-fits _ (named-fits name _
-      (need-outcome FaultFits (ReportFits g) (validKind kind) badKindArgument _ (plain-fits 10 (omega arith)) (λ k. checked-fits _ (λ c e. allowed-fits _
+      (need-outcome FaultFits (ReportFits g) (storableKind kind) badKindArgument _ (plain-fits 10 (omega arith)) (λ k. checked-fits _ (λ c e. allowed-fits _
       (need-outcome FaultFits (ReportFits g) (eqb (length (filesNamed name (files g (disk img)))) 0) nameExists _ (plain-fits 12 (omega arith)) (λ n.
       bind-outcome FaultFits (ReportFits g) (slotPlaceFor g (disk img)) _ slotPlace-fits (λ p q.
       need-outcome FaultFits (ReportFits g) (leb (sectorsNeeded (length bs)) (length (freeForFiles g (disk img)))) diskFull _ (plain-fits 15 (omega arith)) (λ r.

@@ -17,7 +17,7 @@ use Rattle.d64spec.specs.Accepted.{Accepted}
 use Rattle.d64spec.specs.Store.{sectorsNeeded}
 use Rattle.d64spec.specs.Listing.{diskOfTrack18, listingText}
 use Rattle.d64spec.specs.Order.{ClaimsOnce}
-use Rattle.d64spec.specs.Rules.{IsName, IsKind, MayWrite}
+use Rattle.d64spec.specs.Rules.{IsName, IsStorableKind, MayWrite}
 
 -- a format is done: only 1 and 9 refuse it (01, Format)
 pub record Formattable (g : Geometry) (img name : Bytes) : Type 0 where
@@ -46,7 +46,7 @@ pub record Tellable (g : Geometry) (img : Bytes) (position : ℕ) : Type 0 where
 pub record Admitted (g : Geometry) (img name : Bytes) (kind : ℕ) : Type 0 where
   pub accepted : Accepted g img
   pub nameValid : IsName name
-  pub kindValid : IsKind kind
+  pub kindValid : IsStorableKind kind
   pub mayWrite : MayWrite g (disk img)
   pub absent : HasFile g img name → ⊥
 

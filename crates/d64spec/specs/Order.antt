@@ -15,7 +15,7 @@ use Rattle.d64spec.specs.Chain.{Link, to, bad, fileLink, directoryLink, 
 use Rattle.d64spec.specs.Directory.{Slot, File, entryByte, validType, validName, nameOf, countOf, firstLink, fileOf, directorySectors, occupied, files}
 use Rattle.d64spec.specs.Owner.{freeForFiles, freeForDirectory}
 use Rattle.d64spec.specs.Accepted.{MarksFree}
-use Rattle.d64spec.specs.Rules.{IsName, IsKind, MayWrite}
+use Rattle.d64spec.specs.Rules.{IsName, IsStorableKind, MayWrite}
 use Rattle.d64spec.specs.Reply.{filesNamed}
 use Rattle.d64spec.specs.Store.{sectorsNeeded, emptySlots, lastOf}
 use Rattle.d64spec.specs.Call.{Call, check, format, read, store, scratch}
@@ -143,7 +143,7 @@ conditions g img (read name out) =
     asksSize g img ∷ asksName name
     ∷ (diskConditions g (disk img) ++ (asksFile g (disk img) name ∷ asksOutput g (disk img) name out ∷ []))
 conditions g img (store name kind bytes) =
-    asksSize g img ∷ asksName name ∷ asks (IsKind kind) badKindArgument
+    asksSize g img ∷ asksName name ∷ asks (IsStorableKind kind) badKindArgument
     ∷ (diskConditions g (disk img)
     ++ (asksVersion g (disk img)
     ∷ asks (length (filesNamed name (files g (disk img))) ≡ 0) nameExists

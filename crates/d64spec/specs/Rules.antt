@@ -23,8 +23,8 @@ pub record HoldsName (field n : Bytes) : Type 0 where
   pub padding : field ≡ n ++ replicate (16 - length n) 0xA0
 
 -- a kind: 1 SEQ, 2 PRG or 3 USR (01, Answer numbers, 10)
-abbrev pub IsKind : ℕ → Type 0
-IsKind k = (k ≡ 1) ⊎ ((k ≡ 2) ⊎ (k ≡ 3))
+abbrev pub IsStorableKind : ℕ → Type 0
+IsStorableKind k = (k ≡ 1) ⊎ ((k ≡ 2) ⊎ (k ≡ 3))
 
 -- the type bytes that are carried: closed, locked or not (01, The directory)
 abbrev pub typeBytes : List ℕ

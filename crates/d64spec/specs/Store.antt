@@ -14,7 +14,7 @@ use Rattle.d64spec.specs.Directory.{Slot, isEmpty, padded, slotsFrom, di
 use Rattle.d64spec.specs.Owner.{freeForFiles, freeForDirectory}
 use Rattle.d64spec.specs.Map.{rewriteMap}
 use Rattle.d64spec.specs.Check.{rightSize, checkDisk}
-use Rattle.d64spec.specs.Reply.{Change, changed, validNameArgument, validKind, writable, filesNamed}
+use Rattle.d64spec.specs.Reply.{Change, changed, validNameArgument, storableKind, writable, filesNamed}
 use Rattle.d64spec.specs.Format.{emptyDirectorySector}
 
 -- ---- the data
@@ -94,7 +94,7 @@ unfoldable pub callStore : Geometry → Bytes → Bytes → ℕ → Bytes → Re
 callStore g img name kind bs = do
   need (rightSize g img) wrongSize
   need (validNameArgument name) badNameArgument
-  need (validKind kind) badKindArgument
+  need (storableKind kind) badKindArgument
   checkDisk g (disk img)
   need (writable g (disk img)) writeForbidden
   need (eqb (length (filesNamed name (files g (disk img)))) 0) nameExists

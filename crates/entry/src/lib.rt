@@ -7,7 +7,7 @@ ghost use Prim.Native.Nat.{_*_};
 ghost use lib.ListN.{drop};
 ghost use Rattle.d64spec.specs.Lists.{part};
 ghost use Rattle.d64spec.specs.Directory.{entryByte, isEmpty, validType};
-ghost use Rattle.d64spec.specs.Reply.{validKind};
+ghost use Rattle.d64spec.specs.Reply.{storableKind};
 ghost use Rattle.entry.specs.Entry.{Counted};
 
 // Bytes 02 to 1F of slot j of a directory sector: nothing where the sector ends before.
@@ -62,8 +62,8 @@ pub fn sector_count(slot: &[u8]) -> u16
 }
 
 // Whether a store takes this kind: 1 SEQ, 2 PRG or 3 USR.
-pub fn valid_kind(kind: u32) -> bool
-    ensures { λ r. ⌜ r ≡ validKind kind ⌝ }
+pub fn storable_kind(kind: u32) -> bool
+    ensures { λ r. ⌜ r ≡ storableKind kind ⌝ }
 {
     if kind == 1 {
         return true;

@@ -17,7 +17,7 @@ use Rattle.d64spec.specs.Directory.{files}
 use Rattle.d64spec.specs.Owner.{freeForFiles}
 use Rattle.d64spec.specs.Accepted.{Accepted}
 use Rattle.d64spec.specs.Check.{checkImage}
-use Rattle.d64spec.specs.Reply.{validNameArgument, validKind, writable, filesNamed}
+use Rattle.d64spec.specs.Reply.{validNameArgument, storableKind, writable, filesNamed}
 use Rattle.d64spec.specs.Store.{sectorsNeeded, slotPlaceFor}
 use Rattle.d64spec.specs.Call.{store, perform}
 use Rattle.d64spec.proofs.CheckLaws.{contents, disk-complete}
@@ -47,7 +47,7 @@ use Rattle.storing.proofs.RoomLaws.{last-sector, sectors-few, sectors-e
 
 -- A CHECKED IMAGE without a fault
 pub checked-store : {img : Bytes} {r : Checked} (name : Bytes) (kind : ℕ) → ImageChecked img r → r .verdict ≡ Fine → ((i : ℕ) → byte img i < 256)
-    → validNameArgument name ≡ true → validKind kind ≡ true → StoreChecked img name kind (r .sectors) (r .count)
+    → validNameArgument name ≡ true → storableKind kind ≡ true → StoreChecked img name kind (r .sectors) (r .count)
 checked-store name kind checked e bytes asked kindAsked =
     let fine = fine-image checked e in
     record {

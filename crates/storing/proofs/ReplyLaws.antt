@@ -14,7 +14,7 @@ use Rattle.d64spec.specs.Image.{disk}
 use Rattle.d64spec.specs.Directory.{files}
 use Rattle.d64spec.specs.Owner.{freeForFiles}
 use Rattle.d64spec.specs.Check.{DirectoryContents, checkImage}
-use Rattle.d64spec.specs.Reply.{reply, validNameArgument, validKind, writable, filesNamed}
+use Rattle.d64spec.specs.Reply.{reply, validNameArgument, storableKind, writable, filesNamed}
 use Rattle.d64spec.specs.Store.{SlotPlace, slotPlaceFor, sectorsNeeded, storeChange, callStore}
 use Rattle.d64spec.specs.Call.{store, perform, attempt, outputBuffer}
 use Rattle.answers.specs.declared.Fault as code
@@ -36,11 +36,11 @@ module _ (img name : Bytes) (kind : ℕ) (bs : Bytes) where
     store-name asked = rw (size-true img size, asked)
 
     module _ (asked : validNameArgument name ≡ true) where
-      pub store-kind : validKind kind ≡ false → callStore layout35 img name kind bs ≡ refused badKindArgument
+      pub store-kind : storableKind kind ≡ false → callStore layout35 img name kind bs ≡ refused badKindArgument
       unfolding callStore
       store-kind kindAsked = rw (size-true img size, asked, kindAsked)
 
-      module _ (kindAsked : validKind kind ≡ true) where
+      module _ (kindAsked : storableKind kind ≡ true) where
         pub store-fault : {f : Fault} → checkImage layout35 img ≡ refused f → callStore layout35 img name kind bs ≡ refused f
         unfolding callStore
         store-fault e = rw (size-true img size, asked, kindAsked, check-sized img (size-true img size) e)

@@ -11,7 +11,7 @@ use Rattle.d64spec.specs.Answers.{refused, directoryFull}
 use Rattle.d64spec.specs.Geometry.{layout35, sectorNumber, mapAddress}
 use Rattle.d64spec.specs.Image.{disk}
 use Rattle.d64spec.specs.Directory.{directorySectors, files}
-use Rattle.d64spec.specs.Reply.{validNameArgument, validKind, writable, filesNamed}
+use Rattle.d64spec.specs.Reply.{validNameArgument, storableKind, writable, filesNamed}
 use Rattle.d64spec.specs.Store.{sectorsNeeded, slotPlaceFor}
 use Rattle.directory.specs.Directories.{sectorsOf}
 use Rattle.finding.specs.FileSlots.{slotEmpty, CheckedSlots}
@@ -66,7 +66,7 @@ pub record RoomAsked (img ss : List ℕ) (count : ℕ) (es : Entries) : Type 0 w
 pub record StoreChecked (img name : Bytes) (kind : ℕ) (ss : List ℕ) (count : ℕ) : Type 0 where
   pub directory : DirectoryChecked img ss count
   pub asked : validNameArgument name ≡ true
-  pub kindAsked : validKind kind ≡ true
+  pub kindAsked : storableKind kind ≡ true
 
 -- the same where the DOS version allows writing and the name is new
 pub record StoreNew (img name : Bytes) (kind : ℕ) (ss : List ℕ) (count : ℕ) : Type 0 where

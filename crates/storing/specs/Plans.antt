@@ -12,7 +12,7 @@ use Rattle.d64spec.specs.Image.{disk}
 use Rattle.d64spec.specs.Directory.{directorySectors, files}
 use Rattle.d64spec.specs.Owner.{freeForFiles}
 use Rattle.d64spec.specs.Accepted.{Accepted}
-use Rattle.d64spec.specs.Reply.{validNameArgument, validKind, filesNamed}
+use Rattle.d64spec.specs.Reply.{validNameArgument, storableKind, filesNamed}
 use Rattle.d64spec.specs.Store.{SlotPlace, inEmptySlot, inNewSector, slotPlaceFor, sectorsNeeded, placement, lastOf, storeChange}
 use Rattle.geometry.specs.Layout.{unpacked}
 use Rattle.mapentry.specs.MapEntry.{Entries}
@@ -35,7 +35,7 @@ pub record StoreReady (img name : Bytes) (kind last : ℕ) (es : Entries) : Type
   pub accepted : Accepted layout35 img
   pub bytes : (i : ℕ) → byte img i < 256
   pub asked : validNameArgument name ≡ true
-  pub kindAsked : validKind kind ≡ true
+  pub kindAsked : storableKind kind ≡ true
   pub absent : length (filesNamed name (files layout35 (disk img))) ≡ 0
   pub lastSector : address 18 last ≡ lastOf directoryStart (directorySectors layout35 (disk img))
   pub entries : es ≡ mapEntries (disk img (sectorNumber layout35 mapAddress))

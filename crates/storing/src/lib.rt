@@ -112,7 +112,7 @@ pub fn store_file(img: &mut [u8], name: &[u8], kind: u32, content: &[u8]) -> Rep
     if !names::valid_name_argument(name) {
         return answers::refuse(Fault::BadNameArgument);
     }
-    if !entry::valid_kind(kind) {
+    if !entry::storable_kind(kind) {
         return answers::refuse(Fault::BadKindArgument);
     }
     let checked = diskcheck::check_image(img);

@@ -3,7 +3,7 @@ use native.Mathlib.Omega.{arith}
 use mathlib.Core.Path.{_≡_, sym, _∙_}
 use mathlib.Core.Bool.{true}
 use borrow.Author.Tests.{not-true, not-false}
-use Rattle.d64spec.specs.Reply.{validNameArgument, validKind}
+use Rattle.d64spec.specs.Reply.{validNameArgument, storableKind}
 use Rattle.d64spec.proofs.EntryLaws.{kind-small}
 use Rattle.answers.specs.declared.Fault.the-variants.{WrongSize, BadNameArgument, BadKindArgument}
 use Rattle.answers.specs.Faults.{faultOf}
@@ -40,8 +40,8 @@ returns-2 c =
 asked : (c : tie.Else2) → validNameArgument (c .before .before .before .before .before .before .args .name .now) ≡ true
 asked c = sym (c .before .valid-name-argument .ensures) ∙ not-false _ (c .if2 .left)
 
-valid-kind-requires : tie.Need-valid-kind-requires
-valid-kind-requires c κs = search needs
+storable-kind-requires : tie.Need-storable-kind-requires
+storable-kind-requires c κs = search needs
 
 refuse-requires-3 : tie.Need-refuse-requires-3
 refuse-requires-3 c κs = search needs
@@ -50,12 +50,12 @@ returns-3 : tie.Need-returns-3
 unfolding faultOf
 returns-3 c =
     let a = c .before .before .before .before .before .before .before .before .before .args in
-    let bad = sym (c .before .before .valid-kind .ensures) ∙ not-true _ (c .before .if3 .taken) in
+    let bad = sym (c .before .before .storable-kind .ensures) ∙ not-true _ (c .before .if3 .taken) in
     store-refused (a .img .now) (a .name .now) (a .kind) (a .content .now) BadKindArgument (c .refuse3 .ensures) (store-kind (a .img .now) (a .name .now) (a .kind) (a .content .now) (omega arith) (asked (c .before .before .before)) bad)
 
 -- the kind asked for
-kind-asked : (c : tie.Else3) → validKind (c .before .before .before .before .before .before .before .before .args .kind) ≡ true
-kind-asked c = sym (c .before .valid-kind .ensures) ∙ not-false _ (c .if3 .left)
+kind-asked : (c : tie.Else3) → storableKind (c .before .before .before .before .before .before .before .before .args .kind) ≡ true
+kind-asked c = sym (c .before .storable-kind .ensures) ∙ not-false _ (c .if3 .left)
 
 check-image-requires : tie.Need-check-image-requires
 check-image-requires c κs = search needs
@@ -109,7 +109,7 @@ store-file-spec =
     valid-name-argument-requires
     refuse-requires-2
     returns-2
-    valid-kind-requires
+    storable-kind-requires
     refuse-requires-3
     returns-3
     check-image-requires
