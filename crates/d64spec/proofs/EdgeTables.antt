@@ -2,13 +2,13 @@
 use Prim.Native.Nat.{ℕ, _*_}
 use mathlib.Core.Path.{_≡_, refl}
 use mathlib.Core.List.{[], _∷_, _++_, map}
-use lib.ListN.{replicate}
-use Rattle.d64spec.specs.Lists.{ascending, descending, join, range}
+use lib.ListN.{drop, replicate, take}
+use Rattle.d64spec.specs.Lists.{ascending, descending, join, range, zeros}
 use Rattle.d64spec.specs.Answers.{answerOf, first}
 use Rattle.d64spec.specs.Geometry.{allocationOrder, allocationTracks, firstOn, layout35, onDisk, sectorNumber, sectorsOfTrack, sectorsOn, total, tracks}
 use Rattle.d64spec.specs.Image.{disk, image, put}
 use Rattle.d64spec.specs.Chain.{decodeDirectoryLink, decodeFileLink, directoryLink, fileLink, linkTo}
-use Rattle.d64spec.specs.Directory.{directorySectors, fileOf, files, firstLink, nameOf, occupied, padded, slotIn, slotsIn, validName, validType}
+use Rattle.d64spec.specs.Directory.{directorySectors, fileOf, files, firstLink, nameOf, occupied, padded, plainEntryOf, plainList, slotIn, slotsIn, validName, validType}
 use Rattle.d64spec.specs.Owner.{claimCount, claimList, claimsOf, freeForDirectory, freeForFiles}
 use Rattle.d64spec.specs.Map.{bitmapByte, entryCorrect, expectedBit, expectedEntry, mapBit, mapOnes, rewriteMap, wrongBits}
 use Rattle.d64spec.specs.Check.{checkDirectory, checkDisk, checkEntry, checkImage, checkSlot, rightSize}
@@ -20,8 +20,10 @@ use Rattle.d64spec.specs.Scratch.{callScratch, scratchedDisk}
 use Rattle.d64spec.specs.Call.{attempt, callCheck, outputBuffer, perform, read}
 use Rattle.d64spec.specs.Listing.{bytesOfTrack18, callListing, digit, diskOfTrack18, freeTotal, headFrame, line, listingOutput, listingReply, listingText, refusalLine, sleeveOutput, slotFrame}
 use Rattle.d64spec.specs.Host.{answerBlock, hostCall}
-use Rattle.d64spec.specs.Trial.{afterCall, answerBytes, fieldsOf, freshImage, imageWithA, imageWithAB, lentBlock, nameA, sent, smallLayout}
-use Rattle.d64spec.specs.Edges.{answersAt, bitmaps, dirtyHole, faultsAt, filledHole, firstAndLast, formatted180, holeFilled, houseNumbers, lockedUsr, longerNumbers, manyFree, name16, onTrack18, sameBitmaps, sent600, shownFaults, writtenPart, wrongTracks}
+use Rattle.d64spec.specs.Run.{run}
+use Rattle.d64spec.specs.Trial.{afterCall, answerBytes, fieldsOf, freshImage, headOfD, imageWithA, imageWithAB, lent, lentBlock, nameA, nameB, sent, smallLayout}
+use Rattle.d64spec.specs.Edges.{answersAt, bitmaps, dirtyHole, faultsAt, filledHole, firstAndLast, formatted180, holeFilled, houseNumbers, longerNumbers, manyFree, name16, onTrack18, sameBitmaps, sent600, shownFaults, writtenPart, wrongTracks}
+use Rattle.d64spec.specs.Retired.{numbers, prgC, retiring, sparing, usrA, usrB, usrDisk, usrLines}
 
 -- DOCUMENT 01'S TABLE OF ANSWERS, for every place
 pub answers-are : (t s n : ℕ) → map (λ f. answerBytes (answerOf f)) (faultsAt t s n) ≡ answersAt t s n
@@ -62,8 +64,18 @@ formatted-180 = refl
 
 -- what they give
 pub record EdgesHold : Type 0 where
-  -- tell gives the type byte as it stands: a locked USR file
-  pub locked : fieldsOf (tellReply (callTell smallLayout lockedUsr 0)) ≡ 0 ∷ 0 ∷ 0 ∷ 255 ∷ 0xC3 ∷ (nameA ++ (replicate 15 0xA0 ++ (19 ∷ 0 ∷ 2 ∷ 300 ∷ [])))
+  -- tell gives the type byte as it stands, of USR files too (02, §12): A's is locked
+  pub usrTold : map (λ p. fieldsOf (tellReply (callTell smallLayout usrDisk p))) (0 ∷ 1 ∷ [])
+      ≡ (0 ∷ 0 ∷ 0 ∷ 255 ∷ 0xC3 ∷ (nameA ++ (replicate 15 0xA0 ++ (19 ∷ 0 ∷ 2 ∷ 300 ∷ []))))
+      ∷ (0 ∷ 0 ∷ 0 ∷ 255 ∷ 0x83 ∷ (nameB ++ (replicate 15 0xA0 ++ (19 ∷ 2 ∷ 1 ∷ 10 ∷ [])))) ∷ []
+  -- USR files are listed and read
+  pub usrListed : sleeveOutput smallLayout usrDisk ≡ headOfD ++ (usrLines ++ (0x30 ∷ 0x30 ∷ 0x30 ∷ 0x37 ∷ 0x0A ∷ []))
+  pub usrRead : hostCall smallLayout usrDisk lentBlock (read nameB (lent 12)) .outputAfter ≡ range 1 10 ++ lent 2
+  -- no store makes one; they stay until they are scratched, and 19/0 and 19/1 are zeros then
+  pub usrNumbers : numbers smallLayout usrDisk (sparing ++ retiring) ≡ 10 ∷ 10 ∷ 12 ∷ 0 ∷ 0 ∷ 0 ∷ 0 ∷ 10 ∷ []
+  pub usrSpared : plainList smallLayout (disk (run smallLayout usrDisk sparing)) ≡ usrA ∷ usrB ∷ prgC ∷ []
+  pub usrScratched : plainList smallLayout (disk (run smallLayout usrDisk (sparing ++ retiring))) ≡ usrB ∷ prgC ∷ []
+  pub usrCleared : take 512 (drop 768 (run smallLayout usrDisk (sparing ++ retiring))) ≡ zeros 512
   -- a file on track 18 is read, and no byte behind its last
   pub on18 : hostCall smallLayout onTrack18 lentBlock (read nameA (replicate 257 7)) .outputAfter ≡ range 2 254 ++ (100 ∷ 7 ∷ 7 ∷ [])
   -- freed sectors are used again by the same rule, whatever they hold; bytes 00-01 of a slot stay, and so does all that is free
@@ -79,9 +91,15 @@ pub record EdgesHold : Type 0 where
 
 -- WHAT NO EXAMPLE REACHES, on a small disk
 pub edges-hold : EdgesHold
-unfolding lockedUsr onTrack18 writtenPart filledHole holeFilled dirtyHole sent600 longerNumbers manyFree firstAndLast shownFaults callListing listingText headFrame slotFrame line digit freeTotal diskOfTrack18 listingReply sleeveOutput bytesOfTrack18 listingOutput refusalLine afterCall freshImage imageWithA imageWithAB sent smallLayout fieldsOf hostCall perform reply attempt outputBuffer answerBlock callCheck callFormat callRead callStore callScratch callTell tellReply noInformation checkImage rightSize validNameArgument storableKind writable filesNamed image disk put first sectorNumber onDisk firstOn sectorsOn total tracks mapOnes mapBit sectorsNeeded allocationOrder allocationTracks ascending descending sectorsOfTrack lastOf formattedDisk formattedMap formatHeader freeAfterFormat padded expectedEntry expectedBit bitmapByte rewriteMap claimCount claimList claimsOf directorySectors files occupied fileOf slotIn slotsIn firstLink linkTo fileLink directoryLink decodeFileLink decodeDirectoryLink freeForFiles freeForDirectory emptySlots slotPlaceFor placement storedDisk writeSlot overwriteSlot growDirectory newEntry scratchedDisk checkDisk checkDirectory checkSlot checkEntry entryCorrect wrongBits validType validName nameOf
+unfolding usrDisk plainList plainEntryOf onTrack18 writtenPart filledHole holeFilled dirtyHole sent600 longerNumbers manyFree firstAndLast shownFaults callListing listingText headFrame slotFrame line digit freeTotal diskOfTrack18 listingReply sleeveOutput bytesOfTrack18 listingOutput refusalLine afterCall freshImage imageWithA imageWithAB sent smallLayout fieldsOf hostCall perform reply attempt outputBuffer answerBlock callCheck callFormat callRead callStore callScratch callTell tellReply noInformation checkImage rightSize validNameArgument storableKind writable filesNamed image disk put first sectorNumber onDisk firstOn sectorsOn total tracks mapOnes mapBit sectorsNeeded allocationOrder allocationTracks ascending descending sectorsOfTrack lastOf formattedDisk formattedMap formatHeader freeAfterFormat padded expectedEntry expectedBit bitmapByte rewriteMap claimCount claimList claimsOf directorySectors files occupied fileOf slotIn slotsIn firstLink linkTo fileLink directoryLink decodeFileLink decodeDirectoryLink freeForFiles freeForDirectory emptySlots slotPlaceFor placement storedDisk writeSlot overwriteSlot growDirectory newEntry scratchedDisk checkDisk checkDirectory checkSlot checkEntry entryCorrect wrongBits validType validName nameOf
 edges-hold = record {
-  locked = refl;
+  usrTold = refl;
+  usrListed = refl;
+  usrRead = refl;
+  usrNumbers = refl;
+  usrSpared = refl;
+  usrScratched = refl;
+  usrCleared = refl;
   on18 = refl;
   hole = refl;
   longer = refl;

@@ -3,6 +3,7 @@ use Prim.Native.Nat.{ℕ, zero, suc, _+_, _*_, _-_, _/_, _%_, _≤_, _<_}
 use native.Mathlib.Omega.{arith}
 use mathlib.Core.Path.{_≡_, refl, sym, ap, ap₂, _∙_}
 use mathlib.Core.Bool.{Bool, true, false, not, _&&_, _||_}
+use mathlib.Core.Logic.{⊎-elim}
 use mathlib.Core.List.{[], _∷_, _++_, append-nil}
 use lib.ListN.{take, length, getD, replicate, length-append}
 use lib.Seq.{take-at, drop-at, getD-append-add}
@@ -18,24 +19,17 @@ use Rattle.d64spec.proofs.ListLaws.{equal-refl}
 use Rattle.d64spec.proofs.MapLaws.{and-true, both-true}
 use Rattle.d64spec.proofs.SplitLaws.{filter-append}
 use Rattle.d64spec.proofs.FormatLaws.{padded-length, name-short}
+use Rattle.d64spec.proofs.RuleLaws.{kind-exact}
 
-pub kind-small : (k : ℕ) → storableKind k ≡ true → (1 ≤ k) × (k ≤ 3)
-unfolding storableKind
-kind-small k e = go (eqb k 1) (eqb k 2) (eqb k 3) refl refl refl e
-  where
-    go : (a b c : Bool) → eqb k 1 ≡ a → eqb k 2 ≡ b → eqb k 3 ≡ c → (a || (b || c)) ≡ true → (1 ≤ k) × (k ≤ 3)
-    go true b c p q r h = let z : k ≡ 1 = eqb-true k 1 p in (omega arith, omega arith)
-    go false true c p q r h = let z : k ≡ 2 = eqb-true k 2 q in (omega arith, omega arith)
-    go false false true p q r h = let z : k ≡ 3 = eqb-true k 3 r in (omega arith, omega arith)
-    go false false false p q r h = absurd (let z : _≡_ {A = ℕ} 0 1 = cc in omega arith)
+pub kind-small : (k : ℕ) → storableKind k ≡ true → (1 ≤ k) × (k ≤ 2)
+kind-small k e = ⊎-elim (λ (h : k ≡ 1). (omega arith, omega arith)) (λ (h : k ≡ 2). (omega arith, omega arith)) (kind-exact k .0 e)
 
-type-right : (k : ℕ) → 1 ≤ k → k ≤ 3 → validType (0x80 + k) ≡ true
+type-right : (k : ℕ) → 1 ≤ k → k ≤ 2 → validType (0x80 + k) ≡ true
 unfolding validType
 type-right zero p q = absurd (omega arith)
 type-right (suc zero) p q = refl
 type-right (suc (suc zero)) p q = refl
-type-right (suc (suc (suc zero))) p q = refl
-type-right (suc (suc (suc (suc k)))) p q = absurd (omega arith)
+type-right (suc (suc (suc k))) p q = absurd (omega arith)
 
 -- a name without $A0, and then only $A0
 name-kept : (n : Bytes) → count 0xA0 n ≡ 0 → filter (λ c. not (eqb c 0xA0)) n ≡ n

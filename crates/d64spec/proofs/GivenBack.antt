@@ -59,12 +59,12 @@ owned-exact g d n = (
 -- ---- a call answered 0
 
 -- the change of a request that was answered 0
-record Answered (g : Geometry) (img : Bytes) (c : Call) (img′ : Bytes) : Type 0 where
-  change : Change
-  attempted : attempt g img c ≡ done change
-  image : img′ ≡ change .imageAfter
+pub record Answered (g : Geometry) (img : Bytes) (c : Call) (img′ : Bytes) : Type 0 where
+  pub change : Change
+  pub attempted : attempt g img c ≡ done change
+  pub image : img′ ≡ change .imageAfter
 
-answered-zero : (g : Geometry) (img : Bytes) (q : Request) → serve g img q .number ≡ 0 → Answered g img (q .call) (after g img q)
+pub answered-zero : (g : Geometry) (img : Bytes) (q : Request) → serve g img q .number ≡ 0 → Answered g img (q .call) (after g img q)
 unfolding perform
 answered-zero g img q h = go (eqb (length (q .block)) 9) refl
   where

@@ -62,6 +62,7 @@ pub mod FormatStore
 pub mod RefusalTheorem
 pub mod LinkTheorem
 pub mod GivenBack
+pub mod RetiredTheorem
 pub mod RoomLaws
 pub mod PlaceTheorem
 pub mod ListingTheorem

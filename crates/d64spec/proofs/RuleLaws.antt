@@ -21,7 +21,7 @@ use Rattle.d64spec.specs.Reply.{storableKind, validNameArgument, writabl
 abbrev entryNamed : Bytes → Bytes
 entryNamed field = 0x81 ∷ 17 ∷ 0 ∷ (field ++ zeros 11)
 
--- THE TYPE BYTES THAT ARE CARRIED, of all 256
+-- THE TYPE BYTES THAT THE CHECK ACCEPTS, of all 256
 pub types-are : filter validType (range 0 256) ≡ typeBytes
 unfolding validType
 types-are = refl
@@ -63,8 +63,8 @@ pub field-gaps-are : filter (λ n. validName (entryNamed (replicate n 0x41 ++ (0
 unfolding validName nameOf padded
 field-gaps-are = refl
 
--- OF THE KINDS 0 TO 299 only 1, 2 and 3 are taken
-pub taken-kinds-are : filter storableKind (range 0 300) ≡ 1 ∷ 2 ∷ 3 ∷ []
+-- THE KINDS THAT A STORE TAKES, of 0 to 299: 3, 258 and 259 are not among them
+pub taken-kinds-are : filter storableKind (range 0 300) ≡ 1 ∷ 2 ∷ []
 unfolding storableKind
 taken-kinds-are = refl
 
@@ -85,33 +85,27 @@ name-argument-exact n = (
   (λ h. both-true (lt-ltb 0 (length n) (h .some)) (both-true (lt-ltb (length n) 17 (let s = h .short in omega arith)) (eq-eqb (count 0xA0 n) 0 (h .noPadding)))),
 )
 
--- either test of two
-or-true : (a b : Bool) → (a || b) ≡ true → (a ≡ true) ⊎ (b ≡ true)
-or-true true b e = inl refl
-or-true false b e = inr e
+-- a number is one of two
+one-of-two : (k a b : ℕ) → ((eqb k a || eqb k b) ≡ true) ↔ ((k ≡ a) ⊎ (k ≡ b))
+one-of-two k a b = (go (eqb k a) refl, ⊎-elim (λ e. rw (eq-eqb k a e)) (λ e. rw (eq-eqb k b e) (or-right (eqb k a))))
+  where
+    go : (x : Bool) → eqb k a ≡ x → (x || eqb k b) ≡ true → (k ≡ a) ⊎ (k ≡ b)
+    go true t h = inl (eqb-true k a t)
+    go false t h = inr (eqb-true k b h)
 
-true-or : (a b : Bool) → (a ≡ true) ⊎ (b ≡ true) → (a || b) ≡ true
-true-or true b h = refl
-true-or false b (inl h) = absurd (let z : _≡_ {A = ℕ} 0 1 = cc in omega arith)
-true-or false b (inr h) = h
+    or-right : (x : Bool) → (x || true) ≡ true
+    or-right true = refl
+    or-right false = refl
 
--- A KIND IS TAKEN exactly when it is 1, 2 or 3
+-- A STORE TAKES A KIND exactly when it is 1 or 2
 pub kind-exact : (k : ℕ) → (storableKind k ≡ true) ↔ IsStorableKind k
 unfolding storableKind
-kind-exact k = (
-  (λ e. ⊎-elim (λ h. inl (eqb-true k 1 h)) (λ h. inr (⊎-elim (λ x. inl (eqb-true k 2 x)) (λ x. inr (eqb-true k 3 x)) (or-true (eqb k 2) (eqb k 3) h))) (or-true (eqb k 1) (eqb k 2 || eqb k 3) e)),
-  (λ h. true-or (eqb k 1) (eqb k 2 || eqb k 3)
-      (⊎-elim (λ x. inl (eq-eqb k 1 x)) (λ y. inr (true-or (eqb k 2) (eqb k 3) (⊎-elim (λ x. inl (eq-eqb k 2 x)) (λ x. inr (eq-eqb k 3 x)) y))) h)),
-)
+kind-exact k = one-of-two k 1 2
 
 -- A VERSION ALLOWS WRITING exactly when it is $41 or $00
 pub version-exact : (g : Geometry) (d : Disk) → (writable g d ≡ true) ↔ MayWrite g d
 unfolding writable
-version-exact g d =
-    let v : ℕ = byte (d (sectorNumber g mapAddress)) 2 in (
-      (λ e. ⊎-elim (λ h. inl (eqb-true v 0x41 h)) (λ h. inr (eqb-true v 0 h)) (or-true (eqb v 0x41) (eqb v 0) e)),
-      (λ h. true-or (eqb v 0x41) (eqb v 0) (⊎-elim (λ x. inl (eq-eqb v 0x41 x)) (λ x. inr (eq-eqb v 0 x)) h)),
-    )
+version-exact g d = one-of-two (byte (d (sectorNumber g mapAddress)) 2) 0x41 0
 
 -- ---- names on disk
 

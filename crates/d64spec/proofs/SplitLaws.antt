@@ -49,6 +49,14 @@ module _ {A : Type 0} (p : A → Bool) where
       go true t ih (List·Memᴰ·tail m′) = (List·Memᴰ·tail (ih m′ .0), ih m′ .1)
       go false t ih m′ = (List·Memᴰ·tail (ih m′ .0), ih m′ .1)
 
+  pub mem-kept : {x : A} {l : List A} → p x ≡ true → List·Memᴰ x l → List·Memᴰ x (filter p l)
+  mem-kept t (List·Memᴰ·head {x = y} {xs = l} e) = let k : p y ≡ true = rw (← e) t in rw k (List·Memᴰ·head e)
+  mem-kept {x} t (List·Memᴰ·tail {x = y} {xs = l} m) = go (p y) (mem-kept t m)
+    where
+      go : (b : Bool) → List·Memᴰ x (filter p l) → List·Memᴰ x (cond b (y ∷ filter p l) (filter p l))
+      go true m′ = List·Memᴰ·tail m′
+      go false m′ = m′
+
   -- where the test passes once, it fails before and behind
   pub alone-front : (x : A) (a b : List A) → p x ≡ true → length (filter p (a ++ x ∷ b)) ≤ 1 → All (λ y. p y ≡ false) a
   alone-front x a b t h =

@@ -79,10 +79,6 @@ formatted180 =
 
 -- ---- calls on the small disk
 
--- A with the type $C3, locked USR
-unfoldable pub lockedUsr : Bytes
-lockedUsr = patch18 1 0x02 (0xC3 ∷ []) imageWithA
-
 -- A moved to track 18: its chain goes 18/2, 19/1, and ends there with n = 2 and other bytes behind the one that is its own
 unfoldable pub onTrack18 : Bytes
 onTrack18 =
@@ -109,9 +105,9 @@ dirtyHole =
     patch18 0 0x02 (0x00 ∷ []) (patch18 1 0x20 (7 ∷ 8 ∷ []) (patch18 1 0x40 (5 ∷ 6 ∷ [])
     (splice (splice (afterCall imageWithAB (scratch nameA)) 768 (replicate 512 0xEE)) 1536 (replicate 1792 0xEE))))
 
--- then a USR file of 600 bytes with a name of 16, a SEQ file of one byte, and B scratched
+-- then a PRG file of 600 bytes with a name of 16, a SEQ file of one byte, and B scratched
 unfoldable pub filledHole : Bytes
-filledHole = afterCalls dirtyHole (store name16 3 sent600 ∷ store nameC 1 (9 ∷ []) ∷ scratch nameB ∷ [])
+filledHole = afterCalls dirtyHole (store name16 2 sent600 ∷ store nameC 1 (9 ∷ []) ∷ scratch nameB ∷ [])
 
 -- of an image: bytes 00-03 and track 19's map entry of 18/0, then the sectors 18/1, 18/2 and 19/0 to 19/5
 unfoldable pub writtenPart : Bytes → Bytes
@@ -121,7 +117,7 @@ writtenPart img = part 0x00 0x03 img ++ (part 0x4C 0x4F img ++ take 2048 (drop 2
 unfoldable pub holeFilled : Bytes
 holeFilled = join (
     (0x12 ∷ 0x01 ∷ 0x00 ∷ 0x00 ∷ 6 ∷ 0xE4 ∷ 0x03 ∷ 0x00 ∷ [])
-    ∷ (0x00 ∷ 0xFF ∷ 0x83 ∷ 19 ∷ 0 ∷ name16) ∷ zeros 9 ∷ (3 ∷ 0 ∷ [])
+    ∷ (0x00 ∷ 0xFF ∷ 0x82 ∷ 19 ∷ 0 ∷ name16) ∷ zeros 9 ∷ (3 ∷ 0 ∷ [])
     ∷ (7 ∷ 8 ∷ zeros 30)
     ∷ (5 ∷ 6 ∷ 0x81 ∷ 19 ∷ 4 ∷ nameC) ∷ replicate 15 0xA0 ∷ zeros 9 ∷ (1 ∷ 0 ∷ zeros 160)
     ∷ zeros 256

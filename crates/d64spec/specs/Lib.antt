@@ -26,3 +26,4 @@ pub mod Examples
 pub mod Trial
 pub mod TwoFaults
 pub mod Edges
+pub mod Retired

@@ -15,9 +15,9 @@ use Rattle.d64spec.specs.Directory.{File, nameOf}
 unfoldable pub validNameArgument : Bytes → Bool
 validNameArgument n = ltb 0 (length n) && (ltb (length n) 17 && eqb (count 0xA0 n) 0)
 
--- a kind that a store takes: 1 SEQ, 2 PRG or 3 USR (else 10)
+-- a kind that a store takes: 1 SEQ or 2 PRG (else 10; 02, §12). The kinds that are carried on a disk: specs/Directory, `validType`
 unfoldable pub storableKind : ℕ → Bool
-storableKind k = eqb k 1 || (eqb k 2 || eqb k 3)
+storableKind k = eqb k 1 || eqb k 2
 
 -- a DOS version, byte 2 of 18/0, that allows writing: $41 or $00 (else 11)
 unfoldable pub writable : Geometry → Disk → Bool

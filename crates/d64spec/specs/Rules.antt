@@ -22,11 +22,11 @@ pub record HoldsName (field n : Bytes) : Type 0 where
   pub name : IsName n
   pub padding : field ≡ n ++ replicate (16 - length n) 0xA0
 
--- a kind: 1 SEQ, 2 PRG or 3 USR (01, Answer numbers, 10)
+-- a kind that a store takes: 1 SEQ or 2 PRG (01, Answer numbers, 10, as 02, §12, has it)
 abbrev pub IsStorableKind : ℕ → Type 0
-IsStorableKind k = (k ≡ 1) ⊎ ((k ≡ 2) ⊎ (k ≡ 3))
+IsStorableKind k = (k ≡ 1) ⊎ (k ≡ 2)
 
--- the type bytes that are carried: closed, locked or not (01, The directory)
+-- the type bytes that are carried on a disk: SEQ, PRG and USR, closed, locked or not (01, The directory)
 abbrev pub typeBytes : List ℕ
 typeBytes = 0x81 ∷ 0x82 ∷ 0x83 ∷ 0xC1 ∷ 0xC2 ∷ 0xC3 ∷ []
 

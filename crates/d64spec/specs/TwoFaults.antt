@@ -131,7 +131,9 @@ aloneRows =
     ∷ meets [] (format [] 0x30 0x31) 9 (report 0 0) []
     ∷ meets [] (read longName (lent 4)) 9 (report 0 0) (lent 4)
     ∷ meets [] (scratch paddedName) 9 (report 0 0) []
+    ∷ meets [] (store nameC 3 []) 10 (report 0 0) []
     ∷ meets [] (store nameC 4 []) 10 (report 0 0) []
+    ∷ meets [] (store nameC 258 []) 10 (report 0 0) []
     ∷ meets (version42 ∷ []) (store nameC 1 []) 11 (report 0 0) []
     ∷ meets (version42 ∷ []) (scratch nameA) 11 (report 0 0) []
     ∷ meets [] (store nameA 1 []) 12 (report 0 0) []
@@ -210,8 +212,8 @@ unfoldable pub storePairs : List FaultRow
 storePairs =
     block 8 (cut ∷ []) (store nameC 1 []) []  -- 16 and 1
     ∷ meets (cut ∷ []) (store [] 1 []) 1 (report 0 0) []  -- 1 and 9
-    ∷ meets [] (store [] 4 []) 9 (report 0 0) []  -- 9 and 10
-    ∷ meets (directoryTo 1 19 5 ∷ []) (store nameC 0 []) 10 (report 0 0) []  -- 10 and the directory's 2
+    ∷ meets [] (store [] 3 []) 9 (report 0 0) []  -- 9 and 10
+    ∷ meets (directoryTo 1 19 5 ∷ []) (store nameC 3 []) 10 (report 0 0) []  -- 10 and the directory's 2
     ∷ meets (mapOf255 19 ∷ version42 ∷ []) (store nameC 1 []) 8 (faultAt 19 255 255) []  -- 8 and 11
     ∷ meets (version42 ∷ []) (store nameA 1 []) 11 (report 0 0) []  -- 11 and 12
     ∷ meets (noSlotLeft ∷ []) (store nameA 1 []) 12 (report 0 0) []  -- 12 and 14

@@ -61,15 +61,12 @@ pub fn sector_count(slot: &[u8]) -> u16
     low as u16 + 256 * (high as u16)
 }
 
-// Whether a store takes this kind: 1 SEQ, 2 PRG or 3 USR.
+// Whether a store takes this kind: 1 SEQ or 2 PRG (02, §12). USR files are carried where they are on a disk, and no store makes one.
 pub fn storable_kind(kind: u32) -> bool
     ensures { λ r. ⌜ r ≡ storableKind kind ⌝ }
 {
     if kind == 1 {
         return true;
     }
-    if kind == 2 {
-        return true;
-    }
-    kind == 3
+    kind == 2
 }

@@ -111,7 +111,7 @@ fn write_chain(
 
 // Bytes 02 to 1F of the new entry: $80 + kind, first sector, name, nine zeros, count.
 fn new_entry(name: &[u8], kind: u8, first: u16, count: usize) -> [u8; 30]
-    requires { ⌜ (length (now name) ≤ 16) × (kind ≤ 3) × (count < 65536) ⌝ }
+    requires { ⌜ (length (now name) ≤ 16) × (kind ≤ 2) × (count < 65536) ⌝ }
     ensures { λ r. ⌜ r ≡ newEntry (now (name .entry)) kind (unpacked first) count ⌝ }
 {
     let mut entry = [0u8; 30];

@@ -11,11 +11,7 @@ returns c = let k = c .before .args .kind in simp (eq-eqb k 1 (omega arith))
 
 returns-2 : tie.Need-returns-2
 unfolding storableKind
-returns-2 c = let k = c .before .before .args .kind in simp (ne-eqb k 1 (λ e. omega arith), eq-eqb k 2 (omega arith))
-
-returns-3 : tie.Need-returns-3
-unfolding storableKind
-returns-3 c = let k = c .before .before .args .kind in simp (ne-eqb k 1 (λ e. omega arith), ne-eqb k 2 (λ e. omega arith))
+returns-2 c = let k = c .before .args .kind in simp (ne-eqb k 1 (λ e. omega arith))
 
 pub storable-kind-spec : {M : Type 1} → statement M
-storable-kind-spec = tie.close (tie.spec returns returns-2 returns-3)
+storable-kind-spec = tie.close (tie.spec returns returns-2)
