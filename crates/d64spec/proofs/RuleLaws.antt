@@ -85,13 +85,13 @@ name-argument-exact n = (
   (λ h. both-true (lt-ltb 0 (length n) (h .some)) (both-true (lt-ltb (length n) 17 (let s = h .short in omega arith)) (eq-eqb (count 0xA0 n) 0 (h .noPadding)))),
 )
 
--- a number is one of two
-one-of-two : (k a b : ℕ) → ((eqb k a || eqb k b) ≡ true) ↔ ((k ≡ a) ⊎ (k ≡ b))
-one-of-two k a b = (go (eqb k a) refl, ⊎-elim (λ e. rw (eq-eqb k a e)) (λ e. rw (eq-eqb k b e) (or-right (eqb k a))))
+-- one of two tests passes
+either-test : (i a j b : ℕ) → ((eqb i a || eqb j b) ≡ true) ↔ ((i ≡ a) ⊎ (j ≡ b))
+either-test i a j b = (go (eqb i a) refl, ⊎-elim (λ e. rw (eq-eqb i a e)) (λ e. rw (eq-eqb j b e) (or-right (eqb i a))))
   where
-    go : (x : Bool) → eqb k a ≡ x → (x || eqb k b) ≡ true → (k ≡ a) ⊎ (k ≡ b)
-    go true t h = inl (eqb-true k a t)
-    go false t h = inr (eqb-true k b h)
+    go : (x : Bool) → eqb i a ≡ x → (x || eqb j b) ≡ true → (i ≡ a) ⊎ (j ≡ b)
+    go true t h = inl (eqb-true i a t)
+    go false t h = inr (eqb-true j b h)
 
     or-right : (x : Bool) → (x || true) ≡ true
     or-right true = refl
@@ -100,12 +100,12 @@ one-of-two k a b = (go (eqb k a) refl, ⊎-elim (λ e. rw (eq-eqb k a e)) (λ e.
 -- A STORE TAKES A KIND exactly when it is 1 or 2
 pub kind-exact : (k : ℕ) → (storableKind k ≡ true) ↔ IsStorableKind k
 unfolding storableKind
-kind-exact k = one-of-two k 1 2
+kind-exact k = either-test k 1 k 2
 
 -- A VERSION ALLOWS WRITING exactly when it is $41 or $00
 pub version-exact : (g : Geometry) (d : Disk) → (writable g d ≡ true) ↔ MayWrite g d
 unfolding writable
-version-exact g d = one-of-two (byte (d (sectorNumber g mapAddress)) 2) 0x41 0
+version-exact g d = let v : ℕ = byte (d (sectorNumber g mapAddress)) 2 in either-test v 0x41 v 0
 
 -- ---- names on disk
 
