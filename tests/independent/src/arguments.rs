@@ -35,6 +35,9 @@ pub fn wrong_name(rng: &mut Rng) -> Vec<u8> {
     }
 }
 
+/// A kind to store. The retired one is drawn once in twelve times, so that a
+/// library that still takes it shows soon; all others that give 10, together
+/// once in sixteen.
 pub fn kind(rng: &mut Rng) -> u32 {
     let wrong = rng.pick(&[
         0,
@@ -42,6 +45,7 @@ pub fn kind(rng: &mut Rng) -> u32 {
         5,
         0x81,
         0x82,
+        0x83,
         255,
         256,
         257,
@@ -50,10 +54,10 @@ pub fn kind(rng: &mut Rng) -> u32 {
         0x8000_0002,
         u32::MAX,
     ]);
-    if rng.one_in(8) {
-        wrong
-    } else {
-        rng.range(1, 3) as u32
+    match rng.below(48) {
+        0..=3 => 3,
+        4..=6 => wrong,
+        _ => rng.range(1, 2) as u32,
     }
 }
 

@@ -163,9 +163,14 @@ pub fn sectors_needed(length: usize) -> usize {
     length.div_ceil(DATA_BYTES).max(1)
 }
 
+/// The kinds that a store takes, 1 and 2: USR files are retired (02, §12).
+fn kind_is_stored(kind: u32) -> bool {
+    matches!(kind, 1 | 2)
+}
+
 fn try_store(image: &mut [u8], name: &[u8], kind: u32, data: &[u8]) -> Result<Answer, Answer> {
     let name = size_and_name(image, name)?;
-    if !(1..=3).contains(&kind) {
+    if !kind_is_stored(kind) {
         return Err(Answer::refusal(KIND_ASKED));
     }
     let Layout { directory, .. } = examine(image)?;

@@ -90,8 +90,9 @@ pub(crate) fn check_entry(slot: &Slot, names: &mut Names) -> Result<(), u8> {
     Ok(())
 }
 
-/// Bit 7 is 1, bits 4 and 5 are 0, bit 6 plays no part, the low four bits
-/// are 1, 2 or 3.
+/// The kinds that an image may hold, USR among them (01, The directory): bit 7
+/// is 1, bits 4 and 5 are 0, bit 6 plays no part, the low four bits are 1, 2
+/// or 3.
 fn kind_is_carried(byte: u8) -> bool {
     byte & 0xB0 == 0x80 && matches!(byte & 0x0F, 1..=3)
 }

@@ -1,7 +1,8 @@
 //! An independent D64 disk-image library, written from the papers alone.
 //!
-//! "01" in a comment is the paper "Scope of work and exact rules"; the words
-//! after it name the part of that paper.
+//! "01" in a comment is the paper "Scope of work and exact rules", "02" the
+//! paper "Requests for later changes"; what comes after it names the part of
+//! that paper.
 //!
 //! The library proper: `geometry`, `answer`, `disk`, `check`, `calls`,
 //! `host`, `listing`. The measuring side: `naive` (a second acceptance test

@@ -57,7 +57,7 @@ impl Guess {
             }
             Call::Store {
                 name,
-                kind: 1..=3,
+                kind: 1 | 2,
                 data,
             } => {
                 let needed = sectors(data.len());

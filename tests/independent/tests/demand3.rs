@@ -6,14 +6,15 @@ mod model;
 use independent::generate::{generate, sound, SOUND};
 use independent::host;
 use independent::lists::{requests, STYLES};
-use independent::naive::{contents, Owner};
+use independent::naive::{contents, File, Owner};
 use independent::plain::{
     demand3, PlainList, ACCEPTED, CLAUSES, GIVEN_BACK, PLAIN_LIST, READ_BYTES, READ_SECTORS,
     REFUSED,
 };
 use independent::request::{perform, Call, Independent, Library, Request};
 use independent::rng::{for_seeds, Rng};
-use std::collections::BTreeMap;
+use independent::sound::slot_offset;
+use std::collections::{BTreeMap, BTreeSet};
 
 #[test]
 fn demand3_holds_over_lists() {
@@ -119,7 +120,13 @@ fn a_read_of_681_sectors() {
 enum Cheat {
     StoresNothing,
     FillsFirstSectorOnly,
+    /// SEQ becomes PRG.
     StoresWrongKind,
+    /// As if USR were not retired (02, §12).
+    StoresUsr,
+    StoresUsrAndSaysTen,
+    StoreRetypesUsr,
+    StoreDropsUsr,
     DirtiesFreeSector,
     RefusedStoreMarksMap,
     ReadsTheSameBytes,
@@ -129,6 +136,8 @@ enum Cheat {
     InventsSectorCount,
     CountsSectorsByLength,
     LeavesCodes,
+    LeavesCodesOfUsr,
+    KeepsUsrFromScratch,
     ScratchFreesNothing,
     ScratchTakesFirstFile,
     FormatKeepsOldBytes,
@@ -139,6 +148,9 @@ const CHEATS: &[(Cheat, &[&str])] = &[
     (Cheat::StoresNothing, &[PLAIN_LIST]),
     (Cheat::FillsFirstSectorOnly, &[PLAIN_LIST]),
     (Cheat::StoresWrongKind, &[PLAIN_LIST]),
+    (Cheat::StoresUsrAndSaysTen, &[PLAIN_LIST, REFUSED]),
+    (Cheat::StoreRetypesUsr, &[PLAIN_LIST]),
+    (Cheat::StoreDropsUsr, &[PLAIN_LIST]),
     (Cheat::DirtiesFreeSector, &[GIVEN_BACK]),
     (Cheat::RefusedStoreMarksMap, &[ACCEPTED, REFUSED]),
     (Cheat::ReadsTheSameBytes, &[READ_BYTES]),
@@ -148,12 +160,75 @@ const CHEATS: &[(Cheat, &[&str])] = &[
     (Cheat::InventsSectorCount, &[READ_SECTORS]),
     (Cheat::CountsSectorsByLength, &[READ_SECTORS]),
     (Cheat::LeavesCodes, &[GIVEN_BACK]),
+    (Cheat::LeavesCodesOfUsr, &[GIVEN_BACK]),
     (Cheat::ScratchFreesNothing, &[ACCEPTED]),
     (Cheat::ScratchTakesFirstFile, &[PLAIN_LIST]),
     (Cheat::FormatKeepsOldBytes, &[GIVEN_BACK]),
 ];
 
+/// The cheats that break no clause, since the plain list follows the answers,
+/// each with a number it gives and the one owed.
+const NOT_SEEN: &[(Cheat, u32, u32)] = &[
+    (Cheat::StoresUsr, 0, 10),
+    (Cheat::KeepsUsrFromScratch, 4, 0),
+];
+
 struct Cheating(Cheat);
+
+impl Cheating {
+    /// A store that may be wrong about the kind.
+    fn store_kind(
+        &self,
+        image: &mut [u8],
+        name: &[u8],
+        kind: u32,
+        data: &[u8],
+        block: &mut [u8],
+    ) -> u32 {
+        match (self.0, kind) {
+            (Cheat::StoresWrongKind, 1) => host::store(image, name, 2, data, block),
+            (Cheat::StoresUsr, 3) => store_usr(image, name, data, block),
+            (Cheat::StoresUsrAndSaysTen, 3) => match store_usr(image, name, data, block) {
+                0 => 10,
+                number => number,
+            },
+            _ => host::store(image, name, kind, data, block),
+        }
+    }
+}
+
+/// A store of a USR file, as 01 had it before 02, §12.
+fn store_usr(image: &mut [u8], name: &[u8], data: &[u8], block: &mut [u8]) -> u32 {
+    let number = host::store(image, name, 2, data, block);
+    if number == 0 {
+        retype(image, name, 0x83);
+    }
+    number
+}
+
+/// Gives a file of an accepted image another type byte.
+fn retype(image: &mut [u8], name: &[u8], type_byte: u8) {
+    let held = contents(image).unwrap();
+    let slot = model::find(&held, name).unwrap().slot;
+    image[slot_offset(&held.directory, slot) + 2] = type_byte;
+}
+
+/// The USR files of an image; none if it isn't accepted.
+fn usr_files(image: &[u8]) -> Vec<File> {
+    let files = contents(image).map_or(Vec::new(), |held| held.files);
+    let usr = files.into_iter().filter(|file| file.type_byte & 15 == 3);
+    usr.collect()
+}
+
+fn spoil_first_usr_file(cheat: Cheat, image: &mut [u8]) {
+    if let Some(file) = usr_files(image).first() {
+        if cheat == Cheat::StoreRetypesUsr {
+            retype(image, &file.name, 0x82);
+        } else {
+            host::scratch(image, &file.name, &mut [0; 9]);
+        }
+    }
+}
 
 /// Puts back all that was on the other tracks; track 18 stays new.
 fn keep_off_track_18(image: &mut [u8], old: &[u8]) {
@@ -207,15 +282,14 @@ impl Library for Cheating {
     ) -> u32 {
         let old = image.to_vec();
         let mut data = data.to_vec();
-        let kind = match self.0 {
-            Cheat::StoresWrongKind if kind == 3 => 2,
-            _ => kind,
-        };
         if self.0 == Cheat::FillsFirstSectorOnly && data.len() > 254 {
             data[254..].fill(0);
         }
-        let number = host::store(image, name, kind, &data, block);
+        let number = self.store_kind(image, name, kind, &data, block);
         match self.0 {
+            Cheat::StoreRetypesUsr | Cheat::StoreDropsUsr if number == 0 => {
+                spoil_first_usr_file(self.0, image);
+            }
             Cheat::StoresNothing if number == 0 => image.copy_from_slice(&old),
             Cheat::RefusedStoreMarksMap if number == 15 => image[91_396] ^= 1,
             Cheat::DirtiesFreeSector if number == 0 => {
@@ -232,12 +306,17 @@ impl Library for Cheating {
     fn scratch(&self, image: &mut [u8], name: &[u8], block: &mut [u8]) -> u32 {
         let old = image.to_vec();
         let first = contents(image).and_then(|held| held.files.first().cloned());
+        let usr = usr_files(image).iter().any(|file| file.name == name);
+        if self.0 == Cheat::KeepsUsrFromScratch && usr {
+            return 4;
+        }
         let number = match (self.0, &first) {
             (Cheat::ScratchTakesFirstFile, Some(file)) => host::scratch(image, &file.name, block),
             _ => host::scratch(image, name, block),
         };
         match self.0 {
             Cheat::LeavesCodes if number == 0 => keep_off_track_18(image, &old),
+            Cheat::LeavesCodesOfUsr if number == 0 && usr => keep_off_track_18(image, &old),
             Cheat::ScratchFreesNothing if number == 0 => {
                 image[91_392..91_648].copy_from_slice(&old[91_392..91_648]);
             }
@@ -273,6 +352,35 @@ fn demand3_catches_cheats() {
         let broken: Vec<&str> = broken.copied().collect();
         assert_eq!(broken, *clauses, "{cheat:?}: {what}");
     }
+}
+
+/// What demand 3 lets pass, the comparison of calls catches: the model owes
+/// another number on the image that the cheat itself made.
+#[test]
+fn the_model_catches_what_demand3_does_not() {
+    let runs = honest_runs();
+    for &(cheat, given, owed) in NOT_SEEN {
+        let mut differ = BTreeSet::new();
+        for (start, list) in &runs {
+            demand3(&Cheating(cheat), start, list).unwrap();
+            differ.extend(differences(&Cheating(cheat), start, list));
+        }
+        assert!(differ.contains(&(given, owed)), "{cheat:?}: {differ:?}");
+    }
+}
+
+/// The numbers given and owed, where they differ.
+fn differences(library: &dyn Library, start: &[u8], list: &[Request]) -> Vec<(u32, u32)> {
+    let mut image = start.to_vec();
+    let mut differ = Vec::new();
+    for request in list {
+        let owed = model::number(&image, request);
+        if let Some(reply) = perform(library, &mut image, request) {
+            differ.push((reply.number, owed));
+        }
+    }
+    differ.retain(|(given, owed)| given != owed);
+    differ
 }
 
 /// "Demand 3 alone would let a store that always refuses pass": so the calls

@@ -377,7 +377,7 @@ fn point_16_the_directory_grows_past_a_file() {
             &junk[2 * slot - 2..2 * slot],
         );
     }
-    assert_eq!(store(&mut image, b"NEW", 3, &[9; 10]), Answer::done(10, 1));
+    assert_eq!(store(&mut image, b"NEW", 2, &[9; 10]), Answer::done(10, 1));
     assert_eq!(verdict(&image).0, 0);
     let old = &image[offset(18, 1)..offset(18, 2)];
     assert_eq!(old[..2], [18, 3]);
@@ -388,7 +388,7 @@ fn point_16_the_directory_grows_past_a_file() {
         );
     }
     let new = &image[offset(18, 3)..offset(18, 4)];
-    assert_eq!(new[..8], [0x00, 0xFF, 0x83, 17, 0, b'N', b'E', b'W']);
+    assert_eq!(new[..8], [0x00, 0xFF, 0x82, 17, 0, b'N', b'E', b'W']);
     assert!(new[SLOT..].iter().all(|&byte| byte == 0));
     assert_eq!(
         image[offset(18, 0) + 72..offset(18, 0) + 76],
@@ -416,19 +416,34 @@ fn point_18_nothing_else_is_refused() {
     assert_eq!(verdict(&image).0, 0);
     assert_eq!(read(&image, b"A0", &mut [0; 300]).number, 0);
     image[91_394] = 0x00;
-    assert_eq!(store(&mut image, b"A1", 3, b"").number, 0);
+    assert_eq!(store(&mut image, b"A1", 2, b"").number, 0);
     assert_eq!(scratch(&mut image, b"A0").number, 0);
 }
 
-/// "Kind asked for is not 1, 2 or 3": a number that ends in such a byte is
-/// still another.
+/// "Kind asked for is not 1 or 2", as 02, §12 has it: a number that ends in
+/// such a byte is still another.
 #[test]
 fn point_19_the_kind_is_not_cut() {
+    const REFUSED: &[u32] = &[
+        0,
+        3,
+        4,
+        0x81,
+        0x82,
+        0x83,
+        256,
+        257,
+        258,
+        259,
+        0x1_0002,
+        u32::MAX,
+    ];
     let mut image = fresh();
-    for kind in [0, 4, 0x81, 0x82, 256, 257, 258, 259, 0x1_0002, u32::MAX] {
+    for &kind in REFUSED {
         assert_eq!(store(&mut image, b"A", kind, b""), Answer::refusal(10));
     }
-    for kind in 1..=3 {
+    assert_eq!(image, fresh());
+    for kind in 1..=2 {
         assert_eq!(store(&mut image, &[kind as u8], kind, b"").number, 0);
     }
 }

@@ -124,6 +124,8 @@ fn features_of(plan: &Plan) -> Vec<(&'static str, bool)> {
         ),
         ("file on track 18", any(|f| f.chain[0].0 == 18)),
         ("locked file", any(|f| f.type_byte > 0xC0)),
+        ("USR file", any(|f| f.type_byte == 0x83)),
+        ("locked USR file", any(|f| f.type_byte == 0xC3)),
         (
             "n = 1 after a full sector",
             any(|f| f.n == 1 && f.chain.len() > 1),

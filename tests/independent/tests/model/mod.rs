@@ -44,7 +44,7 @@ pub fn number(image: &[u8], request: &Request) -> u32 {
     if asked_name(call).is_some_and(name_is_wrong) {
         return 9;
     }
-    if matches!(call, Call::Store { kind, .. } if ![1, 2, 3].contains(kind)) {
+    if matches!(call, Call::Store { kind, .. } if ![1, 2].contains(kind)) {
         return 10;
     }
     if matches!(call, Call::Format { .. }) {
