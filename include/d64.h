@@ -57,7 +57,7 @@ enum d64_answer {
     D64_WRONG_COUNT = 7,     /* a file's sector count is wrong; place: directory sector, slot */
     D64_WRONG_MAP = 8,       /* a map entry is wrong; place: track, 255, 255 */
     D64_BAD_NAME = 9,        /* the name asked for is empty, over 16 bytes, or holds $A0 */
-    D64_BAD_KIND = 10,       /* the kind asked for is not 1, 2 or 3 */
+    D64_BAD_KIND = 10,       /* the kind asked for is not 1 or 2 */
     D64_READ_ONLY = 11,      /* the DOS version forbids writing */
     D64_NAME_TAKEN = 12,     /* the name to store is there already */
     D64_NOT_FOUND = 13,      /* the name, or the position, is not there */
@@ -106,9 +106,10 @@ uint32_t d64_read(const uint8_t *image, size_t image_len, const uint8_t *name, s
                   uint8_t *out, size_t out_len, uint8_t *answer, size_t answer_len);
 
 /*
- * d64_store() stores 'data' as a new file 'name' of kind 1 (SEQ), 2 (PRG) or 3 (USR). The name is given without
- * padding. The file takes the first free sectors of tracks 17 down to 1, then 19 up to 35; a directory without an
- * empty slot takes the lowest free sector of track 18.
+ * d64_store() stores 'data' as a new file 'name' of kind 1 (SEQ) or 2 (PRG). Any other kind is refused, 3 (USR)
+ * too: USR files can no longer be stored, but those on an image are still accepted, listed, told, read and
+ * scratched. The name is given without padding. The file takes the first free sectors of tracks 17 down to 1, then
+ * 19 up to 35; a directory without an empty slot takes the lowest free sector of track 18.
  * Reads:   image, name, data.  Writes: image, answer.  No written buffer may overlap another buffer.
  * Returns: D64_DONE, or the first that applies of D64_WRONG_SIZE (1), D64_BAD_NAME (9), D64_BAD_KIND (10), a fault
  *          that d64_check() finds (2 to 8), D64_READ_ONLY (11), D64_NAME_TAKEN (12), D64_DIRECTORY_FULL (14),
@@ -144,8 +145,9 @@ uint32_t d64_scratch(uint8_t *image, size_t image_len, const uint8_t *name, size
  *        | type |  name  | track | sector | count |    length     |     count and length: low byte first
  *        +------+--------+-------+--------+---+---+---+---+---+---+
  *
- * The type is the byte on disk: $80 + kind, $C0 + kind for a locked file. The name is padded with $A0. Track and
- * sector are the file's first sector; count is its number of sectors, length its number of bytes.
+ * The type is the byte on disk: $80 + kind, $C0 + kind for a locked file; the kind is 1 (SEQ), 2 (PRG) or 3 (USR).
+ * The name is padded with $A0. Track and sector are the file's first sector; count is its number of sectors, length
+ * its number of bytes.
  * Reads:   image.  Writes: entry, answer.  No written buffer may overlap another buffer.
  * Returns: D64_DONE, or the first that applies of D64_WRONG_SIZE (1), a fault that d64_check() finds (2 to 8),
  *          D64_NOT_FOUND (13) if no file has that position, D64_SHORT (16) if entry is shorter than 25 bytes.

@@ -16,7 +16,7 @@ static const struct command commands[] = {
      "Copies the file NAME of the disk to FILE; '-' is standard output.\n" NAMES_HELP},
     {"store", STORE, "NAME FILE [TYPE]", 2, 3, true, true,
      "Stores the bytes of FILE on the disk as a new file NAME; '-' is standard input.\n"
-     "TYPE is seq, prg (if it is not given) or usr.\n" NAMES_HELP},
+     "TYPE is seq or prg; prg if it is not given.\n" NAMES_HELP},
     {"scratch", SCRATCH, "NAME", 1, 1, true, true,
      "Removes the file NAME, locked or not, and leaves zeros in the sectors that held it.\n" NAMES_HELP},
     {"listing", LISTING, "", 0, 0, false, false,

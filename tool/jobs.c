@@ -47,7 +47,7 @@ int job_of_words(struct job *job, const struct command *command, char **words, s
     if (verb == READ || verb == STORE)
         job->file = words[1];
     if (status == 0 && verb == STORE && count == 3 && !kind_of_text(words[2], &job->kind))
-        status = fail(STATUS_USAGE, "'%s' is no type; expected seq, prg, usr or a number (a name with blanks needs quotes)", words[2]);
+        status = fail(STATUS_USAGE, "'%s' is no type; expected seq, prg or a number (a name with blanks needs quotes)", words[2]);
     return status;
 }
 

@@ -24,7 +24,7 @@ static const struct {
     [D64_WRONG_COUNT] = {"sector count wrong", ENTRY},
     [D64_WRONG_MAP] = {"map entry wrong", MAP},
     [D64_BAD_NAME] = {"name asked for is empty, has over 16 bytes, or holds \\xA0", NO_PLACE},
-    [D64_BAD_KIND] = {"kind asked for is not 1 (SEQ), 2 (PRG) or 3 (USR)", NO_PLACE},
+    [D64_BAD_KIND] = {"kind asked for is not 1 (SEQ) or 2 (PRG)", NO_PLACE},
     [D64_READ_ONLY] = {"DOS version forbids writing", NO_PLACE},
     [D64_NAME_TAKEN] = {"name is there already", NO_PLACE},
     [D64_NOT_FOUND] = {"name is not there", NO_PLACE},

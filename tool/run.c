@@ -121,6 +121,16 @@ static int ask(const struct job *job, struct answer *answer)
     }
 }
 
+/* What a clerk may not know of a refusal, behind its meaning. */
+static const char *hint_of(const struct job *job, const struct answer *answer)
+{
+    if (answer->number == D64_NOT_FOUND && has_shifted_letters(&job->name))
+        return "; small letters are those with shift";
+    if (answer->number == D64_BAD_KIND && job->kind == 3)
+        return "; USR files can no longer be stored";
+    return "";
+}
+
 static int do_job(const struct job *job, struct answer *answer)
 {
     int status;
@@ -128,7 +138,7 @@ static int do_job(const struct job *job, struct answer *answer)
     set_line(job->line);
     status = ask(job, answer);
     if (status == 0 && answer->number != D64_DONE)
-        status = refuse(answer, answer->number == D64_NOT_FOUND && has_shifted_letters(&job->name) ? "; small letters are those with shift" : "");
+        status = refuse(answer, hint_of(job, answer));
     set_line(0);
     return status;
 }

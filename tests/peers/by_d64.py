@@ -1,10 +1,13 @@
-"""Direction one: d64 writes disks, and each peer lists them, reads every file, and adds one of its own."""
+"""Direction one: d64 writes disks, and each peer lists them, reads every file, and adds one of its own.
+
+d64 stores SEQ and PRG files; disks with USR files come from the peers, in direction two.
+"""
 
 import os
 import shlex
 
 import disks
-from disks import PRG, SEQ, USR, pattern
+from disks import PRG, SEQ, pattern
 from tools import C1541, empty_folder, read_file, run, write_file
 
 ADDED = b"ADDED"
@@ -84,7 +87,7 @@ def scattered():
     for number in (1, 3, 4, 8, 10):
         plan.scratch(b"OLD%d" % number)
     for number, length in enumerate((4000, 254, 9000, 0, 1)):
-        plan.store(b"NEW%d" % number, pattern(length, 50 + number), (SEQ, PRG, USR)[number % 3])
+        plan.store(b"NEW%d" % number, pattern(length, 50 + number), (SEQ, PRG)[number % 2])
     return plan.scratch(b"OLD0").store(b"LAST", pattern(20000, 99))
 
 
@@ -101,7 +104,7 @@ def awkward():
     names = (b"A", b"SIXTEEN BYTES OK", b" BLANKS  ", b"../UP", b"/ROOT", b"-OPTION", b"STAR*", b"*", b"?", b"$", b"A,S", b"A:B", b"@0:A",
              b"#2", b".", b"..", b'Q"Q', b"PERCENT%S", b"CASE", b"\xc3\xc1\xd3\xc5", b"\x63\x61\x73\x65", b"~", b"\x5c", b"\xff")
     for number, name in enumerate(names):
-        plan.store(name, pattern(100 + number, number), (PRG, SEQ, USR)[number % 3])
+        plan.store(name, pattern(100 + number, number), (PRG, SEQ)[number % 2])
     return plan
 
 
@@ -109,12 +112,12 @@ def plans():
     yield Plan("empty disk")
     yield Plan("document 01's example").store(b"CODE", pattern(300, 1))
     yield Plan("a zero-length file").store(b"ZERO", b"")
-    yield Plan("zero length, each kind").store(b"ZS", b"", SEQ).store(b"ZP", b"", PRG).store(b"ZU", b"", USR)
+    yield Plan("zero length, each kind").store(b"ZS", b"", SEQ).store(b"ZP", b"", PRG)
     lengths = Plan("lengths around a sector")
     for length in (1, 2, 252, 253, 254, 255, 256, 507, 508, 509, 510, 5000):
         lengths.store(b"LEN%d" % length, pattern(length, length))
     yield lengths
-    yield Plan("kinds").store(b"SEQFILE", pattern(400, 1), SEQ).store(b"PRGFILE", pattern(400, 2)).store(b"USRFILE", pattern(400, 3), USR)
+    yield Plan("kinds").store(b"SEQFILE", pattern(400, 1), SEQ).store(b"PRGFILE", pattern(400, 2))
     yield Plan("full disk: 168,656 bytes in one file").store(b"FULL", pattern(168656, 7))
     many = Plan("full directory: 144 files")
     for number in range(144):

@@ -113,8 +113,8 @@ def written_on(d64, image, held, require, title):
         return f"; a store gives {answer}"
     for _, name, _ in held[:1]:
         require(d64.answer("scratch", "--quiet", image, d64.text(name)) == "done", f"{title}: d64 does not scratch a file")
-    after = sorted((name, data) for _, name, data in disks.files(read_file(image)))
-    wanted = sorted([(name, data) for _, name, data in held[1:]] + [(NEW, pattern(600, 222))])
+    after = sorted(disks.files(read_file(image)))
+    wanted = sorted(held[1:] + [(PRG, NEW, pattern(600, 222))])
     sound = d64.answer("check", "--quiet", image) == "done"
     require(after == wanted and sound, f"{title}: the disk is not as it must be after d64's store and scratch")
     return "; d64 stores and scratches on it"

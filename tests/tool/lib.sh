@@ -114,7 +114,7 @@ refusal() { # NUMBER [PLACE]
     7) meaning="sector count wrong" ;;
     8) meaning="map entry wrong" ;;
     9) meaning="name asked for is empty, has over 16 bytes, or holds \\xA0" ;;
-    10) meaning="kind asked for is not 1 (SEQ), 2 (PRG) or 3 (USR)" ;;
+    10) meaning="kind asked for is not 1 (SEQ) or 2 (PRG)" ;;
     11) meaning="DOS version forbids writing" ;;
     12) meaning="name is there already" ;;
     13) meaning="name is not there" ;;

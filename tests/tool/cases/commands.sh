@@ -78,7 +78,7 @@ refuses 15 fresh disk store disk DATA in
 type_is() { # OCTAL
     [ "$(tail -c +$(($(slot 0) + 3)) disk | head -c 1 | od -An -to1 | tr -d ' ')" = "$1" ] || fail "type byte $1"
 }
-for pair in seq:201 prg:202 usr:203 1:201 2:202 3:203; do
+for pair in seq:201 prg:202 1:201 2:202; do
     case_is "type ${pair%:*}"
     cp fresh disk
     gives 0 store disk DATA code "${pair%:*}"

@@ -19,10 +19,11 @@ case_is "all types, a locked file, blocks of one to three digits, names of 1 and
 head -c 2540 /dev/zero >ten
 head -c 50800 /dev/zero >twohundred
 gives 0 store fresh A /dev/null seq
-gives 0 store fresh 'Ab !#$%&()*+,-./' ten usr
+gives 0 store fresh 'Ab !#$%&()*+,-./' ten seq
 gives 0 store fresh '0123456789:;<=>?' twohundred prg
 gives 0 store fresh "@[]^_'" code seq
 for s in 0 2; do patch fresh $(($(slot $s) + 2)) $((0xC1 + s / 2)); done
+patch fresh $(($(slot 1) + 2)) 0x83
 gives 0 dir fresh
 prints '0 "ABCDEFGHIJKLMNOP" zZ 2A
 1    "A"                SEQ<
@@ -34,10 +35,10 @@ prints '0 "ABCDEFGHIJKLMNOP" zZ 2A
 case_is "a slot that was emptied is not listed, and is used again"
 gives 0 scratch fresh 'Ab !#$%&()*+,-./'
 gives 0 scratch fresh A
-gives 0 store fresh B /dev/null usr
+gives 0 store fresh B /dev/null seq
 gives 0 dir fresh
 prints '0 "ABCDEFGHIJKLMNOP" zZ 2A
-1    "B"                USR
+1    "B"                SEQ
 200  "0123456789:;<=>?" PRG<
 2    "@[]^_'"'"'"           SEQ
 461 BLOCKS FREE.'

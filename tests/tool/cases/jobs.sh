@@ -29,8 +29,8 @@ like() { # COMMAND..  each command's words after the image
 }
 
 case_is "every kind of job"
-listed 0 'store A other\nstore B other seq\nread A a\ncheck\nscratch CODE\nread B b\nstore CODE b usr\n'
-like "store A other" "store B other seq" "scratch CODE" "store CODE other usr"
+listed 0 'store A other\nstore B other seq\nread A a\ncheck\nscratch CODE\nread B b\nstore CODE b seq\n'
+like "store A other" "store B other seq" "scratch CODE" "store CODE other seq"
 same a other "the file read by a job"
 same b other "the file read by a job"
 done_line && quiet_output
@@ -174,8 +174,8 @@ grep -q 'refused, 1: wrong size; an image has 174,848 bytes, this one has 1,000$
 same bad before "the image as it was"
 
 case_is "--keep-going: the others are done, and the first status is the run's"
-listed 13 'scratch NONE\nstore A other\nstore A other\nstore B nowhere\nread NONE out3\nstore C code usr\nread C c\n' --keep-going
-like "store A other" "store C code usr"
+listed 13 'scratch NONE\nstore A other\nstore A other\nstore B nowhere\nread NONE out3\nstore C code seq\nread C c\n' --keep-going
+like "store A other" "store C code seq"
 [ "$(grep -c '^line' seen/err)" -eq 4 ] || fail "four lines for the jobs left out"
 [ "$(grep -n "^line 1: $(refusal 13)\$" seen/err | cut -d: -f1)" = 1 ] || fail "line 1 first"
 [ "$(sed -n 2p seen/err)" = "line 3: $(refusal 12)" ] || fail "then line 3"

@@ -79,7 +79,7 @@ status_is 0
 same seen/out fresh "the fresh disk on standard output"
 
 case_is "run on standard input"
-printf 'scratch CODE\nstore CODE code\nstore TWO code usr\nscratch TWO\n' >jobs
+printf 'scratch CODE\nstore CODE code\nstore TWO code seq\nscratch TWO\n' >jobs
 fed 0 disk run jobs -
 same seen/out model "the example disk on standard output"
 
@@ -101,7 +101,7 @@ same seen/out code "the bytes that were on standard input"
 
 # Not a byte of an image on standard output where the command is refused.
 case_is "refused: nothing on standard output"
-for command in "store - CODE code" "scratch - NONE" "store - NEW nowhere" "store - NEW code 9" "read - NONE -"; do
+for command in "store - CODE code" "scratch - NONE" "store - NEW nowhere" "store - NEW code 9" "store - NEW code usr" "read - NONE -"; do
     # shellcheck disable=SC2086 # the words of a command
     try $command <disk
     [ "$status" -ne 0 ] || fail "a refusal"

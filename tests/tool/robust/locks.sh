@@ -70,7 +70,7 @@ for round in 1 2 3 4 5 6 7 8; do
     at_once "store disk A code" "store disk B code"
     case_is "eight commands at the same time, round $round"
     cp model disk
-    at_once "store disk A code" "store disk B code" "store disk C code seq" "store disk D code" "scratch disk CODE" "store disk E code" "store disk F code usr" "store disk G code"
+    at_once "store disk A code" "store disk B code" "store disk C code seq" "store disk D code" "scratch disk CODE" "store disk E code" "store disk F code prg" "store disk G code"
     gives 0 dir disk
     [ "$(wc -l <seen/out)" -eq 9 ] || fail "seven files"
     for name in A B C D E F G; do

@@ -57,7 +57,7 @@ fn answer_of(reply: &Reply) -> Answer {
     }
 }
 
-/// The line of a refusal: a name that is not there may have been typed in small letters, and is then told so.
+/// The line of a refusal: a name that is not there may have been typed in small letters, and is then told so; so is who asks for a USR file.
 fn refusal_of(call: &Call, reply: &Reply) -> String {
     let shifted = match call {
         Call::Read { name, .. } | Call::Scratch { name } => {
@@ -65,10 +65,10 @@ fn refusal_of(call: &Call, reply: &Reply) -> String {
         }
         _ => false,
     };
-    let hint = if reply.number == 13 && shifted {
-        "; small letters are those with shift"
-    } else {
-        ""
+    let hint = match (reply.number, call) {
+        (13, _) if shifted => "; small letters are those with shift",
+        (10, Call::Store { kind: 3, .. }) => "; USR files can no longer be stored",
+        _ => "",
     };
     refusal(&answer_of(reply), ROOM) + hint
 }

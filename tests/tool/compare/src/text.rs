@@ -63,7 +63,7 @@ fn meaning(number: u8) -> &'static str {
         7 => "sector count wrong",
         8 => "map entry wrong",
         9 => "name asked for is empty, has over 16 bytes, or holds \\xA0",
-        10 => "kind asked for is not 1 (SEQ), 2 (PRG) or 3 (USR)",
+        10 => "kind asked for is not 1 (SEQ) or 2 (PRG)",
         11 => "DOS version forbids writing",
         12 => "name is there already",
         13 => "name is not there",
