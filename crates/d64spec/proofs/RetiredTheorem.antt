@@ -1,11 +1,11 @@
--- USR files through every list of calls, and calls on a disk that has some (02, §12).
+-- Files that were there at the start, and USR files, through every list of calls (02, §12). Calls on a disk that has some: proofs/EdgeTables.
 use Prim.Native.Nat.{ℕ, zero, suc}
 use native.Mathlib.Omega.{arith}
-use mathlib.Core.Path.{_≡_, refl, sym, ap, _∙_}
+use mathlib.Core.Path.{_≡_, refl, ap}
 use mathlib.Core.Bool.{Bool, true, false, not}
 use mathlib.Core.Logic.{_↔_, ⊎-elim, ∥∥₁-elim, ∥∥₁-map}
-use mathlib.Core.List.{List, [], _∷_, _++_, Perm·subset, Perm·symm, List·Mem, List·Memᴰ, List·Memᴰ·cases-cons, List·Memᴰ·not-nil, mem-cons-of-mem}
-use Rattle.d64spec.specs.Lists.{Bytes, equal, filter}
+use mathlib.Core.List.{List, [], _∷_, Perm, Perm·subset, Perm·symm, List·Mem, List·Memᴰ·cases-cons, List·Memᴰ·not-nil, mem-cons-of-mem}
+use Rattle.d64spec.specs.Lists.{Bytes, equal}
 use Rattle.d64spec.specs.Geometry.{Geometry, Valid}
 use Rattle.d64spec.specs.Image.{disk}
 use Rattle.d64spec.specs.Directory.{PlainEntry, plainList}
@@ -14,8 +14,8 @@ use Rattle.d64spec.specs.Reply.{Change}
 use Rattle.d64spec.specs.Accepted.{Accepted}
 use Rattle.d64spec.specs.Call.{Call, attempt, check, format, read, scratch, store}
 use Rattle.d64spec.specs.Rules.{IsStorableKind}
-use Rattle.d64spec.specs.Run.{Request, after, plainListAfter, plainListRun, serve}
-use Rattle.d64spec.specs.Retired.{Removes, Spared, StartKept}
+use Rattle.d64spec.specs.Run.{Request, after, plainListAfter, plainListRun, run, serve}
+use Rattle.d64spec.specs.Retired.{Holds, Removes, Spared, StartKept}
 use Rattle.d64spec.proofs.ListLaws.{equal-refl, eq-of-equal}
 use Rattle.d64spec.proofs.SplitLaws.{mem-filter, mem-kept}
 use Rattle.d64spec.proofs.CallLaws.{store-done}
@@ -64,13 +64,15 @@ module _ (e : PlainEntry) where
   kept-after l (scratch name) (suc n) h m = m
 
   -- and where its kind is 3, what is there afterwards was there before
-  old-after : (l : List PlainEntry) (c : Call) (n : ℕ) → e .kind ≡ 3 → (n ≡ 0 → TakenKind c) → List·Mem e (plainListAfter l c n) → List·Mem e l
+  old-after : (l : List PlainEntry) (c : Call) (n : ℕ) → e .kind ≡ 3 → (n ≡ 0 → TakenKind c)
+      → List·Mem e (plainListAfter l c n) → List·Mem e l
   unfolding plainListAfter
   old-after l check n k t m = m
   old-after l (read name out) n k t m = m
   old-after l (format name i j) zero k t m = absurd (∥∥₁-elim m (λ a b. absurd a) List·Memᴰ·not-nil)
   old-after l (format name i j) (suc n) k t m = m
-  old-after l (store name kind bytes) zero k t m = ∥∥₁-map m (λ d. ⊎-elim (λ same. absurd (new (ap (λ (x : PlainEntry). x .kind) same))) (λ d′. d′) (List·Memᴰ·cases-cons d))
+  old-after l (store name kind bytes) zero k t m =
+      ∥∥₁-map m (λ d. ⊎-elim (λ same. absurd (new (ap (λ (x : PlainEntry). x .kind) same))) (λ d′. d′) (List·Memᴰ·cases-cons d))
     where
       new : e .kind ≡ kind → ⊥
       new z = ⊎-elim (λ (h : kind ≡ 1). omega arith) (λ (h : kind ≡ 2). omega arith) (t refl)
@@ -98,20 +100,23 @@ module _ (e : PlainEntry) where
     kept-run img l [] m s = m
     kept-run img l (q ∷ qs) m s = kept-run (after g img q) _ qs (kept-after l (q .call) _ (s .0) m) (s .1)
 
-    old-run : (img : Bytes) (l : List PlainEntry) (qs : List Request) → e .kind ≡ 3 → List·Mem e (plainListRun g img l qs) → List·Mem e l × Spared g img qs (e .name)
+    old-run : (img : Bytes) (l : List PlainEntry) (qs : List Request) → e .kind ≡ 3
+        → List·Mem e (plainListRun g img l qs) → List·Mem e l × Spared g img qs (e .name)
     old-run img l [] k m = (m, tt)
     old-run img l (q ∷ qs) k m =
         let r = old-run (after g img q) _ qs k m in
         (old-after l (q .call) _ k (taken-kind g img q) (r .0), (spared-after l (q .call) _ (r .0), r .1))
 
--- FILES THAT WERE THERE AT THE START stay until they are removed, and no other USR file is there: every layout that is valid, every accepted image, every list of calls
+-- FILES THAT WERE THERE AT THE START stay until they are removed, and no other USR file is there:
+-- every layout that is valid, every accepted image, every list of calls
 pub start-kept : (g : Geometry) → Valid g → (img : Bytes) (l : List Request) → Accepted g img → StartKept g img l
-start-kept g v img l a =
-    let h = every-run g v img l a .holds in
-    record {
-      kept = λ e m s. Perm·subset (Perm·symm h) e (kept-run e g img (plainList g (disk img)) l m s);
-      usr = λ e k. (
-        (λ m. old-run e g img (plainList g (disk img)) l k (Perm·subset h e m)),
-        (λ w. Perm·subset (Perm·symm h) e (kept-run e g img (plainList g (disk img)) l (w .0) (w .1))),
-      );
-    }
+start-kept g v img l a = record { kept = stays; usr = λ e k. (was e k, λ w. stays e (w .0) (w .1)) }
+  where
+    h : Perm (plainList g (disk (run g img l))) (plainListRun g img (plainList g (disk img)) l)
+    h = every-run g v img l a .holds
+
+    stays : (e : PlainEntry) → Holds g img e → Spared g img l (e .name) → Holds g (run g img l) e
+    stays e m s = Perm·subset (Perm·symm h) e (kept-run e g img (plainList g (disk img)) l m s)
+
+    was : (e : PlainEntry) → e .kind ≡ 3 → Holds g (run g img l) e → Holds g img e × Spared g img l (e .name)
+    was e k m = old-run e g img (plainList g (disk img)) l k (Perm·subset h e m)

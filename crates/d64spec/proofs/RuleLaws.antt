@@ -2,7 +2,7 @@
 use Prim.Native.Nat.{ℕ, zero, suc, _-_, _≤_, _<_}
 use native.Mathlib.Omega.{arith}
 use mathlib.Core.Path.{_≡_, refl, sym, ap}
-use mathlib.Core.Bool.{Bool, true, false, cond, not, _&&_, _||_}
+use mathlib.Core.Bool.{Bool, true, false, cond, not, _&&_, _||_, or-true}
 use mathlib.Core.Logic.{_⊎_, inl, inr, ⊎-elim, _↔_}
 use mathlib.Core.List.{[], _∷_, _++_, map}
 use lib.ListN.{length, drop, replicate, length-append, length-take}
@@ -87,15 +87,11 @@ name-argument-exact n = (
 
 -- one of two tests passes
 either-test : (i a j b : ℕ) → ((eqb i a || eqb j b) ≡ true) ↔ ((i ≡ a) ⊎ (j ≡ b))
-either-test i a j b = (go (eqb i a) refl, ⊎-elim (λ e. rw (eq-eqb i a e)) (λ e. rw (eq-eqb j b e) (or-right (eqb i a))))
+either-test i a j b = (go (eqb i a) refl, ⊎-elim (λ e. rw (eq-eqb i a e)) (λ e. rw (eq-eqb j b e) (or-true (eqb i a))))
   where
     go : (x : Bool) → eqb i a ≡ x → (x || eqb j b) ≡ true → (i ≡ a) ⊎ (j ≡ b)
     go true t h = inl (eqb-true i a t)
     go false t h = inr (eqb-true j b h)
-
-    or-right : (x : Bool) → (x || true) ≡ true
-    or-right true = refl
-    or-right false = refl
 
 -- A STORE TAKES A KIND exactly when it is 1 or 2
 pub kind-exact : (k : ℕ) → (storableKind k ≡ true) ↔ IsStorableKind k
