@@ -160,6 +160,7 @@ static void call_writing(void)
     }
     for (size_t i = 0; i < sizeof lengths / sizeof lengths[0]; i++)
         store("NEW", 3, 1, lengths[i]);
+    store("NEW", 3, 3, 300);
     store("NEW", 3, 4, 300);
 }
 

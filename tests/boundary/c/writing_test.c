@@ -132,10 +132,10 @@ static void the_example(void)
 static void the_largest_file(void)
 {
     struct hand hand = fresh();
-    EXPECT_REFUSED(store("ALL", 3, MOST + 1), D64_DISK_FULL);
-    EXPECT(store("ALL", 3, MOST), D64_DONE);
+    EXPECT_REFUSED(store("ALL", 2, MOST + 1), D64_DISK_FULL);
+    EXPECT(store("ALL", 2, MOST), D64_DONE);
     EXPECT_BLOCK(0, 0, 255, MOST, 664);
-    add_file(wanted, &hand, 0x83, "ALL", MOST);
+    add_file(wanted, &hand, 0x82, "ALL", MOST);
     EXPECT_WANTED();
     EXPECT(scratch("ALL"), D64_DONE);
     EXPECT_BLOCK(0, 0, 255, MOST, 664);
@@ -166,11 +166,13 @@ static void lengths(void)
 
 static void kinds_and_names(void)
 {
-    static const uint32_t wrong[] = {0, 4, 5, 0x81, 0x82, 255, 256, 257, 258, 259, 0x80000002, UINT32_MAX};
+    static const uint32_t wrong[] = {0,   3,   4,   5,   0x81, 0x82,       0x83,
+                                     255, 256, 257, 258, 259,  0x80000002, UINT32_MAX};
     fresh();
     for (size_t i = 0; i < sizeof wrong / sizeof wrong[0]; i++)
         EXPECT_REFUSED(store("CODE", wrong[i], 300), D64_BAD_KIND);
     EXPECT_REFUSED(store("", 4, 300), D64_BAD_NAME);
+    EXPECT_REFUSED(store("", 3, 300), D64_BAD_NAME);
     EXPECT_REFUSED(store("SEVENTEEN BYTES! ", 2, 300), D64_BAD_NAME);
     EXPECT_REFUSED(store("CO\xA0" "DE", 2, 300), D64_BAD_NAME);
     EXPECT(store("CODE", 2, 300), D64_DONE);
@@ -183,6 +185,100 @@ static void kinds_and_names(void)
     EXPECT_REFUSED(scratch(""), D64_BAD_NAME);
     EXPECT_REFUSED(scratch("CODE\xA0"), D64_BAD_NAME);
     EXPECT(check(), D64_DONE);
+}
+
+/* A disk with USR files in image and wanted: OLD of 300 bytes, LOCKED of ten. It is accepted. */
+static struct hand usr_disk(void)
+{
+    struct hand hand = {17, 0, 0};
+    format_by_hand(wanted, "CODES", 0x30, 0x31);
+    add_file(wanted, &hand, 0x83, "OLD", 300);
+    add_file(wanted, &hand, 0xC3, "LOCKED", 10);
+    memcpy(image, wanted, sizeof image);
+    EXPECT(check(), D64_DONE);
+    EXPECT_NOWHERE();
+    return hand;
+}
+
+/* A store of kind 3 is refused by 10, whatever would refuse it later on. One that is done leaves USR files alone. */
+static void usr_is_not_stored(void)
+{
+    struct hand hand = usr_disk();
+    EXPECT_REFUSED(store("NEW", 3, 0), D64_BAD_KIND);
+    EXPECT_REFUSED(store("OLD", 3, 300), D64_BAD_KIND);
+    EXPECT_REFUSED(store("LOCKED", 3, 10), D64_BAD_KIND);
+    EXPECT_REFUSED(store("NEW", 3, MOST + 1), D64_BAD_KIND);
+    sector_at(image, 18, 0)[2] = 0x42;
+    EXPECT_REFUSED(store("NEW", 3, 300), D64_BAD_KIND);
+    sector_at(image, 18, 0)[2] = 0x41;
+    EXPECT_REFUSED(store("OLD", 2, 300), D64_NAME_TAKEN);
+    EXPECT_REFUSED(store("LOCKED", 1, 10), D64_NAME_TAKEN);
+    EXPECT(store("NEW", 2, 600), D64_DONE);
+    EXPECT_BLOCK(0, 0, 255, 600, 3);
+    add_file(wanted, &hand, 0x82, "NEW", 600);
+    EXPECT_WANTED();
+}
+
+/* The rest of an entry is its first sector, count and length. */
+static void expect_told(size_t position, int type, const char *name, const char *rest)
+{
+    uint8_t told[D64_ENTRY_BYTES];
+    told[0] = (uint8_t)type;
+    put_name(told + 1, name);
+    memcpy(told + 17, rest, 8);
+    EXPECT(d64_tell(image, sizeof image, position, out, sizeof told, block, sizeof block), D64_DONE);
+    EXPECT_NOWHERE();
+    for (size_t i = 0; i < sizeof told; i++)
+        EXPECT(out[i], told[i]);
+}
+
+static void usr_files_are_shown(void)
+{
+    static const char text[] = "434F444553A0A0A0A0A0A0A0A0A0A0A03031\n"
+                               "8311004F4C44A0A0A0A0A0A0A0A0A0A0A0A0A00200\n"
+                               "C311024C4F434B4544A0A0A0A0A0A0A0A0A0A00100\n"
+                               "0295\n";
+    const size_t length = sizeof text - 1;
+    usr_disk();
+    expect_told(0, 0x83, "OLD", "\x11\x00\x02\x00\x2C\x01\x00\x00");
+    expect_told(1, 0xC3, "LOCKED", "\x11\x02\x01\x00\x0A\x00\x00\x00");
+    EXPECT(list(length), D64_DONE);
+    EXPECT_BLOCK(0, 0, 255, (long)length, 0);
+    EXPECT(memcmp(out, text, length), 0);
+    memset(out, 0x55, sizeof out);
+    EXPECT(read_file("OLD", 300), D64_DONE);
+    EXPECT_BLOCK(0, 0, 255, 300, 2);
+    EXPECT(memcmp(out, data, 300), 0);
+    memset(out, 0x55, sizeof out);
+    EXPECT(read_file("LOCKED", sizeof out), D64_DONE);
+    EXPECT_BLOCK(0, 0, 255, 10, 1);
+    EXPECT(memcmp(out, data, 10), 0);
+    EXPECT(out[10], 0x55);
+    EXPECT_WANTED();
+}
+
+static void usr_files_are_scratched(void)
+{
+    struct hand second = {17, 2, 1};
+    usr_disk();
+    sector_at(image, 17, 1)[200] = 0xEE; /* behind the last byte */
+    EXPECT(scratch("OLD"), D64_DONE);
+    EXPECT_BLOCK(0, 0, 255, 300, 2);
+    format_by_hand(wanted, "CODES", 0x30, 0x31);
+    add_file(wanted, &second, 0xC3, "LOCKED", 10);
+    EXPECT_WANTED();
+    EXPECT(scratch("LOCKED"), D64_DONE);
+    EXPECT_BLOCK(0, 0, 255, 10, 1);
+    format_by_hand(wanted, "CODES", 0x30, 0x31);
+    EXPECT_WANTED();
+}
+
+/* They come from disks that were written before kind 3 was refused. */
+static void usr_files(void)
+{
+    usr_is_not_stored();
+    usr_files_are_shown();
+    usr_files_are_scratched();
 }
 
 /* 144 files, then no slot is empty and track 18 is full: 14, with room for files and without. */
@@ -200,6 +296,7 @@ static void a_full_directory(void)
     EXPECT_REFUSED(store("MORE", 2, 10), D64_DIRECTORY_FULL);
     EXPECT_REFUSED(store("MORE", 2, MOST), D64_DIRECTORY_FULL);
     EXPECT_REFUSED(store("F000", 2, MOST), D64_NAME_TAKEN);
+    EXPECT_REFUSED(store("MORE", 3, MOST), D64_BAD_KIND);
     EXPECT(scratch("F077"), D64_DONE);
     EXPECT_BLOCK(0, 0, 255, 10, 1);
     EXPECT_REFUSED(store("MORE", 2, MOST), D64_DISK_FULL);
@@ -317,6 +414,7 @@ static void a_damaged_image(void)
     EXPECT_BLOCK(17, 4, 1, 0, 0);
     expect_image(before, __LINE__);
     EXPECT_REFUSED(store("MORE", 4, 0), D64_BAD_KIND);
+    EXPECT_REFUSED(store("MORE", 3, 0), D64_BAD_KIND);
     EXPECT_REFUSED(scratch(""), D64_BAD_NAME);
     EXPECT(format("CODES", 0x30, 0x31), D64_DONE);
     EXPECT_WANTED();
@@ -390,6 +488,7 @@ int main(void)
     the_largest_file();
     lengths();
     kinds_and_names();
+    usr_files();
     a_full_directory();
     a_file_is_in_the_way();
     track_18_is_no_room();

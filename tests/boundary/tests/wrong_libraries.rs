@@ -8,10 +8,12 @@ use boundary::calls::{EntryPoints, Faithful};
 use boundary::lists::{compare_list, demand3_over, List, OWN_CHECK};
 use boundary::rounds::run_round;
 use boundary::tally::{Failure, Tally};
-use independent::plain::{ACCEPTED, CLAUSES, GIVEN_BACK, PLAIN_LIST, READ_SECTORS, REFUSED};
+use independent::plain::{
+    ACCEPTED, CLAUSES, GIVEN_BACK, PLAIN_LIST, READ_BYTES, READ_SECTORS, REFUSED,
+};
 use wrong::changes::{ScratchEdited, StoreEdited};
 use wrong::formatting::FormatEdited;
-use wrong::{formatting, reading, scratching, stored, storing, Row};
+use wrong::{formatting, reading, scratching, stored, storing, usr, Row};
 
 /// Rounds within which each wrong library is to be found.
 const ROUNDS: u64 = 12;
@@ -62,6 +64,11 @@ fn each_wrong_store_is_found() {
 #[test]
 fn each_wrong_scratch_is_found() {
     each_is_found(scratching::WRONG);
+}
+
+#[test]
+fn each_wrong_about_usr_files_is_found() {
+    each_is_found(usr::WRONG);
 }
 
 /// What demand 3 finds by itself, with no independent program beside the
@@ -153,6 +160,32 @@ const CHEATS: &[(&str, &dyn EntryPoints, &[&str])] = &[
         "scratch does nothing",
         &ScratchEdited(scratching::nothing_scratched),
         &[PLAIN_LIST],
+    ),
+    ("check refuses USR files", &usr::CheckRefused, &[OWN_CHECK]),
+    (
+        "a refused kind 3 is stored",
+        &usr::RefusedYetStored,
+        &[PLAIN_LIST, REFUSED],
+    ),
+    (
+        "USR files turn into PRG",
+        &StoreEdited(usr::turned_into_prg),
+        &[PLAIN_LIST],
+    ),
+    (
+        "a store takes USR files off",
+        &StoreEdited(usr::taken_off),
+        &[PLAIN_LIST],
+    ),
+    (
+        "the last byte of USR files is not read",
+        &usr::LastByteUnread,
+        &[READ_BYTES],
+    ),
+    (
+        "scratch leaves the codes of USR files",
+        &ScratchEdited(usr::usr_codes_left),
+        &[GIVEN_BACK],
     ),
 ];
 

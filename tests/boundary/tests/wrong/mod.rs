@@ -7,6 +7,7 @@ pub mod reading;
 pub mod scratching;
 pub mod stored;
 pub mod storing;
+pub mod usr;
 
 use boundary::calls::{EntryPoints, Slice};
 use independent::answer::Answer;

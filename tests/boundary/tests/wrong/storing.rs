@@ -194,7 +194,7 @@ wrong!(NameCut: store(image, name, kind, data, answer) {
 
 wrong!(KindBeforeName: store(image, name, kind, data, answer) {
     match Faithful.store(image, name, kind, data, answer) {
-        9 if !(1..=3).contains(&kind) => give(answer, Answer::refusal(10)),
+        9 if !(1..=2).contains(&kind) => give(answer, Answer::refusal(10)),
         number => number,
     }
 });

@@ -8,7 +8,7 @@ mod wrong;
 
 use boundary::calls::{EntryPoints, Slice};
 use std::sync::atomic::{AtomicUsize, Ordering};
-use wrong::{formatting, reading, scratching, stored, storing, Row};
+use wrong::{formatting, reading, scratching, stored, storing, usr, Row};
 
 static CHOSEN: AtomicUsize = AtomicUsize::new(0);
 
@@ -19,6 +19,7 @@ fn rows() -> impl Iterator<Item = &'static Row> {
         storing::WRONG,
         stored::WRONG,
         scratching::WRONG,
+        usr::WRONG,
     ]
     .into_iter()
     .flatten()
