@@ -21,7 +21,7 @@ static unsigned made; /* calls of this input */
 /*
  * What is answered guides the fuzzer too, since the archive's code has no counters: each pair of a call with its
  * number and the one before it; each track, sector and slot of a fault; each length of a name; the bytes in the last
- * sector of a file that is stored, by its kind; and how many sectors a file has.
+ * sector of a file that is stored, by its kind, 1 or 2; and how many sectors a file has.
  */
 #define ANSWERS 17
 __attribute__((used, section("__libfuzzer_extra_counters")))
@@ -29,7 +29,7 @@ static struct {
     uint8_t pairs[CALLS * ANSWERS][CALLS * ANSWERS];
     uint8_t places[ANSWERS][3][256];
     uint8_t names[CALLS * ANSWERS][18];
-    uint8_t stored[4][254];
+    uint8_t stored[2][254];
     uint8_t sectors[CALLS][128];
 } met;
 static unsigned last_met;
@@ -137,7 +137,7 @@ static void remember(const struct request *request, uint32_t number)
     unsigned sectors = owed_answer[7] + 256u * owed_answer[8];
     met.sectors[request->call][sectors < 64 ? sectors : 64 + sectors / 16] = 1;
     if (request->call == STORE && number == D64_DONE)
-        met.stored[request->kind & 3][request->data_len % 254] = 1;
+        met.stored[request->kind & 1][request->data_len % 254] = 1;
 }
 
 /* Compares all memory that was lent with what the oracle left. */

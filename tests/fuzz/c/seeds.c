@@ -1,6 +1,7 @@
 /*
  * Writes the seed corpus to the folder given: for each start image the calls in turn, then damage of every sort, with
- * the map made right again and not, then full disks, the edges of names, amounts and sizes, and bytes as they stand.
+ * the map made right again and not, then full disks, USR files, the edges of names, amounts and sizes, and bytes as
+ * they stand.
  */
 #include <stdio.h>
 #include <stdlib.h>
@@ -12,6 +13,11 @@
 
 /* Start images (oracle/src/starts.rs). */
 enum { FEW_FILES = 3, FULL_DIRECTORY = 11 };
+
+/* Bytes that a store's kind is made of: these give 2 and 3 (decode.c). */
+enum kind { PRG = 1, USR = 7 };
+
+enum { TOO_MUCH = 20 }; /* of the edges of an amount */
 
 static const char *folder;
 static FILE *seed;
@@ -61,9 +67,15 @@ static void put_read(enum name kind, unsigned char which)
     PUT(OP_READ, 0, 0, kind, which, 0, AROUND_NEED, 128, 0);
 }
 
+static void put_store_as(enum kind as, enum name kind, unsigned char which, enum amount amount, unsigned char a,
+                         unsigned char b)
+{
+    PUT(OP_STORE, 0, 0, kind, which, 0, as, amount, a, b, which);
+}
+
 static void put_store(enum name kind, unsigned char which, enum amount amount, unsigned char a, unsigned char b)
 {
-    PUT(OP_STORE, 0, 0, kind, which, 0, 1, amount, a, b, which);
+    put_store_as(PRG, kind, which, amount, a, b);
 }
 
 static void put_scratch(enum name kind, unsigned char which)
@@ -152,7 +164,6 @@ static void seeds_of_filling(void)
 /* Two refusals that apply at once: directory and disk full, the name taken, the version that forbids writing. */
 static void seeds_of_orders(void)
 {
-    enum { TOO_MUCH = 20 }; /* of the edges */
     static const unsigned char starts[] = {FEW_FILES, FULL_DIRECTORY, FULL_DIRECTORY + 1};
     for (size_t i = 0; i < sizeof starts; i++) {
         begin(starts[i], 0, 0);
@@ -163,6 +174,25 @@ static void seeds_of_orders(void)
         put_store(FROM_POOL, 5, AT_EDGE, TOO_MUCH, 0);
         put_store(OF_FILE, 0, AS_IS, 0, 0);
         put_scratch(FROM_POOL, 5);
+    }
+}
+
+/* A USR file, locked and not: kind 3 is refused, whatever would refuse it later on; all else is as on other disks. */
+static void seeds_of_usr(void)
+{
+    for (unsigned char locked = 0; locked < 2; locked++) {
+        begin(FEW_FILES, 0, 0);
+        PUT(OP_VERSION, 0x41);
+        PUT(OP_SLOT, 0, TYPE, locked ? 0xC3 : 0x83);
+        put_store_as(USR, FROM_POOL, 0, AS_IS, 44, 1);
+        put_store_as(USR, OF_FILE, 0, AS_IS, 44, 1);
+        put_store_as(USR, FROM_POOL, 0, AT_EDGE, TOO_MUCH, 0);
+        PUT(OP_VERSION, 0x42);
+        put_store_as(USR, FROM_POOL, 0, AS_IS, 44, 1);
+        PUT(OP_VERSION, 0x41);
+        put_store(FROM_POOL, 0, AS_IS, 44, 1);
+        put_looks();
+        put_scratch(OF_FILE, 0);
     }
 }
 
@@ -211,6 +241,7 @@ int main(int argc, char **argv)
     seeds_of_damage();
     seeds_of_filling();
     seeds_of_orders();
+    seeds_of_usr();
     seeds_of_edges();
     seeds_of_images();
     finish();

@@ -5,6 +5,7 @@
 #include <stdlib.h>
 #include <string.h>
 
+#include "disk.h"
 #include "library.h"
 
 static uint8_t copy[D64_IMAGE_BYTES];
@@ -101,13 +102,42 @@ static uint32_t store_leaves_junk(uint8_t *image, size_t len, const uint8_t *nam
     return number;
 }
 
-/* 9: a store as USR that leaves no sector partly filled changes a byte of 1/0. */
+/* 9: a store as SEQ that leaves no sector partly filled changes a byte of 1/0. */
 static uint32_t store_of_full_sectors(uint8_t *image, size_t len, const uint8_t *name, size_t name_len, uint32_t kind,
                                       const uint8_t *data, size_t data_len, uint8_t *answer, size_t answer_len)
 {
     uint32_t number = d64_store(image, len, name, name_len, kind, data, data_len, answer, answer_len);
-    if (number == 0 && data_len % 254 == 0 && kind == 3)
+    if (number == 0 && data_len % 254 == 0 && kind == 1)
         image[0] ^= 1;
+    return number;
+}
+
+/* Whether the copy has a USR file of this name; its entry is as tell gives it. */
+static bool usr_on_copy(const uint8_t *name, size_t name_len, uint8_t entry[D64_ENTRY_BYTES])
+{
+    uint8_t answer[D64_BLOCK_BYTES], padded[16];
+    memset(padded, 0xA0, sizeof padded);
+    memcpy(padded, name, name_len);
+    for (size_t at = 0; d64_tell(copy, sizeof copy, at, entry, D64_ENTRY_BYTES, answer, sizeof answer) == 0; at++)
+        if (memcmp(entry + 1, padded, sizeof padded) == 0)
+            return entry[0] % 16 == 3;
+    return false;
+}
+
+/* 10: of a USR file that is scratched the last byte of its last sector stays. */
+static uint32_t scratch_leaves_usr(uint8_t *image, size_t len, const uint8_t *name, size_t name_len,
+                                   uint8_t *answer, size_t answer_len)
+{
+    uint8_t entry[D64_ENTRY_BYTES];
+    if (len == D64_IMAGE_BYTES)
+        memcpy(copy, image, len);
+    uint32_t number = d64_scratch(image, len, name, name_len, answer, answer_len);
+    if (number != 0 || !usr_on_copy(name, name_len, entry))
+        return number;
+    size_t sector = 0;
+    for (const uint8_t *link = entry + 17; link[0] != 0; link = copy + sector)
+        sector = SECTOR_BYTES * sector_number(link[0], link[1]);
+    image[sector + 255] = copy[sector + 255];
     return number;
 }
 
@@ -128,6 +158,7 @@ const struct library *tested_library(void)
     case 7: wrong.check = check_misses_high_counts; break;
     case 8: wrong.store = store_leaves_junk; break;
     case 9: wrong.store = store_of_full_sectors; break;
+    case 10: wrong.scratch = scratch_leaves_usr; break;
     default: break;
     }
     return &wrong;
