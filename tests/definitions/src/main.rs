@@ -1,18 +1,26 @@
 //! Compares the definitions of `crates/d64spec` with the independent program.
 //!
 //! `definitions DIR SEED IMAGES` writes a crate of cases into DIR: for so many
-//! generated images, what the independent program answers and leaves. The
-//! prover then computes the definitions on the same images. Each case is a
-//! statement of its own, under a comment with its kind and seed.
+//! generated images, what the independent program answers and leaves, and for
+//! some kinds, whether a store takes them. The prover then computes the
+//! definitions on the same images and kinds. Each case is a statement of its
+//! own, under a comment with its kind and seed.
 
 mod rows;
 
+use independent::arguments::kind;
 use independent::generate::{generate, kinds};
 use independent::geometry::IMAGE_BYTES;
 use independent::rng::Rng;
 use rows::Row;
 use std::fs;
 use std::path::Path;
+
+/// The kinds of files that there are, each a case of every run.
+const KINDS: [u32; 3] = [1, 2, 3];
+
+/// Cases of kinds drawn anew.
+const DRAWN_KINDS: usize = 5;
 
 fn main() {
     let arguments: Vec<String> = std::env::args().collect();
@@ -29,7 +37,7 @@ fn main() {
 
 /// The cases of so many images, each of a kind and a seed drawn anew. The
 /// first two have no file and one file, so that a store and a scratch are
-/// among the cases.
+/// among the cases. The kinds that a store takes or refuses come last.
 fn draw_rows(seed: u64, images: usize) -> Vec<Row> {
     let rng = &mut Rng::new(seed);
     let kinds = kinds();
@@ -50,6 +58,8 @@ fn draw_rows(seed: u64, images: usize) -> Vec<Row> {
             taken += 1;
         }
     }
+    let drawn: Vec<u32> = (0..DRAWN_KINDS).map(|_| kind(rng)).collect();
+    rows.extend(KINDS.into_iter().chain(drawn).map(rows::of_kind));
     rows
 }
 

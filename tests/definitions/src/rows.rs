@@ -1,7 +1,7 @@
 //! Rows of the comparison, as terms of the prover's language.
 
 use independent::answer::Answer;
-use independent::calls::{scratch, store, tell};
+use independent::calls::{format, scratch, store, tell};
 use independent::check::check;
 use independent::geometry::{IMAGE_BYTES, TRACK_18_BYTES, TRACK_18_OFFSET};
 use independent::listing::sleeve_output;
@@ -105,7 +105,7 @@ fn store_row(kind: &str, seed: u64, image: &[u8]) -> Option<Row> {
     let data: Vec<u8> = (0..length).map(|i| ((i * 7 + 3) % 256) as u8).collect();
     let mut after = image.to_vec();
     let name = b"NEW FILE";
-    let file_kind = 1 + (seed % 3) as u32;
+    let file_kind = 1 + (seed / 4 % 2) as u32;
     if store(&mut after, name, file_kind, &data).number != 0 {
         return None;
     }
@@ -117,6 +117,17 @@ fn store_row(kind: &str, seed: u64, image: &[u8]) -> Option<Row> {
         changed(image, &after)
     );
     Some(row(kind, seed, "stores", rest))
+}
+
+/// The number that a store of a kind gives on a formatted disk.
+pub fn of_kind(kind: u32) -> Row {
+    let mut image = vec![0; IMAGE_BYTES];
+    format(&mut image, b"CASES", b'0', b'1');
+    let number = store(&mut image, b"NEW FILE", kind, b"").number;
+    Row {
+        what: format!("kind {kind}: takes"),
+        term: format!("takes {kind} {number}"),
+    }
 }
 
 /// A scratch of the first file, and the disk after it.
