@@ -1,5 +1,5 @@
 -- USR files, kind 3, are retired: no store makes one; those on a disk are accepted, listed, told, read and scratched as before (02, §12).
--- In order: files through a list of calls; a disk with USR files, and calls on it, computed. The statements: proofs/RetiredTheorem.
+-- In order: files through a list of calls (the statement: proofs/RetiredTheorem); a disk with USR files, and calls on it (computed: proofs/EdgeTables).
 -- Not here: the kinds that a store takes (specs/Rules, `IsStorableKind`), and the type bytes that the check accepts (`typeBytes`).
 use Prim.Native.Nat.{ℕ}
 use mathlib.Core.Path.{_≡_}
