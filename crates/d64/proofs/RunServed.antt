@@ -26,4 +26,6 @@ served-run img (q ∷ l) (r ∷ rs) s =
 
 -- DEMAND 3 OF RUNNING CODE: any list of calls of the exported functions, on any accepted image
 pub calls-run : (img : Bytes) (l : List Request) (rs : List HostReply) → Accepted layout35 img → Served img l rs → CallsHold img l rs
-calls-run img l rs a s = let h = served-run img l rs s in record { replied = h .0; left = h .1; holds = demand-3 img l a; kept = start-kept layout35 valid35 img l a }
+calls-run img l rs a s =
+    let h = served-run img l rs s in
+    record { replied = h .0; left = h .1; holds = demand-3 img l a; kept = start-kept layout35 valid35 img l a }
