@@ -4,7 +4,7 @@ use native.Mathlib.Omega.{arith}
 use mathlib.Core.Path.{_≡_, refl, ap}
 use mathlib.Core.Bool.{Bool, true, false, not}
 use mathlib.Core.Logic.{_↔_, ⊎-elim, ∥∥₁-elim, ∥∥₁-map}
-use mathlib.Core.List.{List, [], _∷_, Perm, Perm·subset, Perm·symm, List·Mem, List·Memᴰ·cases-cons, List·Memᴰ·not-nil, mem-cons-of-mem}
+use mathlib.Core.List.{List, [], _∷_, Perm, Perm·subset, Perm·symm, List·Mem, mem-cons-of-mem, mem-of-ne-of-mem, not-mem-nil}
 use Rattle.d64spec.specs.Lists.{Bytes, equal}
 use Rattle.d64spec.specs.Geometry.{Geometry, Valid}
 use Rattle.d64spec.specs.Image.{disk}
@@ -69,10 +69,9 @@ module _ (e : PlainEntry) where
   unfolding plainListAfter
   old-after l check n k t m = m
   old-after l (read name out) n k t m = m
-  old-after l (format name i j) zero k t m = absurd (∥∥₁-elim m (λ a b. absurd a) List·Memᴰ·not-nil)
+  old-after l (format name i j) zero k t m = absurd (not-mem-nil m)
   old-after l (format name i j) (suc n) k t m = m
-  old-after l (store name kind bytes) zero k t m =
-      ∥∥₁-map m (λ d. ⊎-elim (λ same. absurd (new (ap (λ (x : PlainEntry). x .kind) same))) (λ d′. d′) (List·Memᴰ·cases-cons d))
+  old-after l (store name kind bytes) zero k t m = mem-of-ne-of-mem (λ same. new (ap (λ (x : PlainEntry). x .kind) same)) m
     where
       new : e .kind ≡ kind → ⊥
       new z = ⊎-elim (λ (h : kind ≡ 1). omega arith) (λ (h : kind ≡ 2). omega arith) (t refl)
@@ -85,7 +84,7 @@ module _ (e : PlainEntry) where
   unfolding plainListAfter
   spared-after l check n m z r = r
   spared-after l (read name out) n m z r = r
-  spared-after l (format name i j) zero m z r = ∥∥₁-elim m (λ a b. absurd a) List·Memᴰ·not-nil
+  spared-after l (format name i j) zero m z r = not-mem-nil m
   spared-after l (format name i j) (suc n) m z r = omega arith
   spared-after l (store name kind bytes) n m z r = r
   spared-after l (scratch name) zero m z r =

@@ -12,10 +12,11 @@ use Rattle.d64spec.specs.Answers.{Fault, address, wrongSize, badLink, al
 use Rattle.d64spec.specs.Geometry.{layout35}
 use Rattle.d64spec.specs.Map.{mapBit}
 use Rattle.d64spec.specs.Read.{callTell, tellReply}
-use Rattle.d64spec.specs.Call.{Call, check, format, read, scratch, store}
+use Rattle.d64spec.specs.Call.{check, format, read, scratch, store}
 use Rattle.d64spec.specs.Listing.{callListing, listingReply}
 use Rattle.d64spec.specs.Host.{hostCall}
-use Rattle.d64spec.specs.Trial.{afterCall, imageWithA, imageWithAB, lentBlock, nameA, nameB, nameC, patch18, smallLayout}
+use Rattle.d64spec.specs.Run.{run}
+use Rattle.d64spec.specs.Trial.{afterCall, imageWithA, imageWithAB, lentBlock, nameA, nameB, nameC, patch18, requests, smallLayout}
 
 -- ---- answers (01, Answer numbers)
 
@@ -85,11 +86,6 @@ onTrack18 =
     patch18 1 0x03 (18 ∷ 2 ∷ []) (patch18 2 0x00 (19 ∷ 1 ∷ range 2 254)
     (splice (patch18 0 0x48 (zeros 4) (patch18 0 0x4C (9 ∷ 0xFD ∷ 0x03 ∷ 0x00 ∷ []) imageWithA)) 1024 (0 ∷ 2 ∷ range 100 100)))
 
--- the calls of a longer list, each on the image as the one before left it
-abbrev pub afterCalls : Bytes → List Call → Bytes
-afterCalls img [] = img
-afterCalls img (c ∷ l) = afterCalls (afterCall img c) l
-
 -- 16 bytes of a name, none of them a letter
 abbrev pub name16 : Bytes
 name16 = range 0xF0 16
@@ -107,7 +103,7 @@ dirtyHole =
 
 -- then a PRG file of 600 bytes with a name of 16, a SEQ file of one byte, and B scratched
 unfoldable pub filledHole : Bytes
-filledHole = afterCalls dirtyHole (store name16 2 sent600 ∷ store nameC 1 (9 ∷ []) ∷ scratch nameB ∷ [])
+filledHole = run smallLayout dirtyHole (requests (store name16 2 sent600 ∷ store nameC 1 (9 ∷ []) ∷ scratch nameB ∷ []))
 
 -- of an image: bytes 00-03 and track 19's map entry of 18/0, then the sectors 18/1, 18/2 and 19/0 to 19/5
 unfoldable pub writtenPart : Bytes → Bytes

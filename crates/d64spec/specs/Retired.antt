@@ -4,14 +4,14 @@
 use Prim.Native.Nat.{ℕ}
 use mathlib.Core.Path.{_≡_}
 use mathlib.Core.Logic.{_↔_}
-use mathlib.Core.List.{List, [], _∷_, _++_, map, List·Mem}
+use mathlib.Core.List.{List, [], _∷_, _++_, List·Mem}
 use Rattle.d64spec.specs.Lists.{Bytes, range}
 use Rattle.d64spec.specs.Geometry.{Geometry}
 use Rattle.d64spec.specs.Image.{disk}
 use Rattle.d64spec.specs.Directory.{PlainEntry, plainList}
 use Rattle.d64spec.specs.Call.{Call, check, format, read, store, scratch}
 use Rattle.d64spec.specs.Run.{Request, serve, after, run}
-use Rattle.d64spec.specs.Trial.{imageWithAB, lent, lentBlock, nameA, nameB, nameC, patch18, sent, textA0}
+use Rattle.d64spec.specs.Trial.{imageWithAB, lent, nameA, nameB, nameC, patch18, requests, sent, textA0}
 
 -- ---- files through a list of calls
 
@@ -61,10 +61,6 @@ usrB = record { name = nameB; kind = 3; content = range 1 10 }
 -- and that of a PRG file of one byte
 abbrev pub prgC : PlainEntry
 prgC = record { name = nameC; kind = 2; content = 7 ∷ [] }
-
--- requests, each with a block of nine bytes
-abbrev pub requests : List Call → List Request
-requests l = map (λ c. record { block = lentBlock; call = c }) l
 
 -- the numbers that they are answered with
 abbrev pub numbers : Geometry → Bytes → List Request → List ℕ

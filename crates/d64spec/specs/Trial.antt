@@ -14,6 +14,7 @@ use Rattle.d64spec.specs.Read.{TellReply, callTell, tellReply}
 use Rattle.d64spec.specs.Call.{Call, check, format, read, store, scratch}
 use Rattle.d64spec.specs.Listing.{sleeveOutput}
 use Rattle.d64spec.specs.Host.{hostCall}
+use Rattle.d64spec.specs.Run.{Request}
 
 -- 13 sectors: 18/0 is sector 0, 19/0 is sector 3
 unfoldable pub smallLayout : Geometry
@@ -53,6 +54,10 @@ lentBlock = lent 9
 -- the image after a host call
 unfoldable pub afterCall : Bytes → Call → Bytes
 afterCall img c = hostCall smallLayout img lentBlock c .imageAfter
+
+-- calls as a list of requests, each with such a block
+abbrev pub requests : List Call → List Request
+requests l = map (λ c. record { block = lentBlock; call = c }) l
 
 -- the 32 bytes of a slot whose file, named j, is empty and has the one sector 19/j
 unfoldable pub entryOn19 : ℕ → Bytes
