@@ -6,7 +6,7 @@ use mathlib.Core.Bool.{Bool, true}
 use borrow.Author.Tests.{le-leb, lt-leb}
 use Rattle.d64spec.specs.Lists.{Bytes}
 use Rattle.d64spec.specs.Answers.{Address}
-use Rattle.mapentry.specs.MapEntry.{Entries, movedEntry}
+use Rattle.bam.specs.MapEntry.{Entries, movedEntry}
 use Rattle.bam.specs.Bam.{hasEntry, entryOf, withEntry, movedMark}
 
 pub record Track (t : ℕ) : Type 0 where

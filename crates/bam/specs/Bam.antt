@@ -1,5 +1,5 @@
 -- The block availability map held by value (01, The map, 18/0): an entry of four bytes for each of 35 tracks, entry i for track i + 1.
--- In order: an entry of the map; a mark asked for; a mark moved; several. Laws: all that callers cite is in crate bamlaws.
+-- In order: an entry of the map; a mark asked for; a mark moved; several. Laws: proofs/FollowLaws has all that callers cite.
 use Prim.Native.Nat.{ℕ, _-_, _/_, _%_, _^_}
 use mathlib.Core.Bool.{Bool, cond, _&&_}
 use mathlib.Core.List.{List, [], _∷_}
@@ -7,7 +7,7 @@ use lib.ListN.{getD, set}
 use lib.Dec.{eqb, leb}
 use Rattle.d64spec.specs.Lists.{Bytes}
 use Rattle.d64spec.specs.Answers.{Address}
-use Rattle.mapentry.specs.MapEntry.{Entries, bitmapOf, movedEntry}
+use Rattle.bam.specs.MapEntry.{Entries, bitmapOf, movedEntry}
 
 -- whether the map has an entry for track t
 unfoldable pub hasEntry : ℕ → Bool

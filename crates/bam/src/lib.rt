@@ -1,8 +1,45 @@
-// The block availability map (document 01's map, 18/0) held by value: 35 entries, each a count of free sectors and three bitmap bytes.
-// It is changed mark by mark. Loading and storing it: crate mapsector. What the marks then say: crate bamlaws.
+// The block availability map (document 01's map, 18/0): 35 entries of four bytes, each a count of free sectors and three bitmap bytes, which are
+// one number. In order: one entry; the map by value, changed mark by mark; loaded from its sector and stored back; the same in an image.
 ghost use mathlib.Core.Path.{_≡_};
+ghost use Prim.Native.Nat.{_+_, _≤_, _<_};
+ghost use lib.ListN.{length};
+ghost use Rattle.d64spec.specs.Lists.{splice};
+ghost use Rattle.d64spec.specs.Geometry.{layout35, sectorNumber, mapAddress};
+ghost use Rattle.d64spec.specs.Image.{disk};
+ghost use Rattle.d64spec.specs.Reply.{writable};
 ghost use Rattle.geometry.specs.Layout.{unpacked};
+ghost use Rattle.bam.specs.MapEntry.{entryFrom, movedEntry};
 ghost use Rattle.bam.specs.Bam.{movedMark};
+ghost use Rattle.bam.specs.MapSector.{fourBytes, mapEntry, mapEntries, storedEntries, allowsWriting};
+ghost use Rattle.bam.specs.ImageMaps.{MapWritten};
+
+// The entry with this count and this bitmap: the count's lowest byte, and the bitmap's lowest three.
+fn entry_of(count: u32, bits: u32) -> [u8; 4]
+    ensures { λ r. ⌜ r ≡ entryFrom count bits ⌝ }
+{
+    [
+        (count % 256) as u8,
+        (bits % 256) as u8,
+        (bits / 256 % 256) as u8,
+        (bits / 65536 % 256) as u8,
+    ]
+}
+
+// The entry with a sector marked free and counted in, or else marked used and counted out, where it was the other way before: the bitmap is one
+// number, of which bit s is sector s. A sector from 24 on has no mark and changes nothing.
+fn moved_entry(entry: [u8; 4], sector: u8, free: bool) -> [u8; 4]
+    ensures { λ r. ⌜ r ≡ movedEntry entry sector free ⌝ }
+{
+    if sector >= 24 {
+        return entry;
+    }
+    let bit: u32 = 1 << sector;
+    let bits = entry[1] as u32 + 256 * (entry[2] as u32) + 65536 * (entry[3] as u32);
+    if free {
+        return entry_of(entry[0] as u32 + 1, bits + bit);
+    }
+    entry_of(entry[0] as u32 + 255, bits + (16777216 - bit))
+}
 
 // Marks the sector at a place free and counts it in, or else marks it used and counts it out. Where the map has no such mark, nothing changes.
 pub fn move_mark(map: &mut [[u8; 4]; 35], place: u16, free: bool)
@@ -17,5 +54,109 @@ pub fn move_mark(map: &mut [[u8; 4]; 35], place: u16, free: bool)
     }
     let i = track - 1;
     let entry = map[i];
-    map[i] = mapentry::move_mark(entry, (place % 256) as u8, free);
+    map[i] = moved_entry(entry, (place % 256) as u8, free);
+}
+
+// Four bytes from `at` on, with zeros past the end.
+fn short_entry(bytes: &[u8], at: usize) -> [u8; 4]
+    requires { ⌜ at < 144 ⌝ }
+    ensures { λ r. ⌜ r ≡ fourBytes (now (bytes .entry)) at ⌝ }
+{
+    [
+        parts::byte_at(bytes, at),
+        parts::byte_at(bytes, at + 1),
+        parts::byte_at(bytes, at + 2),
+        parts::byte_at(bytes, at + 3),
+    ]
+}
+
+// The entry of track i + 1 in a map sector.
+fn load_entry(sector: &[u8], i: usize) -> [u8; 4]
+    requires { ⌜ i < 35 ⌝ }
+    ensures { λ r. ⌜ r ≡ mapEntry layout35 (now (sector .entry)) (i + 1) ⌝ }
+{
+    let a = 4 * (i + 1);
+    if a + 4 <= sector.len() {
+        [sector[a], sector[a + 1], sector[a + 2], sector[a + 3]]
+    } else {
+        // a map sector is whole, so that only this one test is made for each of its entries
+        short_entry(sector, a)
+    }
+}
+
+// The map of a map sector. Bytes past the end of a slice that is too short read as 0.
+pub fn load_map(sector: &[u8]) -> [[u8; 4]; 35]
+    ensures { λ r. ⌜ r ≡ mapEntries (now (sector .entry)) ⌝ }
+{
+    let mut map = [[0u8; 4]; 35];
+    let mut i = 0;
+    while i < 35 {
+        let entry = load_entry(sector, i);
+        map[i] = entry;
+        i += 1;
+    }
+    map
+}
+
+// Puts an entry's four bytes at `at`.
+fn store_entry(entry: [u8; 4], sector: &mut [u8], at: usize)
+    requires { ⌜ at + 4 ≤ length (now sector) ⌝ }
+    ensures { λ r. ⌜ now (sector .exit) ≡ splice (now (sector .entry)) at entry ⌝ }
+{
+    sector[at] = entry[0];
+    sector[at + 1] = entry[1];
+    sector[at + 2] = entry[2];
+    sector[at + 3] = entry[3];
+}
+
+// Puts the map into a map sector, at bytes 4 to 143; no other byte changes. A slice of fewer than 144 bytes is left as it is.
+pub fn store_map(map: [[u8; 4]; 35], sector: &mut [u8])
+    ensures { λ r. ⌜ now (sector .exit) ≡ storedEntries map (now (sector .entry)) ⌝ }
+{
+    if sector.len() < 144 {
+        return;
+    }
+    let mut i = 0;
+    while i < 35 {
+        store_entry(map[i], sector, 4 * (i + 1));
+        i += 1;
+    }
+}
+
+// Whether the DOS version in a map sector, its byte 2, allows writing: $41 or $00. A byte past the end of a slice that is too short reads as 0.
+fn allows_writing(sector: &[u8]) -> bool
+    ensures { λ r. ⌜ r ≡ allowsWriting (now (sector .entry)) ⌝ }
+{
+    let version = parts::byte_at(sector, 2);
+    if version == 0x41 {
+        return true;
+    }
+    version == 0
+}
+
+// The number of 18/0.
+const MAP_SECTOR: usize = 357;
+
+// The map of an image, by value.
+pub fn map_of(img: &[u8]) -> [[u8; 4]; 35]
+    ensures { λ r. ⌜ r ≡ mapEntries (disk (now (img .entry)) (sectorNumber layout35 mapAddress)) ⌝ }
+{
+    load_map(sectors::sector(img, MAP_SECTOR))
+}
+
+// Whether the DOS version of an image allows writing: $41 or $00.
+pub fn may_write(img: &[u8]) -> bool
+    ensures { λ r. ⌜ r ≡ writable layout35 (disk (now (img .entry))) ⌝ }
+{
+    allows_writing(sectors::sector(img, MAP_SECTOR))
+}
+
+// Puts the map into 18/0; no byte outside its 35 entries changes. An image that does not have 18/0 whole is left as it is.
+pub fn write_map(img: &mut [u8], map: [[u8; 4]; 35])
+    ensures { λ _. ⌜ MapWritten (now (img .entry)) map (now (img .exit)) ⌝ }
+{
+    if img.len() < 91648 {
+        return;
+    }
+    store_map(map, &mut img[91392..91648]);
 }

@@ -1,10 +1,10 @@
--- Bytes set to 0 from the front on: a list filled with zeros (mapsector, FillLaws).
+-- Bytes set to 0 from the front on: a list filled with zeros (bam, FillLaws).
 use Prim.Native.Nat.{ℕ, zero, suc, _+_, _≤_, _<_}
 use mathlib.Core.Path.{_≡_, refl, ap, _∙_}
 use mathlib.Core.List.{_∷_, map}
 use lib.ListN.{length, set}
 use Rattle.d64spec.specs.Lists.{Bytes, range, zeros}
-use Rattle.mapsector.proofs.FillLaws.{Filling, filling-start, filling-moved, filling-finished}
+use Rattle.bam.proofs.FillLaws.{Filling, filling-start, filling-moved, filling-finished}
 
 -- the first i of n bytes are 0
 abbrev pub Clearing : ℕ → Bytes → ℕ → Type 0

@@ -18,8 +18,8 @@ use Rattle.d64spec.proofs.SpliceLaws.{length-splice}
 use Rattle.d64spec.proofs.FormatLaws.{header, header-same, padded-length}
 use Rattle.parts.specs.Overwrites.{overwritten}
 use Rattle.parts.proofs.OverwriteLaws.{overwritten-inside}
-use Rattle.mapentry.specs.MapEntry.{Entries}
-use Rattle.mapsector.specs.MapSector.{storedEntries}
+use Rattle.bam.specs.MapEntry.{Entries}
+use Rattle.bam.specs.MapSector.{storedEntries}
 
 -- ---- the runs of bytes
 

@@ -117,7 +117,7 @@ fn fresh_map_sector(name: &[u8], id1: u8, id2: u8) -> [u8; 256]
     ensures { λ r. ⌜ r ≡ formattedMap layout35 (now (name .entry)) id1 id2 ⌝ }
 {
     let mut m = fresh_header(name, id1, id2);
-    mapsector::store_map(fresh_map(), &mut m);
+    bam::store_map(fresh_map(), &mut m);
     m
 }
 

@@ -15,12 +15,12 @@ use Rattle.d64spec.specs.Image.{Disk}
 use Rattle.d64spec.specs.Map.{mapBit, mapOnes, expectedBit, wrongBits, entryCorrect}
 use Rattle.d64spec.specs.Check.{checkMap}
 use Rattle.owners.specs.OwnerTable.{freeBy}
-use Rattle.mapentry.specs.MapEntry.{Entries}
-use Rattle.mapentry.proofs.ShapeLaws.{EntryShape}
-use Rattle.mapsector.specs.MapSector.{mapEntry, mapEntries}
-use Rattle.mapsector.proofs.MapShapeLaws.{MapShape}
-use Rattle.bamlaws.proofs.SectorLaws.{entry-at-map-entries}
-use Rattle.bamlaws.proofs.EntryLaws.{expected-bit-same}
+use Rattle.bam.specs.MapEntry.{Entries}
+use Rattle.bam.proofs.ShapeLaws.{EntryShape}
+use Rattle.bam.specs.MapSector.{mapEntry, mapEntries}
+use Rattle.bam.proofs.MapShapeLaws.{MapShape}
+use Rattle.bam.proofs.SectorLaws.{entry-at-map-entries}
+use Rattle.bam.proofs.EntryLaws.{expected-bit-same}
 use Rattle.mapcheck.specs.MapChecks.{trackCorrect, mapVerdict}
 use Rattle.mapcheck.proofs.TrackLaws.{track-same}
 

@@ -12,9 +12,9 @@ use lib.Pow.{pow-pos}
 use lib.Dec.{eqb, leb}
 use borrow.Author.Tests.{eq-eqb, ne-eqb, le-leb, lt-leb, eqb-true, eqb-false}
 use Rattle.d64spec.specs.Lists.{indicator, range, sum}
-use Rattle.mapentry.specs.MapEntry.{binary}
-use Rattle.mapentry.proofs.SumLaws.{sum-map-last, sum-map-le}
-use Rattle.mapentry.proofs.BinaryLaws.{power-le, binary-more, binary-lt}
+use Rattle.bam.specs.MapEntry.{binary}
+use Rattle.bam.proofs.SumLaws.{sum-map-last, sum-map-le}
+use Rattle.bam.proofs.BinaryLaws.{power-le, binary-more, binary-lt}
 use Rattle.parts.specs.Numbers.{fourOf, IsFour}
 use Rattle.parts.proofs.NumberLaws.{each-four}
 use Rattle.mapcheck.specs.MapChecks.{freeBit, freeMask, freeCount, Surveyed, unownedTrack}

@@ -16,12 +16,12 @@ use Rattle.d64spec.proofs.MapLaws.{filter-none, none-filter, range-at, range-al
 use Rattle.d64spec.proofs.MapWriteLaws.{sum-same, bit-le}
 use Rattle.d64spec.proofs.RunTheorem.{valid35}
 use Rattle.owners.specs.OwnerTable.{freeBy}
-use Rattle.mapentry.specs.MapEntry.{entryBit, binary, bitmapOf}
-use Rattle.mapentry.proofs.ShapeLaws.{EntryShape}
-use Rattle.mapentry.proofs.BitLaws.{entry-bit-le}
-use Rattle.mapentry.proofs.BinaryLaws.{binary-same, bits-same, binary-past, bitmap-binary}
-use Rattle.mapsector.specs.MapSector.{mapEntry, fourBytes}
-use Rattle.bamlaws.proofs.SectorLaws.{bit-map-entry}
+use Rattle.bam.specs.MapEntry.{entryBit, binary, bitmapOf}
+use Rattle.bam.proofs.ShapeLaws.{EntryShape}
+use Rattle.bam.proofs.BitLaws.{entry-bit-le}
+use Rattle.bam.proofs.BinaryLaws.{binary-same, bits-same, binary-past, bitmap-binary}
+use Rattle.bam.specs.MapSector.{mapEntry, fourBytes}
+use Rattle.bam.proofs.SectorLaws.{bit-map-entry}
 use Rattle.mapcheck.specs.MapChecks.{freeBit, freeMask, freeCount, Surveyed, trackCorrect}
 use Rattle.mapcheck.specs.declared.FreeSectors.{FreeSectors}
 

@@ -94,7 +94,7 @@ fn entry_correct(entry: [u8; 4], own: &[u8; 683], track: u8) -> bool
 pub fn check_map(sector: &[u8], own: &[u8; 683]) -> Verdict
     ensures { λ r. ⌜ verdictOf r ≡ mapVerdict (now (sector .entry)) (now (own .entry)) ⌝ }
 {
-    let map = mapsector::load_map(sector);
+    let map = bam::load_map(sector);
     let mut track: u8 = 1;
     while track <= 35 {
         let i = (track - 1) as usize;

@@ -15,7 +15,7 @@ use Rattle.d64spec.specs.Answers.{Address, address}
 use Rattle.d64spec.specs.Geometry.{layout35, tracks, sectorsOn, sectorsOfTrack, allocationTracks, allocationOrder}
 use Rattle.d64spec.proofs.SplitLaws.{filter-append}
 use Rattle.geometry.proofs.Every.{every-at}
-use Rattle.mapentry.specs.MapEntry.{Entries, bitmapOf}
+use Rattle.bam.specs.MapEntry.{Entries, bitmapOf}
 use Rattle.bam.specs.Bam.{entryOf, markedFree}
 use Rattle.placement.specs.Placements.{OrderTrack, PlacedBehind, TrackRoom, Placed, markedIn, freeOnTrack, freePlaces, firstPlaces, firstPacked, directoryPlace}
 use Rattle.placement.proofs.BehindLaws.{placed-none, placed-full, placed-both, room-placed, length-placed}

@@ -21,7 +21,7 @@ use Rattle.d64spec.proofs.SplitLaws.{mem-filter, all-mem}
 use Rattle.d64spec.proofs.StoreStep.{placement-taken}
 use Rattle.d64spec.proofs.RunTheorem.{valid35}
 use Rattle.geometry.specs.Layout.{packed, unpacked}
-use Rattle.mapentry.specs.MapEntry.{Entries}
+use Rattle.bam.specs.MapEntry.{Entries}
 use Rattle.bam.specs.Bam.{markedFree}
 use Rattle.placement.specs.Placements.{Placed, freePlaces, firstPlaces, firstPacked, directoryPlace}
 

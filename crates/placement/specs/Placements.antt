@@ -11,7 +11,7 @@ use Rattle.d64spec.specs.Lists.{Bytes, filter, splice}
 use Rattle.d64spec.specs.Answers.{Address}
 use Rattle.d64spec.specs.Geometry.{layout35, sectorsOfTrack, allocationTracks, allocationOrder}
 use Rattle.geometry.specs.Layout.{packed}
-use Rattle.mapentry.specs.MapEntry.{Entries, bitmapOf}
+use Rattle.bam.specs.MapEntry.{Entries, bitmapOf}
 use Rattle.bam.specs.Bam.{markedFree}
 
 -- t is the track at index i of the allocation order, one of the 35 (01, Store: house order)

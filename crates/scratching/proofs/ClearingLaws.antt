@@ -24,10 +24,10 @@ use Rattle.parts.specs.Overwrites.{overwritten}
 use Rattle.parts.proofs.OverwriteLaws.{overwritten-inside}
 use Rattle.sectors.specs.Sectors.{Inside}
 use Rattle.sectors.proofs.SectorLaws.{length-withSector, disk-withSector, sector-lent, sector-back}
-use Rattle.mapentry.specs.MapEntry.{Entries}
+use Rattle.bam.specs.MapEntry.{Entries}
 use Rattle.bam.specs.Bam.{movedMark}
-use Rattle.bamlaws.specs.Expected.{Expects, freeAfter}
-use Rattle.bamlaws.proofs.FollowLaws.{expects-start, expects-moved, expects-agree}
+use Rattle.bam.specs.Expected.{Expects, freeAfter}
+use Rattle.bam.proofs.FollowLaws.{expects-start, expects-moved, expects-agree}
 use Rattle.diskcheck.specs.EndTable.{endOf}
 use Rattle.reading.specs.ChainReads.{linkOf, sectorsFrom, ChainFrom}
 use Rattle.reading.proofs.ChainStepLaws.{Visited, Follows, sectors-first, last-alone, follows}

@@ -31,10 +31,10 @@ use Rattle.sectors.specs.Sectors.{overwrittenIn}
 use Rattle.sectors.proofs.SectorLaws.{disk-overwrittenIn, length-overwrittenIn}
 use Rattle.answers.specs.declared.Verdict.the-variants.{Fine}
 use Rattle.answers.specs.Faults.{verdictOf, answerTo, replyOf}
-use Rattle.mapentry.specs.MapEntry.{Entries}
-use Rattle.mapsector.specs.MapSector.{storedEntries}
-use Rattle.bamlaws.specs.Expected.{Expects, freeAfter}
-use Rattle.bamlaws.proofs.FollowLaws.{expects-loaded, expects-agree, map-follows}
+use Rattle.bam.specs.MapEntry.{Entries}
+use Rattle.bam.specs.MapSector.{storedEntries}
+use Rattle.bam.specs.Expected.{Expects, freeAfter}
+use Rattle.bam.proofs.FollowLaws.{expects-loaded, expects-agree, map-follows}
 use Rattle.directory.proofs.Track18Laws.{number-18}
 use Rattle.diskcheck.specs.EndTable.{endOf}
 use Rattle.diskcheck.proofs.CheckedLaws.{end-tells}
@@ -43,7 +43,7 @@ use Rattle.reading.specs.FileSlots.{firstOf}
 use Rattle.reading.proofs.ChainStepLaws.{sectorsFrom-le, sectors-first}
 use Rattle.reading.proofs.FileLaws.{sectors-of, chain-of}
 use Rattle.scratching.specs.declared.Cleared.{Cleared}
-use Rattle.imagemap.specs.ImageMaps.{MapWritten}
+use Rattle.bam.specs.ImageMaps.{MapWritten}
 use Rattle.scratching.specs.Scratches.{ChainCleared, startOf, EntryOwned, FileCleared, slotOn, fileOn, FileThere}
 
 -- what a scratch counts of a chain cleared: at least one sector, a last byte as a file's has it, and so the file's length (01, Chains)

@@ -16,14 +16,14 @@ use Rattle.d64spec.specs.Reply.{validNameArgument, writable}
 use Rattle.d64spec.specs.Scratch.{clearSectors}
 use Rattle.geometry.specs.Layout.{IsFirsts}
 use Rattle.sectors.specs.Sectors.{overwrittenIn}
-use Rattle.mapentry.specs.MapEntry.{Entries}
-use Rattle.mapsector.specs.MapSector.{mapEntries}
-use Rattle.bamlaws.specs.Expected.{Expects, freeAfter}
+use Rattle.bam.specs.MapEntry.{Entries}
+use Rattle.bam.specs.MapSector.{mapEntries}
+use Rattle.bam.specs.Expected.{Expects, freeAfter}
 use Rattle.diskcheck.specs.EndTable.{endOf}
 use Rattle.finding.specs.FileSlots.{CheckedSlots}
 use Rattle.reading.specs.ChainReads.{linkOf, sectorsFrom, ChainFrom}
 use Rattle.reading.specs.FileSlots.{firstOf}
-use Rattle.imagemap.specs.ImageMaps.{MapWritten}
+use Rattle.bam.specs.ImageMaps.{MapWritten}
 use Rattle.scratching.specs.declared.Cleared.{Cleared}
 
 -- ---- a sector

@@ -16,7 +16,7 @@ ghost use Rattle.geometry.specs.Layout.{addressOf};
 ghost use Rattle.sectors.specs.Sectors.{Inside, overwrittenIn};
 ghost use Rattle.answers.specs.Faults.{replyOf};
 ghost use Rattle.finding.specs.FileSlots.{slotNamed, CheckedSlots};
-ghost use Rattle.imagemap.specs.ImageMaps.{MapWritten};
+ghost use Rattle.bam.specs.ImageMaps.{MapWritten};
 ghost use Rattle.scratching.specs.Scratches.{Unlinked, SectorCleared, ChainOwned, ClearReady, ChainCleared, startOf, EntryOwned, FileCleared, fileOn, FileThere, MayScratch};
 use answers::Fault;
 use answers::Report;
@@ -107,7 +107,7 @@ fn clear_slot(img: &mut [u8], holder: u8, index: usize, map: [[u8; 4]; 35])
 {
     let blank = [0u8; 30];
     sectors::overwrite_in(img, 357 + holder as usize, 32 * index + 2, &blank);
-    imagemap::write_map(img, map);
+    bam::write_map(img, map);
 }
 
 // Clears the chain that this slot starts, and the slot itself; the map follows.
@@ -116,7 +116,7 @@ fn clear_file(img: &mut [u8], holder: u8, index: usize) -> Cleared
     ensures { λ r. ⌜ FileCleared (now (img .entry)) holder index r (now (img .exit)) ⌝ }
 {
     let first = first_of(img, holder, index);
-    let mut map = imagemap::map_of(img);
+    let mut map = bam::map_of(img);
     let cleared = clear_chain(img, first, &mut map);
     clear_slot(img, holder, index, map);
     cleared
@@ -162,7 +162,7 @@ fn scratch_checked(img: &mut [u8], name: &[u8], sectors: &[u8; 18], end: usize) 
     requires { ⌜ CheckedSlots (now img) (now sectors) end × (validNameArgument (now name) ≡ true) ⌝ }
     ensures { λ r. ⌜ replyOf r (now (img .exit)) [] ≡ perform layout35 (now (img .entry)) (scratch (now (name .entry))) ⌝ }
 {
-    if !imagemap::may_write(img) {
+    if !bam::may_write(img) {
         return answers::refuse(Fault::WriteForbidden);
     }
     scratch_named(img, name, sectors, end)

@@ -14,7 +14,7 @@ use Rattle.d64spec.specs.Image.{Disk, disk, put}
 use Rattle.d64spec.specs.Store.{writeChain}
 use Rattle.d64spec.proofs.PlaceLaws.{all-at}
 use Rattle.geometry.specs.Layout.{unpacked}
-use Rattle.mapentry.specs.MapEntry.{Entries}
+use Rattle.bam.specs.MapEntry.{Entries}
 use Rattle.bam.specs.Bam.{movedMark, movedMarks}
 use Rattle.parts.proofs.PartLaws.{part-to-end}
 use Rattle.storing.specs.Writes.{linkedSector, lastSector, SectorReady, SectorWritten, ChainReady, ChainWritten}

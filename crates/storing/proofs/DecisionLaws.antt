@@ -26,8 +26,8 @@ use Rattle.answers.specs.declared.Fault.the-variants.{WriteForbidden, NameExist
 use Rattle.answers.specs.declared.Verdict.the-variants.{Fine, Refused}
 use Rattle.answers.specs.declared.Report.{Report}
 use Rattle.answers.specs.Faults.{faultOf, replyOf}
-use Rattle.mapentry.specs.MapEntry.{Entries}
-use Rattle.mapsector.specs.MapSector.{mapEntries}
+use Rattle.bam.specs.MapEntry.{Entries}
+use Rattle.bam.specs.MapSector.{mapEntries}
 use Rattle.diskcheck.specs.declared.Checked.{Checked}
 use Rattle.diskcheck.specs.ImageChecks.{ImageChecked}
 use Rattle.diskcheck.proofs.CheckedLaws.{fine-image}

@@ -34,14 +34,14 @@ use Rattle.d64spec.proofs.StoreLaws.{StoreLeaves}
 use Rattle.d64spec.proofs.StoreStep.{PlaceCase, directory-stay, stored}
 use Rattle.d64spec.proofs.WriteChainLaws.{Fits, sectors-fit}
 use Rattle.geometry.specs.Layout.{unpacked}
-use Rattle.mapentry.specs.MapEntry.{Entries}
-use Rattle.mapsector.specs.MapSector.{storedEntries}
+use Rattle.bam.specs.MapEntry.{Entries}
+use Rattle.bam.specs.MapSector.{storedEntries}
 use Rattle.bam.specs.Bam.{movedMark, movedMarks}
-use Rattle.bamlaws.specs.Expected.{Expects, freeAfter}
-use Rattle.bamlaws.proofs.FollowLaws.{expects-loaded, expects-agree, expects-marks, map-follows}
+use Rattle.bam.specs.Expected.{Expects, freeAfter}
+use Rattle.bam.proofs.FollowLaws.{expects-loaded, expects-agree, expects-marks, map-follows}
 use Rattle.storing.specs.declared.room.EntryPlace.{EntryPlace}
 use Rattle.storing.specs.Plans.{PlaceIs, WriteReady, FileWritten}
-use Rattle.imagemap.specs.ImageMaps.{MapWritten}
+use Rattle.bam.specs.ImageMaps.{MapWritten}
 use Rattle.storing.specs.Writes.{entryDisk, ChainWritten, EntryLaid}
 use Rattle.storing.proofs.EntryWriteLaws.{writeSlot-place}
 use Rattle.storing.proofs.WriteReadyLaws.{places-taken, length-refs, places-some, place-found, size35, new-free}

@@ -26,9 +26,9 @@ use Rattle.diskcheck.specs.SlotChecks.{imageSlot}
 use Rattle.finding.specs.FileSlots.{slotEmpty, CheckedSlots}
 use Rattle.finding.proofs.CheckedSlotLaws.{lentTrack18}
 use Rattle.finding.proofs.EmptyLaws.{empty-none, empty-some}
-use Rattle.mapentry.specs.MapEntry.{Entries}
-use Rattle.mapsector.specs.MapSector.{mapEntries}
-use Rattle.bamlaws.proofs.FollowLaws.{expects-loaded, markedFree-expected}
+use Rattle.bam.specs.MapEntry.{Entries}
+use Rattle.bam.specs.MapSector.{mapEntries}
+use Rattle.bam.proofs.FollowLaws.{expects-loaded, markedFree-expected}
 use Rattle.placement.specs.Placements.{Placed, directoryPlace}
 use Rattle.placement.proofs.PlaceLaws.{MarksFree, few-places, places-count, places-few, places-named, directory-none, directory-lowest}
 use Rattle.storing.specs.declared.room.Room.{Room}

@@ -16,7 +16,7 @@ use Rattle.d64spec.proofs.RunTheorem.{sectors35}
 use Rattle.geometry.specs.Layout.{unpacked, numberBy, IsFirsts}
 use Rattle.sectors.specs.Sectors.{Inside, withSector}
 use Rattle.sectors.proofs.SectorLaws.{length-withSector, disk-withSector, sector-back}
-use Rattle.mapentry.specs.MapEntry.{Entries}
+use Rattle.bam.specs.MapEntry.{Entries}
 use Rattle.bam.specs.Bam.{movedMark}
 use Rattle.parts.proofs.PartLaws.{drop-replicate}
 use Rattle.storing.specs.Writes.{lastSector, StartsAt, SectorReady, SectorWritten}

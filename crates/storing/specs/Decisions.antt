@@ -15,8 +15,8 @@ use Rattle.d64spec.specs.Reply.{validNameArgument, storableKind, writable, file
 use Rattle.d64spec.specs.Store.{sectorsNeeded, slotPlaceFor}
 use Rattle.directory.specs.Directories.{sectorsOf}
 use Rattle.finding.specs.FileSlots.{slotEmpty, CheckedSlots}
-use Rattle.mapentry.specs.MapEntry.{Entries}
-use Rattle.mapsector.specs.MapSector.{mapEntries}
+use Rattle.bam.specs.MapEntry.{Entries}
+use Rattle.bam.specs.MapSector.{mapEntries}
 use Rattle.placement.specs.Placements.{directoryPlace}
 use Rattle.storing.specs.declared.room.EntryPlace.{EntryPlace}
 use Rattle.storing.specs.declared.room.Room.{Room}

@@ -15,8 +15,8 @@ use Rattle.d64spec.specs.Accepted.{Accepted}
 use Rattle.d64spec.specs.Reply.{validNameArgument, storableKind, filesNamed}
 use Rattle.d64spec.specs.Store.{SlotPlace, inEmptySlot, inNewSector, slotPlaceFor, sectorsNeeded, placement, lastOf, storeChange}
 use Rattle.geometry.specs.Layout.{unpacked}
-use Rattle.mapentry.specs.MapEntry.{Entries}
-use Rattle.mapsector.specs.MapSector.{mapEntries}
+use Rattle.bam.specs.MapEntry.{Entries}
+use Rattle.bam.specs.MapSector.{mapEntries}
 use Rattle.storing.specs.declared.room.EntryPlace.{EntryPlace}
 
 -- the code's struct names this place of the definitions

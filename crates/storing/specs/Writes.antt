@@ -1,5 +1,5 @@
 -- What a store writes, part by part (01, Store): each part's bytes, what it may rely on, and what it leaves.
--- In order: the two kinds of sector of a chain; one sector; a chain; the directory grown; an entry at its place. The map in its sector: crate imagemap.
+-- In order: the two kinds of sector of a chain; one sector; a chain; the directory grown; an entry at its place. The map in its sector: crate bam.
 -- Laws: proofs/SectorWriteLaws, ChainWriteLaws, EntryWriteLaws; WriteReadyLaws and FileWriteLaws for the whole.
 use Prim.Native.Nat.{ℕ, suc, _+_, _-_, _*_, _≤_, _<_}
 use mathlib.Core.Path.{_≡_}
@@ -13,7 +13,7 @@ use Rattle.d64spec.specs.Image.{Disk, disk, put}
 use Rattle.d64spec.specs.Format.{emptyDirectorySector}
 use Rattle.d64spec.specs.Store.{writeChain, overwriteSlot}
 use Rattle.geometry.specs.Layout.{unpacked, IsFirsts}
-use Rattle.mapentry.specs.MapEntry.{Entries}
+use Rattle.bam.specs.MapEntry.{Entries}
 use Rattle.bam.specs.Bam.{movedMark, movedMarks}
 use Rattle.storing.specs.declared.room.EntryPlace.{EntryPlace}
 

@@ -71,7 +71,7 @@ fn store_new(
     requires { ⌜ StoreNew (now img) (now name) kind (now sectors) count ⌝ }
     ensures { λ r. ⌜ replyOf r (now (img .exit)) [] ≡ perform layout35 (now (img .entry)) (store (now (name .entry)) kind (now (content .entry))) ⌝ }
 {
-    let map = imagemap::map_of(img);
+    let map = bam::map_of(img);
     let room = room::room_in(img, sectors, count, &map);
     match room {
         Room::Full => answers::refuse(Fault::DirectoryFull),
@@ -91,7 +91,7 @@ fn store_checked(
     requires { ⌜ StoreChecked (now img) (now name) kind (now sectors) count ⌝ }
     ensures { λ r. ⌜ replyOf r (now (img .exit)) [] ≡ perform layout35 (now (img .entry)) (store (now (name .entry)) kind (now (content .entry))) ⌝ }
 {
-    if !imagemap::may_write(img) {
+    if !bam::may_write(img) {
         return answers::refuse(Fault::WriteForbidden);
     }
     if !is_new(img, name, sectors, 8 * count) {

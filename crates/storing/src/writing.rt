@@ -174,5 +174,5 @@ pub(crate) fn write_file(
     if place.grown {
         bam::move_mark(&mut marks, 18 * 256 + place.sector as u16, USED);
     }
-    imagemap::write_map(img, marks);
+    bam::write_map(img, marks);
 }

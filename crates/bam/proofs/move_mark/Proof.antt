@@ -21,11 +21,11 @@ mul-entry c = search needs
 element-copy-out-entry : tie.Need-element-copy-out-entry
 element-copy-out-entry c = omega arith
 
-cast-move-mark : tie.Need-cast-move-mark
-cast-move-mark c = search needs
+cast-moved-entry : tie.Need-cast-moved-entry
+cast-moved-entry c = search needs
 
-move-mark-requires : tie.Need-move-mark-requires
-move-mark-requires c κs = search needs
+moved-entry-requires : tie.Need-moved-entry-requires
+moved-entry-requires c κs = search needs
 
 mul-t9 : tie.Need-mul-t9
 mul-t9 c = search needs
@@ -35,7 +35,7 @@ element-set-from-map c = omega arith
 
 returns-3 : tie.Need-returns-3
 unfolding entryOf withEntry
-returns-3 c = moved-mark-entry _ _ _ (record { low = omega arith; high = omega arith }) (c .move-mark .ensures)
+returns-3 c = moved-mark-entry _ _ _ (record { low = omega arith; high = omega arith }) (c .moved-entry .ensures)
 
 pub move-mark-spec : {M : Type 1} → statement M
 move-mark-spec =
@@ -46,8 +46,8 @@ move-mark-spec =
     returns-2
     mul-entry
     element-copy-out-entry
-    cast-move-mark
-    move-mark-requires
+    cast-moved-entry
+    moved-entry-requires
     mul-t9
     element-set-from-map
     returns-3)

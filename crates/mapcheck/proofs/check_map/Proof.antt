@@ -4,7 +4,7 @@ use Prim.Native.Nat.{_-_}
 use native.Mathlib.Omega.{arith}
 use borrow.Author.Needs.{needs}
 use borrow.Author.Tests.{not-true, not-false}
-use Rattle.mapsector.proofs.MapShapeLaws.{MapShape, map-shaped}
+use Rattle.bam.proofs.MapShapeLaws.{MapShape, map-shaped}
 use Rattle.answers.specs.Faults.{faultOf, verdictOf}
 use Rattle.mapcheck.proofs.StepLaws.{Checking, checking-start, checking-moved, checking-wrong, checking-finished}
 use Rattle.mapcheck.proofs.check_map.Statement.{statement}

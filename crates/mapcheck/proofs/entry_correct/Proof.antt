@@ -3,8 +3,8 @@
 use native.Mathlib.Omega.{arith}
 use borrow.Author.Needs.{needs}
 use Rattle.geometry.proofs.TableLaws.{track-end-le}
-use Rattle.mapentry.specs.MapEntry.{bitmapOf}
-use Rattle.mapentry.proofs.ShapeLaws.{EntryShape, entry-shaped}
+use Rattle.bam.specs.MapEntry.{bitmapOf}
+use Rattle.bam.proofs.ShapeLaws.{EntryShape, entry-shaped}
 use Rattle.mapcheck.proofs.TrackLaws.{track-wrong, track-by-count}
 use Rattle.mapcheck.proofs.entry_correct.Statement.{statement}
 use Rattle.mapcheck.proofs.entry_correct.Tie as tie

@@ -5,8 +5,8 @@ use native.Mathlib.Omega.{arith}
 use mathlib.Core.Path.{refl}
 use mathlib.Core.Logic.{⊎-elim}
 use borrow.Author.Needs.{needs}
-use Rattle.mapentry.specs.MapEntry.{bitmapOf}
-use Rattle.mapentry.proofs.ShapeLaws.{EntryShape, entry-shaped}
+use Rattle.bam.specs.MapEntry.{bitmapOf}
+use Rattle.bam.proofs.ShapeLaws.{EntryShape, entry-shaped}
 use Rattle.placement.proofs.TrackLaws.{Taking, taking-start, taking-free, taking-used, taking-none, taking-full, taking-finished}
 use Rattle.placement.proofs.take_track.Statement.{statement}
 use Rattle.placement.proofs.take_track.Tie as tie

@@ -1,0 +1,21 @@
+-- What a map by value says of the free sectors (01, The map, 18/0; Store and Scratch: the map follows). Laws: proofs/FollowLaws.
+use Prim.Native.Nat.{ℕ, _≤_}
+use mathlib.Core.Path.{_≡_}
+use mathlib.Core.Bool.{Bool, cond}
+use mathlib.Core.List.{List, map}
+use lib.ListN.{length}
+use Rattle.d64spec.specs.Lists.{member}
+use Rattle.d64spec.specs.Answers.{Address}
+use Rattle.d64spec.specs.Geometry.{layout35, sectorNumber}
+use Rattle.d64spec.specs.Map.{expectedEntry}
+use Rattle.bam.specs.MapEntry.{Entries}
+use Rattle.bam.specs.Bam.{entryOf}
+
+-- every entry of the map is the one that these free sectors ask for
+pub record Expects (free : Address → Bool) (es : Entries) : Type 0 where
+  pub size : length es ≡ 35
+  pub entry : (t : ℕ) → 1 ≤ t → t ≤ 35 → entryOf es t ≡ expectedEntry layout35 free t
+
+-- which sectors are free once those of a list are given back, or else taken
+unfoldable pub freeAfter : Bool → List Address → (Address → Bool) → Address → Bool
+freeAfter free l before r = cond (member (sectorNumber layout35 r) (map (sectorNumber layout35) l)) free (before r)

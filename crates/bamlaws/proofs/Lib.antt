@@ -1,4 +1,0 @@
-pub mod SectorLaws
-pub mod EntryLaws
-pub mod StoredLaws
-pub mod FollowLaws
