@@ -8,13 +8,15 @@ use mathlib.Core.List.{[], _∷_, map}
 use lib.Dec.{ltb}
 use borrow.Author.Tests.{lt-ltb, ltb-true}
 use Rattle.d64spec.specs.Lists.{Bytes, byte, indicator, range, sum}
+use Rattle.d64spec.specs.Bits.{bitOf, binary}
 use Rattle.d64spec.specs.Answers.{Address, address}
 use Rattle.d64spec.specs.Geometry.{Geometry, Valid, sectorsOn}
 use Rattle.d64spec.specs.Map.{expectedBit, bitmapByte, expectedEntry}
-use Rattle.d64spec.proofs.MapWriteLaws.{bit-le}
-use Rattle.bam.specs.MapEntry.{entryBit, binary, bitmapOf, entryFrom, movedEntry}
-use Rattle.bam.proofs.SumLaws.{sum-map-le, sum-map-more}
-use Rattle.bam.proofs.BinaryLaws.{power-le, binary-lt, binary-same, binary-set, binary-bit, bitmap-binary}
+use Rattle.d64spec.proofs.SumLaws.{sum-map-le, sum-map-more}
+use Rattle.d64spec.proofs.BitLaws.{binary-lt, binary-same, binary-set, binary-bit}
+use Rattle.d64spec.proofs.MapWriteLaws.{expected-le}
+use Rattle.bam.specs.MapEntry.{entryBit, bitmapOf, entryFrom, movedEntry}
+use Rattle.bam.proofs.BitmapLaws.{power-le, bitmap-binary}
 use Rattle.bam.proofs.ShapeLaws.{EntryShape}
 use Rattle.bam.proofs.JoinLaws.{four}
 
@@ -56,9 +58,9 @@ module _ (g : Geometry) (f h : Address → Bool) (t : ℕ) where
   expected-entry-same same =
       ap (λ (bit : ℕ → ℕ).
       sum (map bit (range 0 (sectorsOn g t)))
-      ∷ sum (map (λ i. bit (8 * 0 + i) * 2 ^ i) (range 0 8))
-      ∷ sum (map (λ i. bit (8 * 1 + i) * 2 ^ i) (range 0 8))
-      ∷ sum (map (λ i. bit (8 * 2 + i) * 2 ^ i) (range 0 8))
+      ∷ binary (λ i. bit (8 * 0 + i)) 8
+      ∷ binary (λ i. bit (8 * 1 + i)) 8
+      ∷ binary (λ i. bit (8 * 2 + i)) 8
       ∷ []) (fun-ext (λ s. expected-bit-same s (same s)))
 
 -- ---- its bitmap and its count
@@ -72,7 +74,7 @@ module _ (g : Geometry) (valid : Valid g) (free : Address → Bool) (t : ℕ) wh
   ones = sum (map bits (range 0 (sectorsOn g t)))
 
   ones-le : ones ≤ 24
-  ones-le = omega (arith, sum-map-le bits (bit-le g valid free t) 0 (sectorsOn g t), valid .small t)
+  ones-le = omega (arith, sum-map-le bits (expected-le g valid free t) 0 (sectorsOn g t), valid .small t)
 
   three-bytes : binary bits 24 ≡ bitmapByte g free t 0 + 256 * bitmapByte g free t 1 + 65536 * bitmapByte g free t 2
   unfolding bitmapByte binary
@@ -83,18 +85,18 @@ module _ (g : Geometry) (valid : Valid g) (free : Address → Bool) (t : ℕ) wh
   count-expected = refl
 
   bits-lt : binary bits 24 < 16777216
-  bits-lt = binary-lt bits (bit-le g valid free t) 24
+  bits-lt = binary-lt bits (expected-le g valid free t) 24
 
   bitmap-expected : bitmapOf (expectedEntry g free t) ≡ binary bits 24
   unfolding bitmapOf expectedEntry
   bitmap-expected = sym three-bytes
 
-  pub bit-expected : (s : ℕ) → s < 24 → bitmapOf (expectedEntry g free t) / 2 ^ s % 2 ≡ bits s
-  bit-expected s h = ap (λ (x : ℕ). x / 2 ^ s % 2) bitmap-expected ∙ binary-bit bits (bit-le g valid free t) 24 s h
+  pub bit-expected : (s : ℕ) → s < 24 → bitOf (bitmapOf (expectedEntry g free t)) s ≡ bits s
+  bit-expected s h = ap (λ (x : ℕ). bitOf x s) bitmap-expected ∙ binary-bit bits (expected-le g valid free t) 24 s h
 
   bitmap-byte-lt : (j : ℕ) → bitmapByte g free t j < 256
-  unfolding bitmapByte binary
-  bitmap-byte-lt j = binary-lt (λ i. expectedBit g free t (8 * j + i)) (λ i. bit-le g valid free t (8 * j + i)) 8
+  unfolding bitmapByte
+  bitmap-byte-lt j = binary-lt (λ i. expectedBit g free t (8 * j + i)) (λ i. expected-le g valid free t (8 * j + i)) 8
 
   -- ---- known by these
 

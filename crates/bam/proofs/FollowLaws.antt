@@ -11,6 +11,7 @@ use lib.Seq.{getD-set-same, getD-set-other}
 use lib.Dec.{eqb, ltb}
 use borrow.Author.Tests.{lt-ltb, ltb-true, eq-eqb, ne-eqb}
 use Rattle.d64spec.specs.Lists.{Bytes, All, byte, count, indicator}
+use Rattle.d64spec.specs.Bits.{bitOf}
 use Rattle.d64spec.specs.Answers.{Address, address}
 use Rattle.d64spec.specs.Geometry.{layout35, tracks, sectorsOn, sectorNumber, onDisk, mapAddress}
 use Rattle.d64spec.specs.Image.{Disk, put}
@@ -19,7 +20,7 @@ use Rattle.d64spec.specs.Map.{mapBit, mapOnes, expectedBit, expectedEntry, rewr
 use Rattle.d64spec.specs.Accepted.{AcceptedDisk, MarksFree}
 use Rattle.d64spec.proofs.AllocationLaws.{one-track}
 use Rattle.d64spec.proofs.MapLaws.{in-bit, past-bit, sum-of-mark}
-use Rattle.d64spec.proofs.MapWriteLaws.{sum-same}
+use Rattle.d64spec.proofs.SumLaws.{sum-same}
 use Rattle.d64spec.proofs.RunTheorem.{valid35}
 use Rattle.geometry.proofs.LentTableLaws.{tracks-of-onDisk}
 use Rattle.bam.specs.MapEntry.{Entries, bitmapOf, movedEntry}
@@ -82,8 +83,8 @@ pub markedFree-expected : {free : Address → Bool} {es : Entries} → Expects f
 unfolding markedFree expectedBit
 markedFree-expected {free} {es} e r on =
     let track = track-on r on in
-    let bit : bitmapOf (entryOf es (r .track)) / 2 ^ r .sector % 2 ≡ indicator (free r)
-    = ap (λ (x : Bytes). bitmapOf x / 2 ^ r .sector % 2) (e .entry (r .track) (track .low) (track .high))
+    let bit : bitOf (bitmapOf (entryOf es (r .track))) (r .sector) ≡ indicator (free r)
+    = ap (λ (x : Bytes). bitOf (bitmapOf x) (r .sector)) (e .entry (r .track) (track .low) (track .high))
     ∙ bit-expected layout35 valid35 free (r .track) (r .sector) (omega (arith, sector-on r on, valid35 .small (r .track)))
     ∙ ap (λ (b : Bool). indicator (b && free r)) (lt-ltb _ _ (sector-on r on)) in
     ap (λ (x : ℕ). eqb x 1) bit ∙ indicator-one (free r)

@@ -1,8 +1,5 @@
-pub mod BelowLaws
-pub mod BitLaws
-pub mod SumLaws
-pub mod BinaryLaws
 pub mod ShapeLaws
+pub mod BitmapLaws
 pub mod MoveLaws
 pub mod TrackLaws
 pub mod FillLaws

@@ -5,10 +5,11 @@ use mathlib.Core.Path.{_≡_, refl, ap, _∙_}
 use mathlib.Core.List.{[]}
 use lib.ListN.{length, getD}
 use Rattle.d64spec.specs.Lists.{Bytes, byte}
+use Rattle.d64spec.specs.Bits.{bitOf}
 use Rattle.d64spec.specs.Geometry.{Geometry, layout35, tracks}
 use Rattle.d64spec.specs.Map.{mapBit}
 use Rattle.d64spec.proofs.ListLaws.{getD-map-range}
-use Rattle.bam.specs.MapEntry.{bitOf, entryBit}
+use Rattle.bam.specs.MapEntry.{entryBit}
 use Rattle.bam.proofs.ShapeLaws.{EntryShape}
 use Rattle.bam.specs.MapSector.{fourBytes, mapEntry, mapEntries}
 use Rattle.bam.proofs.FillLaws.{length-map-range}
@@ -41,10 +42,10 @@ module _ (g : Geometry) (m : Bytes) (t : ℕ) where
       small (suc (suc (suc (suc j)))) = omega arith
 
   pub bit-map-entry : (s : ℕ) → s < 24 → entryBit (mapEntry g m t) s ≡ mapBit g m t s
-  unfolding entryBit bitOf mapBit
+  unfolding entryBit mapBit
   bit-map-entry s h =
       let z : g .mapAt t + (1 + s / 8) ≡ g .mapAt t + 1 + s / 8 = omega arith in
-      ap (λ (x : ℕ). x / 2 ^ (s % 8) % 2) (byte-map-entry (1 + s / 8) (omega arith) ∙ ap (byte m) z)
+      ap (λ (x : ℕ). bitOf x (s % 8)) (byte-map-entry (1 + s / 8) (omega arith) ∙ ap (byte m) z)
 
 -- ---- all of them
 

@@ -1,11 +1,12 @@
 -- The block availability map held by value (01, The map, 18/0): an entry of four bytes for each of 35 tracks, entry i for track i + 1.
 -- In order: an entry of the map; a mark asked for; a mark moved; several. Laws: proofs/FollowLaws has all that callers cite.
-use Prim.Native.Nat.{ℕ, _-_, _/_, _%_, _^_}
+use Prim.Native.Nat.{ℕ, _-_}
 use mathlib.Core.Bool.{Bool, cond, _&&_}
 use mathlib.Core.List.{List, [], _∷_}
 use lib.ListN.{getD, set}
 use lib.Dec.{eqb, leb}
 use Rattle.d64spec.specs.Lists.{Bytes}
+use Rattle.d64spec.specs.Bits.{bitOf}
 use Rattle.d64spec.specs.Answers.{Address}
 use Rattle.bam.specs.MapEntry.{Entries, bitmapOf, movedEntry}
 
@@ -23,7 +24,7 @@ withEntry es t e = set es (t - 1) e
 
 -- whether the map marks a sector free: its bit is 1 (01, The map)
 unfoldable pub markedFree : Entries → Address → Bool
-markedFree es r = eqb (bitmapOf (entryOf es (r .track)) / 2 ^ r .sector % 2) 1
+markedFree es r = eqb (bitOf (bitmapOf (entryOf es (r .track))) (r .sector)) 1
 
 -- the map with a sector marked free and counted in, or else marked used and counted out (01, Store and Scratch: the map follows); where the map
 -- has no such entry, the map as it is

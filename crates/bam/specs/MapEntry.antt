@@ -1,23 +1,16 @@
 -- One entry of the block availability map (01, The map, 18/0): four bytes, a count of free sectors and three bytes of bitmap.
--- In order: a bit of a byte, and of an entry; numbers made of bits; the bitmap as a number; a mark moved; the entries of all tracks.
--- Laws: proofs/BitLaws (a byte), BinaryLaws (numbers made of bits, the bitmap), ShapeLaws (four bytes).
+-- In order: a bit of an entry; the bitmap as a number; a mark moved; the entries of all tracks.
+-- Laws: proofs/BitmapLaws (the bitmap), ShapeLaws (four bytes), MoveLaws and EntryLaws (a mark moved).
 use Prim.Native.Nat.{ℕ, _+_, _-_, _*_, _/_, _%_, _^_}
 use mathlib.Core.Bool.{Bool, cond}
-use mathlib.Core.List.{List, [], _∷_, map}
+use mathlib.Core.List.{List, [], _∷_}
 use lib.Dec.{ltb}
-use Rattle.d64spec.specs.Lists.{Bytes, byte, sum, range}
-
--- bit k of a byte
-unfoldable pub bitOf : ℕ → ℕ → ℕ
-bitOf b k = b / 2 ^ k % 2
+use Rattle.d64spec.specs.Lists.{Bytes, byte}
+use Rattle.d64spec.specs.Bits.{bitOf}
 
 -- the bit for sector s (01, The map): bit (s mod 8) of byte 1 + (s div 8) of the entry
 unfoldable pub entryBit : Bytes → ℕ → ℕ
 entryBit e s = bitOf (byte e (1 + s / 8)) (s % 8)
-
--- the number whose bit s is f s, for each s below n
-unfoldable pub binary : (ℕ → ℕ) → ℕ → ℕ
-binary f n = sum (map (λ s. f s * 2 ^ s) (range 0 n))
 
 -- the three bitmap bytes of an entry as a number: bit s for sector s (01, The map)
 unfoldable pub bitmapOf : Bytes → ℕ

@@ -11,6 +11,7 @@ use Rattle.d64spec.specs.Image.{disk, image, put}
 use Rattle.d64spec.specs.Chain.{decodeDirectoryLink, decodeFileLink, directoryLink, fileLink, linkTo}
 use Rattle.d64spec.specs.Directory.{directorySectors, fileOf, files, firstLink, nameOf, occupied, padded, slotIn, slotsIn, validName, validType}
 use Rattle.d64spec.specs.Owner.{claimCount, claimList, claimsOf, freeForDirectory, freeForFiles}
+use Rattle.d64spec.specs.Bits.{bitOf, binary}
 use Rattle.d64spec.specs.Map.{bitmapByte, entryCorrect, expectedBit, expectedEntry, mapBit, mapOnes, rewriteMap, wrongBits}
 use Rattle.d64spec.specs.Check.{checkDirectory, checkDisk, checkEntry, checkImage, checkSlot, rightSize}
 use Rattle.d64spec.specs.Reply.{filesNamed, reply, storableKind, validNameArgument, writable}
@@ -56,7 +57,7 @@ pub tells-computed : map seen
     ∷ (1 ∷ (unplacedBlock ++ lent 24))
     ∷ (16 ∷ (lent 8 ++ lent 24))
     ∷ []
-unfolding hostTell hostForm tellInto entryBytes freshImage imageWithA afterCall sent smallLayout hostCall perform reply attempt outputBuffer answerBlock callFormat callStore callTell checkImage rightSize validNameArgument storableKind writable filesNamed image disk put first sectorNumber onDisk firstOn sectorsOn total tracks mapOnes mapBit sectorsNeeded allocationOrder allocationTracks ascending descending sectorsOfTrack lastOf formattedDisk formattedMap formatHeader freeAfterFormat padded expectedEntry expectedBit bitmapByte rewriteMap claimCount claimList claimsOf directorySectors files occupied fileOf slotIn slotsIn firstLink linkTo fileLink directoryLink decodeFileLink decodeDirectoryLink freeForFiles freeForDirectory emptySlots slotPlaceFor placement storedDisk writeSlot overwriteSlot growDirectory newEntry checkDisk checkDirectory checkSlot checkEntry entryCorrect wrongBits validType validName nameOf
+unfolding hostTell hostForm tellInto entryBytes freshImage imageWithA afterCall sent smallLayout hostCall perform reply attempt outputBuffer answerBlock callFormat callStore callTell checkImage rightSize validNameArgument storableKind writable filesNamed image disk put first sectorNumber onDisk firstOn sectorsOn total tracks mapOnes mapBit bitOf sectorsNeeded allocationOrder allocationTracks ascending descending sectorsOfTrack lastOf formattedDisk formattedMap formatHeader freeAfterFormat padded expectedEntry expectedBit bitmapByte binary rewriteMap claimCount claimList claimsOf directorySectors files occupied fileOf slotIn slotsIn firstLink linkTo fileLink directoryLink decodeFileLink decodeDirectoryLink freeForFiles freeForDirectory emptySlots slotPlaceFor placement storedDisk writeSlot overwriteSlot growDirectory newEntry checkDisk checkDirectory checkSlot checkEntry entryCorrect wrongBits validType validName nameOf
 tells-computed = refl
 
 -- LISTING: done, with the length of its 85 bytes and no sectors, and the rest of the text as it was, and with no rest; 16 for a short text; 1 before 16; 16 for the block before all
@@ -73,5 +74,5 @@ pub listings-computed : map (λ r. r .number ∷ (r .blockAfter ++ drop 85 (r .o
     ∷ (1 ∷ unplacedBlock)
     ∷ (16 ∷ lent 10)
     ∷ []
-unfolding hostListing hostForm listInto callListing listingText headFrame slotFrame line digit freeTotal diskOfTrack18 freshImage imageWithA afterCall sent smallLayout hostCall perform reply attempt outputBuffer answerBlock callFormat callStore checkImage rightSize validNameArgument storableKind writable filesNamed image disk put first sectorNumber onDisk firstOn sectorsOn total tracks mapOnes mapBit sectorsNeeded allocationOrder allocationTracks ascending descending sectorsOfTrack lastOf formattedDisk formattedMap formatHeader freeAfterFormat padded expectedEntry expectedBit bitmapByte rewriteMap claimCount claimList claimsOf directorySectors files occupied fileOf slotIn slotsIn firstLink linkTo fileLink directoryLink decodeFileLink decodeDirectoryLink freeForFiles freeForDirectory emptySlots slotPlaceFor placement storedDisk writeSlot overwriteSlot growDirectory newEntry checkDisk checkDirectory checkSlot checkEntry entryCorrect wrongBits validType validName nameOf
+unfolding hostListing hostForm listInto callListing listingText headFrame slotFrame line digit freeTotal diskOfTrack18 freshImage imageWithA afterCall sent smallLayout hostCall perform reply attempt outputBuffer answerBlock callFormat callStore checkImage rightSize validNameArgument storableKind writable filesNamed image disk put first sectorNumber onDisk firstOn sectorsOn total tracks mapOnes mapBit bitOf sectorsNeeded allocationOrder allocationTracks ascending descending sectorsOfTrack lastOf formattedDisk formattedMap formatHeader freeAfterFormat padded expectedEntry expectedBit bitmapByte binary rewriteMap claimCount claimList claimsOf directorySectors files occupied fileOf slotIn slotsIn firstLink linkTo fileLink directoryLink decodeFileLink decodeDirectoryLink freeForFiles freeForDirectory emptySlots slotPlaceFor placement storedDisk writeSlot overwriteSlot growDirectory newEntry checkDisk checkDirectory checkSlot checkEntry entryCorrect wrongBits validType validName nameOf
 listings-computed = refl

@@ -16,6 +16,7 @@ use Rattle.d64spec.specs.Directory.{File, Slot, countOf, directorySector
 use Rattle.d64spec.specs.Owner.{claimCount, claimList, claimsOf, fileClaims, isFree}
 use Rattle.d64spec.specs.Check.{DirectoryContents, checkDirectory, checkDisk, checkEntry, checkMap, checkSlot, checkSlots}
 use Rattle.d64spec.specs.Accepted.{AcceptedDisk, MarksFree, ValidEntry}
+use Rattle.d64spec.proofs.SumLaws.{indicator-le}
 use Rattle.d64spec.proofs.ListLaws.{count-append, equal-refl, eq-of-equal}
 use Rattle.d64spec.proofs.ResultLaws.{need-done, then-done, bind-done, done-inj, need-true}
 use Rattle.d64spec.proofs.BoundLaws.{OnDisk, linkTo-on, fileLink-on, directoryLink-on}
@@ -138,10 +139,6 @@ module _ (g : Geometry) (d : Disk) where
 
 -- ---- the whole
 
-pub one-le : (b : Bool) → indicator b ≤ 1
-one-le true = omega arith
-one-le false = omega arith
-
 module _ (g : Geometry) (v : Valid g) (d : Disk) where
   -- the directory and the files, read with no check
   abbrev pub contents : DirectoryContents
@@ -160,7 +157,7 @@ module _ (g : Geometry) (v : Valid g) (d : Disk) where
   freeBy ds fs r = eqb (count (sectorNumber g r) (claimsOf g ds fs)) 0
 
   base-once : (ds : List Address) → Walked g (directoryLink g) d (sectorNumber g mapAddress ∷ []) (to directoryStart) ds → (m : ℕ) → count m (base ds) ≤ 1
-  base-once ds w m = omega (arith, w .once m (omega (arith, one-le (eqb m (sectorNumber g mapAddress)))))
+  base-once ds w m = omega (arith, w .once m (omega (arith, indicator-le (eqb m (sectorNumber g mapAddress)))))
 
   directory-met : (ds : List Address) → Walked g (directoryLink g) d (sectorNumber g mapAddress ∷ []) (to directoryStart) ds → directorySectors g d ≡ ds
   unfolding directorySectors

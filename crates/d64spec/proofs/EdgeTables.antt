@@ -10,6 +10,7 @@ use Rattle.d64spec.specs.Image.{disk, image, put}
 use Rattle.d64spec.specs.Chain.{decodeDirectoryLink, decodeFileLink, directoryLink, fileLink, linkTo}
 use Rattle.d64spec.specs.Directory.{directorySectors, fileOf, files, firstLink, nameOf, occupied, padded, plainEntryOf, plainList, slotIn, slotsIn, validName, validType}
 use Rattle.d64spec.specs.Owner.{claimCount, claimList, claimsOf, freeForDirectory, freeForFiles}
+use Rattle.d64spec.specs.Bits.{bitOf, binary}
 use Rattle.d64spec.specs.Map.{bitmapByte, entryCorrect, expectedBit, expectedEntry, mapBit, mapOnes, rewriteMap, wrongBits}
 use Rattle.d64spec.specs.Check.{checkDirectory, checkDisk, checkEntry, checkImage, checkSlot, rightSize}
 use Rattle.d64spec.specs.Reply.{filesNamed, reply, storableKind, validNameArgument, writable}
@@ -46,18 +47,18 @@ map-at35 t = refl
 
 -- THE BIT OF EACH SECTOR: all 24 bits of the entries of all 35 tracks
 pub bits-are : map wrongTracks bitmaps ≡ replicate 5 []
-unfolding bitmaps wrongTracks sameBitmaps mapBit ascending layout35
+unfolding bitmaps wrongTracks sameBitmaps mapBit bitOf ascending layout35
 bits-are = refl
 
 -- the ones among a track's own sectors, where all 24 bits are 1
 pub ones-are : map (mapOnes layout35 (sameBitmaps (replicate 3 0xFF))) (ascending 1 35)
     ≡ replicate 17 21 ++ (replicate 7 19 ++ (replicate 6 18 ++ replicate 5 17))
-unfolding sameBitmaps mapOnes mapBit sectorsOn ascending layout35
+unfolding sameBitmaps mapOnes mapBit bitOf sectorsOn ascending layout35
 ones-are = refl
 
 -- EVERY BYTE OF 18/0 after a format
 pub formatted-180 : formattedDisk layout35 name16 0xFF 0x80 357 ≡ formatted180
-unfolding formatted180 formattedDisk formattedMap formatHeader freeAfterFormat padded expectedEntry expectedBit bitmapByte ascending sectorNumber firstOn sectorsOn tracks put layout35
+unfolding formatted180 formattedDisk formattedMap formatHeader freeAfterFormat padded expectedEntry expectedBit bitmapByte binary ascending sectorNumber firstOn sectorsOn tracks put layout35
 formatted-180 = refl
 
 -- ---- calls on the small disk
@@ -91,7 +92,7 @@ pub record EdgesHold : Type 0 where
 
 -- WHAT NO EXAMPLE REACHES, on a small disk
 pub edges-hold : EdgesHold
-unfolding usrDisk plainList plainEntryOf onTrack18 writtenPart filledHole holeFilled dirtyHole sent600 longerNumbers manyFree firstAndLast shownFaults callListing listingText headFrame slotFrame line digit freeTotal diskOfTrack18 listingReply sleeveOutput bytesOfTrack18 listingOutput refusalLine afterCall freshImage imageWithA imageWithAB sent smallLayout fieldsOf hostCall perform reply attempt outputBuffer answerBlock callCheck callFormat callRead callStore callScratch callTell tellReply noInformation checkImage rightSize validNameArgument storableKind writable filesNamed image disk put first sectorNumber onDisk firstOn sectorsOn total tracks mapOnes mapBit sectorsNeeded allocationOrder allocationTracks ascending descending sectorsOfTrack lastOf formattedDisk formattedMap formatHeader freeAfterFormat padded expectedEntry expectedBit bitmapByte rewriteMap claimCount claimList claimsOf directorySectors files occupied fileOf slotIn slotsIn firstLink linkTo fileLink directoryLink decodeFileLink decodeDirectoryLink freeForFiles freeForDirectory emptySlots slotPlaceFor placement storedDisk writeSlot overwriteSlot growDirectory newEntry scratchedDisk checkDisk checkDirectory checkSlot checkEntry entryCorrect wrongBits validType validName nameOf
+unfolding usrDisk plainList plainEntryOf onTrack18 writtenPart filledHole holeFilled dirtyHole sent600 longerNumbers manyFree firstAndLast shownFaults callListing listingText headFrame slotFrame line digit freeTotal diskOfTrack18 listingReply sleeveOutput bytesOfTrack18 listingOutput refusalLine afterCall freshImage imageWithA imageWithAB sent smallLayout fieldsOf hostCall perform reply attempt outputBuffer answerBlock callCheck callFormat callRead callStore callScratch callTell tellReply noInformation checkImage rightSize validNameArgument storableKind writable filesNamed image disk put first sectorNumber onDisk firstOn sectorsOn total tracks mapOnes mapBit bitOf sectorsNeeded allocationOrder allocationTracks ascending descending sectorsOfTrack lastOf formattedDisk formattedMap formatHeader freeAfterFormat padded expectedEntry expectedBit bitmapByte binary rewriteMap claimCount claimList claimsOf directorySectors files occupied fileOf slotIn slotsIn firstLink linkTo fileLink directoryLink decodeFileLink decodeDirectoryLink freeForFiles freeForDirectory emptySlots slotPlaceFor placement storedDisk writeSlot overwriteSlot growDirectory newEntry scratchedDisk checkDisk checkDirectory checkSlot checkEntry entryCorrect wrongBits validType validName nameOf
 edges-hold = record {
   usrTold = refl;
   usrListed = refl;

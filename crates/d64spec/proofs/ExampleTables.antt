@@ -9,6 +9,7 @@ use Rattle.d64spec.specs.Image.{disk, image, put}
 use Rattle.d64spec.specs.Chain.{decodeDirectoryLink, decodeFileLink, directoryLink, fileLink, linkTo}
 use Rattle.d64spec.specs.Directory.{directorySectors, fileOf, files, firstLink, nameOf, occupied, padded, slotIn, slotsIn, validName, validType}
 use Rattle.d64spec.specs.Owner.{claimCount, claimList, claimsOf, freeForDirectory, freeForFiles}
+use Rattle.d64spec.specs.Bits.{bitOf, binary}
 use Rattle.d64spec.specs.Map.{bitmapByte, entryCorrect, expectedBit, expectedEntry, mapBit, mapOnes, rewriteMap, wrongBits}
 use Rattle.d64spec.specs.Check.{checkDirectory, checkDisk, checkEntry, checkImage, checkSlot, rightSize}
 use Rattle.d64spec.specs.Reply.{filesNamed, reply, storableKind, validNameArgument, writable}
@@ -29,7 +30,7 @@ pub record TableHolds : Type 0 where
 
 -- THE EXAMPLES MARKED P HOLD
 pub table-holds : TableHolds
-unfolding table holds disk lastSector sectorNumber onDisk layout35 firstOn sectorsOn total tracks mapOnes mapBit sectorsNeeded allocationOrder allocationTracks ascending descending sectorsOfTrack lastOf put
+unfolding table holds disk lastSector sectorNumber onDisk layout35 firstOn sectorsOn total tracks mapOnes mapBit bitOf sectorsNeeded allocationOrder allocationTracks ascending descending sectorsOfTrack lastOf put
 table-holds = record {
   rows = refl;
   starts = ((λ img. refl), ((λ img. refl), ((λ img. refl), ((λ img. refl), tt))));
@@ -58,7 +59,7 @@ order-holds = refl
 
 -- THE OTHER EXAMPLES HOLD: format, store, scratch, a directory that grows, and the whole listing
 pub steps-hold : brokenSteps exampleSteps ≡ []
-unfolding table holds lastSector content formatted withFile storedOnce scratchedAgain grown trackBytes diskAt isDone contentsOf stepHolds exampleSteps sectorNumber onDisk layout35 firstOn sectorsOn total tracks mapOnes mapBit sectorsNeeded allocationOrder allocationTracks ascending descending sectorsOfTrack lastOf put formattedDisk formattedMap formatHeader freeAfterFormat padded expectedEntry expectedBit bitmapByte rewriteMap claimCount claimList claimsOf directorySectors files occupied fileOf slotIn slotsIn firstLink linkTo fileLink directoryLink decodeFileLink decodeDirectoryLink freeForFiles freeForDirectory emptySlots slotPlaceFor first placement storedDisk writeSlot overwriteSlot growDirectory newEntry scratchedDisk checkDisk checkDirectory checkSlot checkEntry entryCorrect wrongBits validType validName nameOf callListing listingOutput listingText headFrame slotFrame line digit freeTotal diskOfTrack18 disk refusalLine
+unfolding table holds lastSector content formatted withFile storedOnce scratchedAgain grown trackBytes diskAt isDone contentsOf stepHolds exampleSteps sectorNumber onDisk layout35 firstOn sectorsOn total tracks mapOnes mapBit bitOf sectorsNeeded allocationOrder allocationTracks ascending descending sectorsOfTrack lastOf put formattedDisk formattedMap formatHeader freeAfterFormat padded expectedEntry expectedBit bitmapByte binary rewriteMap claimCount claimList claimsOf directorySectors files occupied fileOf slotIn slotsIn firstLink linkTo fileLink directoryLink decodeFileLink decodeDirectoryLink freeForFiles freeForDirectory emptySlots slotPlaceFor first placement storedDisk writeSlot overwriteSlot growDirectory newEntry scratchedDisk checkDisk checkDirectory checkSlot checkEntry entryCorrect wrongBits validType validName nameOf callListing listingOutput listingText headFrame slotFrame line digit freeTotal diskOfTrack18 disk refusalLine
 steps-hold = refl
 
 -- the calls on a small disk, by subject
@@ -71,7 +72,7 @@ pub record CallsHold : Type 0 where
 
 -- WHOLE CALLS ON A SMALL DISK: the check's numbers with their places, and what each call leaves and reports (every number, and their order: OrderTables)
 pub calls-hold : CallsHold
-unfolding checkRows readRows writeRows tellRows sleeveRows imageWithEight imageFar sleeveOutput bytesOfTrack18 listingOutput callListing listingText headFrame slotFrame line digit freeTotal diskOfTrack18 refusalLine callHolds imageOf freshImage imageWithA imageWithAB afterCall entryOn19 withEnds sent smallLayout fieldsOf hostCall perform reply attempt outputBuffer answerBlock callCheck callFormat callRead callStore callScratch callTell tellReply noInformation checkImage rightSize validNameArgument storableKind writable filesNamed image disk put first sectorNumber onDisk firstOn sectorsOn total tracks mapOnes mapBit sectorsNeeded allocationOrder allocationTracks ascending descending sectorsOfTrack lastOf formattedDisk formattedMap formatHeader freeAfterFormat padded expectedEntry expectedBit bitmapByte rewriteMap claimCount claimList claimsOf directorySectors files occupied fileOf slotIn slotsIn firstLink linkTo fileLink directoryLink decodeFileLink decodeDirectoryLink freeForFiles freeForDirectory emptySlots slotPlaceFor placement storedDisk writeSlot overwriteSlot growDirectory newEntry scratchedDisk checkDisk checkDirectory checkSlot checkEntry entryCorrect wrongBits validType validName nameOf
+unfolding checkRows readRows writeRows tellRows sleeveRows imageWithEight imageFar sleeveOutput bytesOfTrack18 listingOutput callListing listingText headFrame slotFrame line digit freeTotal diskOfTrack18 refusalLine callHolds imageOf freshImage imageWithA imageWithAB afterCall entryOn19 withEnds sent smallLayout fieldsOf hostCall perform reply attempt outputBuffer answerBlock callCheck callFormat callRead callStore callScratch callTell tellReply noInformation checkImage rightSize validNameArgument storableKind writable filesNamed image disk put first sectorNumber onDisk firstOn sectorsOn total tracks mapOnes mapBit bitOf sectorsNeeded allocationOrder allocationTracks ascending descending sectorsOfTrack lastOf formattedDisk formattedMap formatHeader freeAfterFormat padded expectedEntry expectedBit bitmapByte binary rewriteMap claimCount claimList claimsOf directorySectors files occupied fileOf slotIn slotsIn firstLink linkTo fileLink directoryLink decodeFileLink decodeDirectoryLink freeForFiles freeForDirectory emptySlots slotPlaceFor placement storedDisk writeSlot overwriteSlot growDirectory newEntry scratchedDisk checkDisk checkDirectory checkSlot checkEntry entryCorrect wrongBits validType validName nameOf
 calls-hold = record {
   checks = refl;
   reads = refl;

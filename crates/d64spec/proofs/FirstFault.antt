@@ -19,10 +19,11 @@ use Rattle.d64spec.specs.Check.{checkDirectory, checkDisk, checkEntry, c
 use Rattle.d64spec.specs.Accepted.{AcceptedDisk, MarksFree}
 use Rattle.d64spec.specs.Listing.{listSlots}
 use Rattle.d64spec.specs.Order.{AllHold, ClaimsOnce, asksDirectory, diskConditions, entryConditions, listingSlots, mapConditions, slotConditions, slotsConditions}
+use Rattle.d64spec.proofs.SumLaws.{indicator-le}
 use Rattle.d64spec.proofs.ListLaws.{count-append}
 use Rattle.d64spec.proofs.BoundLaws.{all-append, directoryLink-on, fileLink-on, follow-on, map-on, sectorNumber-lt}
 use Rattle.d64spec.proofs.MapLaws.{track-complete, track-sound}
-use Rattle.d64spec.proofs.CheckLaws.{claims-are, contents, disk-complete, disk-sound, firstLink-on, one-le, slot-met, slots-sound}
+use Rattle.d64spec.proofs.CheckLaws.{claims-are, contents, disk-complete, disk-sound, firstLink-on, slot-met, slots-sound}
 use Rattle.d64spec.proofs.ConditionLaws.{Decided, decided-bind, decided-bind-done, decided-done, decided-need, decided-then, decided-then-done, eqb-exact}
 use Rattle.d64spec.proofs.ChainFaultLaws.{decided-walk, walk-met}
 
@@ -72,7 +73,7 @@ module _ (g : Geometry) (d : Disk) where
 owned-map : (g : Geometry) → Valid g → Owned g (sectorNumber g mapAddress ∷ [])
 owned-map g v = record {
   below = (sectorNumber-lt g mapAddress (map-on g (v .directory)), tt);
-  once = λ m. omega (arith, one-le (eqb m (sectorNumber g mapAddress)));
+  once = λ m. omega (arith, indicator-le (eqb m (sectorNumber g mapAddress)));
 }
 
 pub decided-directory : (g : Geometry) → Valid g → (d : Disk) → Decided (checkDirectory g d) (asksDirectory g d ∷ [])

@@ -16,6 +16,7 @@ use Rattle.d64spec.specs.Geometry.{Geometry, Valid, allocationOrder, all
 use Rattle.d64spec.specs.Image.{Disk, disk}
 use Rattle.d64spec.specs.Directory.{padded}
 use Rattle.d64spec.specs.Owner.{claimCount, freeForDirectory, freeForFiles, isFree}
+use Rattle.d64spec.specs.Bits.{binary}
 use Rattle.d64spec.specs.Map.{bitmapByte, expectedBit, expectedEntry, mapBit, rewriteMap}
 use Rattle.d64spec.specs.Reply.{Change}
 use Rattle.d64spec.specs.Format.{callFormat, emptyDirectorySector, freeAfterFormat}
@@ -209,7 +210,7 @@ format-bytes35 img name id1 id2 e =
     format-bytes layout35 valid35 beside35 img name id1 id2 (perform layout35 img (format name id1 id2) .change) (zero-change img [] (callFormat layout35 img name id1 id2) e)
 
 entry18 : expectedEntry layout35 (freeAfterFormat layout35) 18 ≡ 0x11 ∷ 0xFC ∷ 0xFF ∷ 0x07 ∷ []
-unfolding expectedEntry expectedBit bitmapByte freeAfterFormat layout35 sectorsOn sectorNumber firstOn
+unfolding expectedEntry expectedBit bitmapByte binary freeAfterFormat layout35 sectorsOn sectorNumber firstOn
 entry18 = refl
 
 free664 : length (filter (freeAfterFormat layout35) (allocationOrder layout35)) ≡ 664

@@ -11,6 +11,8 @@ pub mod RunLaws
 pub mod RefusalLaws
 pub mod ReadLaws
 pub mod WalkLaws
+pub mod SumLaws
+pub mod BitLaws
 pub mod MapLaws
 pub mod CheckLaws
 pub mod NamedLaws

@@ -18,12 +18,14 @@ use Rattle.d64spec.specs.Owner.{claimCount, isFree}
 use Rattle.d64spec.specs.Map.{bitmapByte, expectedBit, expectedEntry, rewriteMap, withEntries}
 use Rattle.d64spec.specs.Accepted.{AcceptedDisk}
 use Rattle.d64spec.specs.Changes.{InEntryOf}
+use Rattle.d64spec.proofs.SumLaws.{sum-map-le}
+use Rattle.d64spec.proofs.BitLaws.{binary-lt}
 use Rattle.d64spec.proofs.ListLaws.{zero-of-none}
 use Rattle.d64spec.proofs.BoundLaws.{sectorNumber-lt, map-on}
 use Rattle.d64spec.proofs.SpliceLaws.{splice-before, splice-in, splice-after}
 use Rattle.d64spec.proofs.FrameLaws.{Sound}
 use Rattle.d64spec.proofs.ImageLaws.{Whole, put-same}
-use Rattle.d64spec.proofs.MapWriteLaws.{bit-le, entry-length, written-length, rewrite-other, rewrite-claims, rewrite-accepted}
+use Rattle.d64spec.proofs.MapWriteLaws.{expected-le, entry-length, written-length, rewrite-other, rewrite-claims, rewrite-accepted}
 use Rattle.d64spec.proofs.MapEntryLaws.{same-entry}
 
 -- byte i is not in the entry of track t
@@ -32,21 +34,14 @@ Beside g i t = (i < g .mapAt t) ⊎ (g .mapAt t + 4 ≤ i)
 
 -- ---- entries are bytes
 
-sum-le : (f : ℕ → ℕ) → ((i : ℕ) → f i ≤ 1) → (a n : ℕ) → sum (map f (range a n)) ≤ n
-sum-le f h a zero = omega arith
-sum-le f h a (suc n) = omega (arith, h a, sum-le f h (suc a) n)
-
-octet : (b : ℕ → ℕ) → ((i : ℕ) → b i ≤ 1) → sum (map (λ i. b i * 2 ^ i) (range 0 8)) < 256
-octet b h = omega (arith, h 0, h 1, h 2, h 3, h 4, h 5, h 6, h 7)
-
 module _ (g : Geometry) (v : Valid g) (free : Address → Bool) where
   bitmap-small : (t j : ℕ) → bitmapByte g free t j < 256
   unfolding bitmapByte
-  bitmap-small t j = octet (λ i. expectedBit g free t (8 * j + i)) (λ i. bit-le g v free t (8 * j + i))
+  bitmap-small t j = binary-lt (λ i. expectedBit g free t (8 * j + i)) (λ i. expected-le g v free t (8 * j + i)) 8
 
   entry-small : (t i : ℕ) → getD (expectedEntry g free t) i 0 < 256
   unfolding expectedEntry
-  entry-small t zero = omega (arith, sum-le (expectedBit g free t) (bit-le g v free t) 0 (sectorsOn g t), v .small t)
+  entry-small t zero = omega (arith, sum-map-le (expectedBit g free t) (expected-le g v free t) 0 (sectorsOn g t), v .small t)
   entry-small t (suc zero) = bitmap-small t 0
   entry-small t (suc (suc zero)) = bitmap-small t 1
   entry-small t (suc (suc (suc zero))) = bitmap-small t 2

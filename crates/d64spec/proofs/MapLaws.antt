@@ -1,5 +1,5 @@
 -- A track's map entry passes the check exactly where it marks nobody's sectors free.
-use Prim.Native.Nat.{ℕ, zero, suc, _+_, _≤_, _<_}
+use Prim.Native.Nat.{ℕ, zero, suc, _+_, _/_, _%_, _≤_, _<_}
 use native.Mathlib.Omega.{arith}
 use native.Mathlib.Decide.{decLe}
 use mathlib.Core.Path.{_≡_, refl, sym, ap, _∙_}
@@ -17,6 +17,7 @@ use Rattle.d64spec.specs.Owner.{Free, claimCount, isFree}
 use Rattle.d64spec.specs.Map.{entryCorrect, expectedBit, mapBit, mapOnes, wrongBits}
 use Rattle.d64spec.specs.Check.{checkMap}
 use Rattle.d64spec.specs.Accepted.{MarksFree}
+use Rattle.d64spec.proofs.BitLaws.{bit-le}
 use Rattle.d64spec.proofs.ResultLaws.{need-done}
 
 -- ---- lists
@@ -79,7 +80,7 @@ module _ (g : Geometry) (v : Valid g) (d : Disk) (u : (n : ℕ) → claimCount g
 
   bit-below : (t s : ℕ) → mapBit g m t s ≤ 1
   unfolding mapBit
-  bit-below t s = omega arith
+  bit-below t s = bit-le (byte m (g .mapAt t + 1 + s / 8)) (s % 8)
 
   pub sum-of-mark : (t s : ℕ) → (mapBit g m t s ≡ 1) ↔ Free g d (sectorNumber g (address t s)) → mapBit g m t s + claimCount g d (sectorNumber g (address t s)) ≡ 1
   sum-of-mark t s h = elim (decLe 1 (claimCount g d (sectorNumber g (address t s)))) [

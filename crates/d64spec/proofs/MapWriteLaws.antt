@@ -10,6 +10,7 @@ use lib.ListN.{length, take, drop, getD}
 use lib.Dec.{eqb, ltb}
 use borrow.Author.Tests.{eq-eqb}
 use Rattle.d64spec.specs.Lists.{Bytes, byte, indicator, range, splice, sum}
+use Rattle.d64spec.specs.Bits.{bitOf}
 use Rattle.d64spec.specs.Answers.{Address, address}
 use Rattle.d64spec.specs.Geometry.{Geometry, Valid, mapAddress, sectorNumber, sectorsOn, total, tracks}
 use Rattle.d64spec.specs.Image.{Disk}
@@ -18,36 +19,18 @@ use Rattle.d64spec.specs.Owner.{claimCount, claimList, claimsOf, fileCla
 use Rattle.d64spec.specs.Map.{bitmapByte, expectedBit, expectedEntry, mapBit, mapOnes, rewriteMap, withEntries}
 use Rattle.d64spec.specs.Accepted.{AcceptedDisk, MarksFree}
 use Rattle.d64spec.specs.Changes.{MapFollows}
+use Rattle.d64spec.proofs.SumLaws.{sum-same, indicator-le}
+use Rattle.d64spec.proofs.BitLaws.{binary-bit}
 use Rattle.d64spec.proofs.BoundLaws.{sectorNumber-lt, map-on}
 use Rattle.d64spec.proofs.MapLaws.{in-bit, mark-of-sum, past-bit}
 use Rattle.d64spec.proofs.SpliceLaws.{length-splice, splice-before, splice-in, splice-after, part-of-bytes}
 use Rattle.d64spec.proofs.FrameLaws.{Sound, Agree, frame-files, frame-plainList, frame-claims, frame-sound}
 use Rattle.d64spec.proofs.ImageLaws.{Whole, put-same, put-other, put-whole}
 
--- bit k of a byte that is put together of eight bits
-bits8 : (b : ℕ → ℕ) → ((i : ℕ) → b i ≤ 1) → (k : ℕ) → k < 8 → sum (map (λ i. b i * 2 ^ i) (range 0 8)) / 2 ^ k % 2 ≡ b k
-bits8 b h zero l = omega (arith, h 0, h 1, h 2, h 3, h 4, h 5, h 6, h 7)
-bits8 b h (suc zero) l = omega (arith, h 0, h 1, h 2, h 3, h 4, h 5, h 6, h 7)
-bits8 b h (suc (suc zero)) l = omega (arith, h 0, h 1, h 2, h 3, h 4, h 5, h 6, h 7)
-bits8 b h (suc (suc (suc zero))) l = omega (arith, h 0, h 1, h 2, h 3, h 4, h 5, h 6, h 7)
-bits8 b h (suc (suc (suc (suc zero)))) l = omega (arith, h 0, h 1, h 2, h 3, h 4, h 5, h 6, h 7)
-bits8 b h (suc (suc (suc (suc (suc zero))))) l = omega (arith, h 0, h 1, h 2, h 3, h 4, h 5, h 6, h 7)
-bits8 b h (suc (suc (suc (suc (suc (suc zero)))))) l = omega (arith, h 0, h 1, h 2, h 3, h 4, h 5, h 6, h 7)
-bits8 b h (suc (suc (suc (suc (suc (suc (suc zero))))))) l = omega (arith, h 0, h 1, h 2, h 3, h 4, h 5, h 6, h 7)
-bits8 b h (suc (suc (suc (suc (suc (suc (suc (suc k)))))))) l = absurd (omega arith)
-
-one-le : (b : Bool) → indicator b ≤ 1
-one-le true = omega arith
-one-le false = omega arith
-
-pub sum-same : (f h : ℕ → ℕ) (a n : ℕ) → ((i : ℕ) → a ≤ i → i < a + n → f i ≡ h i) → sum (map f (range a n)) ≡ sum (map h (range a n))
-sum-same f h a zero e = refl
-sum-same f h a (suc n) e = omega (arith, e a (omega arith) (omega arith), sum-same f h (suc a) n (λ i l u. e i (omega arith) (omega arith)))
-
 module _ (g : Geometry) (v : Valid g) (free : Address → Bool) where
-  pub bit-le : (t s : ℕ) → expectedBit g free t s ≤ 1
+  pub expected-le : (t s : ℕ) → expectedBit g free t s ≤ 1
   unfolding expectedBit
-  bit-le t s = one-le (ltb s (sectorsOn g t) && free (address t s))
+  expected-le t s = indicator-le (ltb s (sectorsOn g t) && free (address t s))
 
   pub entry-length : (t : ℕ) → length (expectedEntry g free t) ≡ 4
   unfolding expectedEntry
@@ -68,9 +51,9 @@ module _ (g : Geometry) (v : Valid g) (free : Address → Bool) where
   unfolding mapBit bitmapByte
   holds-bit m t h s l =
       let j : s / 8 < 3 = omega arith in
-      ap (λ (x : ℕ). byte m x / 2 ^ (s % 8) % 2) (omega arith)
-      ∙ ap (λ (x : ℕ). x / 2 ^ (s % 8) % 2) (h (suc (s / 8)) (omega arith) ∙ bitmap-at t (s / 8) j)
-      ∙ bits8 (λ i. expectedBit g free t (8 * (s / 8) + i)) (λ i. bit-le t (8 * (s / 8) + i)) (s % 8) (omega arith)
+      ap (λ (x : ℕ). bitOf (byte m x) (s % 8)) (omega arith)
+      ∙ ap (λ (x : ℕ). bitOf x (s % 8)) (h (suc (s / 8)) (omega arith) ∙ bitmap-at t (s / 8) j)
+      ∙ binary-bit (λ i. expectedBit g free t (8 * (s / 8) + i)) (λ i. expected-le t (8 * (s / 8) + i)) 8 (s % 8) (omega arith)
       ∙ ap (expectedBit g free t) (omega arith)
 
   holds-ones : (m : Bytes) (t : ℕ) → Holds m t → byte m (g .mapAt t) ≡ mapOnes g m t

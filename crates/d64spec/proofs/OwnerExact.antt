@@ -20,8 +20,9 @@ use Rattle.d64spec.specs.Owner.{Among, Owner, Owns, claimCount, claimLis
 use Rattle.d64spec.specs.Accepted.{Accepted, ValidEntry}
 use Rattle.d64spec.specs.Call.{check, perform}
 use Rattle.d64spec.specs.Facts.{DemandTwo, OneOwner}
+use Rattle.d64spec.proofs.SumLaws.{indicator-le}
 use Rattle.d64spec.proofs.BoundLaws.{claims-on}
-use Rattle.d64spec.proofs.CheckLaws.{one-le, slotName}
+use Rattle.d64spec.proofs.CheckLaws.{slotName}
 use Rattle.d64spec.proofs.ListLaws.{equal-refl}
 use Rattle.d64spec.proofs.ScratchLaws.{claimCount-of, of-count}
 use Rattle.d64spec.proofs.NamedLaws.{name-met}
@@ -70,7 +71,7 @@ module _ (g : Geometry) (link : List ℕ → Link) (d : Disk) where
             let w = behind n (link (d (sectorNumber g r))) l (c .1) h in
             let c′ : Chain g link d (link (d n)) l = subst (λ (x : ℕ). Chain g link d (link (d x)) l) (sym (eqb-true n (sectorNumber g r) t)) (c .1) in
             absurd (omega (arith, w .2, chain-length (link (d n)) l (w .0) c′ (w .1)))
-        | no h ↦ omega (arith, one-le (eqb n (sectorNumber g r)))
+        | no h ↦ omega (arith, indicator-le (eqb n (sectorNumber g r)))
       ]
       go false t rest = let z : indicator (eqb n (sectorNumber g r)) ≡ 0 = ap indicator t in omega arith
 
@@ -134,7 +135,7 @@ module _ (g : Geometry) (d : Disk) (directory : Chain g (directoryLink g) d (to 
               | yes k ↦
                   let c = claimant g n (files g d) k in
                   absurd (let z : _≡_ {A = ℕ} 0 3 = ap kindNumber (same-owner n w theMap (theFile (c .0)) here (c .1, c .2)) in omega arith)
-              | no k ↦ omega (arith, claimCount-of g d n, one-le (eqb n (sectorNumber g mapAddress)))
+              | no k ↦ omega (arith, claimCount-of g d n, indicator-le (eqb n (sectorNumber g mapAddress)))
             ]
           ]
       go false t =

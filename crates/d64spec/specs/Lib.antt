@@ -6,6 +6,7 @@ pub mod Chain
 pub mod Directory
 pub mod Rules
 pub mod Owner
+pub mod Bits
 pub mod Map
 pub mod Check
 pub mod Accepted

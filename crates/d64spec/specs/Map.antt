@@ -1,12 +1,13 @@
 -- The block availability map (01, The map, 18/0): for each track a count of free sectors and three bitmap bytes.
 -- In order: what a map sector m says; what an entry is expected to say, given which sectors are free; the map rewritten from the owners.
 -- Laws: proofs/MapLaws (exact), MapWriteLaws (a rewritten map is right), MapEntryLaws and MapBytes (no other byte of its sector changes).
-use Prim.Native.Nat.{ℕ, _+_, _*_, _/_, _%_, _^_}
+use Prim.Native.Nat.{ℕ, _+_, _*_, _/_, _%_}
 use mathlib.Core.Bool.{Bool, _&&_, not}
 use mathlib.Core.List.{List, [], _∷_, map}
 use lib.ListN.{length}
 use lib.Dec.{eqb, ltb}
 use Rattle.d64spec.specs.Lists.{Bytes, byte, sum, range, splice, indicator, filter}
+use Rattle.d64spec.specs.Bits.{bitOf, binary}
 use Rattle.d64spec.specs.Answers.{Address, address}
 use Rattle.d64spec.specs.Geometry.{Geometry, sectorNumber, mapAddress, sectorsOn, tracks}
 use Rattle.d64spec.specs.Image.{Disk, put}
@@ -14,7 +15,7 @@ use Rattle.d64spec.specs.Owner.{isFree}
 
 -- sector s of track t is marked free where bit (s mod 8) of byte 4t + 1 + (s div 8) is 1
 unfoldable pub mapBit : Geometry → Bytes → ℕ → ℕ → ℕ
-mapBit g m t s = byte m (g .mapAt t + 1 + s / 8) / 2 ^ (s % 8) % 2
+mapBit g m t s = bitOf (byte m (g .mapAt t + 1 + s / 8)) (s % 8)
 
 -- the number of ones among the track's own sectors
 unfoldable pub mapOnes : Geometry → Bytes → ℕ → ℕ
@@ -35,7 +36,7 @@ module _ (g : Geometry) (free : Address → Bool) where
 
   -- the bitmap byte for sectors 8j to 8j + 7
   unfoldable pub bitmapByte : ℕ → ℕ → ℕ
-  bitmapByte t j = sum (map (λ i. expectedBit t (8 * j + i) * 2 ^ i) (range 0 8))
+  bitmapByte t j = binary (λ i. expectedBit t (8 * j + i)) 8
 
   -- the four bytes of a correct entry: the count, then the bitmap
   unfoldable pub expectedEntry : ℕ → Bytes

@@ -12,18 +12,15 @@ use lib.Pow.{pow-pos}
 use lib.Dec.{eqb, leb}
 use borrow.Author.Tests.{eq-eqb, ne-eqb, le-leb, lt-leb, eqb-true, eqb-false}
 use Rattle.d64spec.specs.Lists.{indicator, range, sum}
-use Rattle.bam.specs.MapEntry.{binary}
-use Rattle.bam.proofs.SumLaws.{sum-map-last, sum-map-le}
-use Rattle.bam.proofs.BinaryLaws.{power-le, binary-more, binary-lt}
+use Rattle.d64spec.specs.Bits.{binary}
+use Rattle.d64spec.proofs.SumLaws.{indicator-le, sum-map-last, sum-map-le}
+use Rattle.d64spec.proofs.BitLaws.{binary-more, binary-lt}
+use Rattle.bam.proofs.BitmapLaws.{power-le}
 use Rattle.parts.specs.Numbers.{fourOf, IsFour}
 use Rattle.parts.proofs.NumberLaws.{each-four}
 use Rattle.mapcheck.specs.MapChecks.{freeBit, freeMask, freeCount, Surveyed, unownedTrack}
 
 module _ (own : List ℕ) (first : ℕ) where
-  indicator-le : (b : Bool) → indicator b ≤ 1
-  indicator-le true = omega arith
-  indicator-le false = omega arith
-
   free-bit-le : (s : ℕ) → freeBit own first s ≤ 1
   unfolding freeBit
   free-bit-le s = indicator-le (eqb (getD own (first + s) 0) 0)

@@ -1,6 +1,6 @@
 -- A track's test as the code makes it is d64spec's `entryCorrect`. In order: a bit that is expected is the table's; the bitmap as a number; the
 -- count; the track. Stated once over the track's number of sectors. Assumes nothing.
-use Prim.Native.Nat.{ℕ, _+_, _-_, _≤_, _<_, zero-le}
+use Prim.Native.Nat.{ℕ, zero, suc, _+_, _-_, _*_, _^_, _≤_, _<_, zero-le}
 use native.Mathlib.Omega.{arith}
 use mathlib.Core.Path.{_≡_, refl, sym, ap, ap₂, _∙_}
 use mathlib.Core.Bool.{Bool, true, false, _&&_, not}
@@ -9,17 +9,19 @@ use lib.ListN.{length}
 use lib.Dec.{eqb}
 use borrow.Author.Tests.{lt-ltb, le-ltb, eqb-true, eq-eqb, ne-eqb, not-false}
 use Rattle.d64spec.specs.Lists.{Bytes, byte, range}
+use Rattle.d64spec.specs.Bits.{binary}
 use Rattle.d64spec.specs.Answers.{Address}
 use Rattle.d64spec.specs.Geometry.{Geometry, layout35, firstOn, sectorsOn, sectorNumber}
 use Rattle.d64spec.specs.Map.{mapBit, mapOnes, expectedBit, wrongBits, entryCorrect}
 use Rattle.d64spec.proofs.MapLaws.{filter-none, none-filter, range-at, range-all}
-use Rattle.d64spec.proofs.MapWriteLaws.{sum-same, bit-le}
+use Rattle.d64spec.proofs.SumLaws.{sum-same}
+use Rattle.d64spec.proofs.BitLaws.{binary-more, binary-same, bits-same}
+use Rattle.d64spec.proofs.MapWriteLaws.{expected-le}
 use Rattle.d64spec.proofs.RunTheorem.{valid35}
 use Rattle.owners.specs.OwnerTable.{freeBy}
-use Rattle.bam.specs.MapEntry.{entryBit, binary, bitmapOf}
+use Rattle.bam.specs.MapEntry.{entryBit, bitmapOf}
 use Rattle.bam.proofs.ShapeLaws.{EntryShape}
-use Rattle.bam.proofs.BitLaws.{entry-bit-le}
-use Rattle.bam.proofs.BinaryLaws.{binary-same, bits-same, binary-past, bitmap-binary}
+use Rattle.bam.proofs.BitmapLaws.{entry-bit-le, bitmap-binary}
 use Rattle.bam.specs.MapSector.{mapEntry, fourBytes}
 use Rattle.bam.proofs.SectorLaws.{bit-map-entry}
 use Rattle.mapcheck.specs.MapChecks.{freeBit, freeMask, freeCount, Surveyed, trackCorrect}
@@ -37,6 +39,14 @@ test-same false false there back = refl
 and-same : (a b c d : Bool) → a ≡ c → (a ≡ true → b ≡ d) → (a && b) ≡ (c && d)
 and-same true b c d e next = ap₂ (λ (x y : Bool). x && y) e (next refl)
 and-same false b c d e next = ap (λ (x : Bool). x && d) e
+
+-- bits that are 0 add nothing
+binary-past : (f : ℕ → ℕ) (n : ℕ) → ((s : ℕ) → n ≤ s → f s ≡ 0) → (k : ℕ) → binary f (n + k) ≡ binary f n
+binary-past f n none zero = let z : n + 0 ≡ n = omega arith in ap (binary f) z
+binary-past f n none (suc k) =
+    let z : n + suc k ≡ suc (n + k) = omega arith in
+    let top : f (n + k) * 2 ^ (n + k) ≡ 0 * 2 ^ (n + k) = ap (λ (x : ℕ). x * 2 ^ (n + k)) (none (n + k) (omega arith)) in
+    ap (binary f) z ∙ binary-more f (n + k) ∙ omega (arith, binary-past f n none k)
 
 -- no bit is wrong exactly where each of the 24 is the one expected
 module _ (g : Geometry) (free : Address → Bool) (m : Bytes) (t : ℕ) where
@@ -97,7 +107,7 @@ module _ (m : Bytes) (own : List ℕ) (t : ℕ) where
     unfolding Right
     bits-of-mask e s h =
         sym (bit-map-entry layout35 m t s h)
-        ∙ bits-same (entryBit entry) expected (entry-bit-le entry) (bit-le layout35 valid35 free t) 24 (sym (bitmap-binary entry shape) ∙ e ∙ mask-binary) s h
+        ∙ bits-same (entryBit entry) expected (entry-bit-le entry) (expected-le layout35 valid35 free t) 24 (sym (bitmap-binary entry shape) ∙ e ∙ mask-binary) s h
 
     mask-of-bits : Right layout35 free m t → bitmapOf entry ≡ freeMask own first sectors
     unfolding Right

@@ -1,5 +1,5 @@
 -- Step 4 of the check on the map sector alone, against the owner table (01, Order of the check, 4; The map).
--- In order: a track's free sectors as a number and how many they are; an entry's test; the step. Numbers made of bits: bam's `binary`.
+-- In order: a track's free sectors as a number and how many they are; an entry's test; the step. Numbers made of bits: d64spec's `binary`.
 -- Laws: proofs/SurveyLaws (the free sectors), TrackLaws (a track's test is d64spec's), StepLaws (so is the step).
 use Prim.Native.Nat.{ℕ, _+_}
 use mathlib.Core.Path.{_≡_}
@@ -8,11 +8,12 @@ use mathlib.Core.List.{List, map}
 use lib.ListN.{length, getD}
 use lib.Dec.{eqb, leb}
 use Rattle.d64spec.specs.Lists.{Bytes, byte, indicator, range, sum}
+use Rattle.d64spec.specs.Bits.{binary}
 use Rattle.d64spec.specs.Answers.{Result}
 use Rattle.d64spec.specs.Geometry.{layout35, tracks, firstOn, sectorsOn}
 use Rattle.d64spec.specs.Check.{checkMap}
 use Rattle.owners.specs.OwnerTable.{freeBy}
-use Rattle.bam.specs.MapEntry.{binary, bitmapOf}
+use Rattle.bam.specs.MapEntry.{bitmapOf}
 use Rattle.mapcheck.specs.declared.FreeSectors.{FreeSectors}
 
 -- 1 where nobody owns the sector s past number `first`, else 0

@@ -8,6 +8,7 @@ use Rattle.d64spec.specs.Image.{Disk, disk, image, put}
 use Rattle.d64spec.specs.Chain.{decodeDirectoryLink, decodeFileLink, directoryLink, fileLink, linkTo}
 use Rattle.d64spec.specs.Directory.{directorySectors, fileOf, files, firstLink, nameOf, occupied, padded, slotIn, slotsIn, validName, validType}
 use Rattle.d64spec.specs.Owner.{claimCount, claimList, claimsOf, freeForDirectory, freeForFiles}
+use Rattle.d64spec.specs.Bits.{bitOf, binary}
 use Rattle.d64spec.specs.Map.{bitmapByte, entryCorrect, expectedBit, expectedEntry, mapBit, mapOnes, rewriteMap, wrongBits}
 use Rattle.d64spec.specs.Check.{checkDirectory, checkDisk, checkEntry, checkImage, checkSlot, rightSize}
 use Rattle.d64spec.specs.Reply.{filesNamed, reply, storableKind, validNameArgument, writable}
@@ -24,5 +25,5 @@ farDisk = disk imageFar
 
 -- THE NUMBERS THEMSELVES, there: 18/0 the map's, 18/1 and 18/2 the directory's, 19/0 and 19/1 the file's in slot 0, 19/2 the file's in slot 8
 pub numbers-computed : ownerTable smallLayout (directorySectors smallLayout farDisk) (files smallLayout farDisk) ≡ 1 ∷ 2 ∷ 2 ∷ 3 ∷ 3 ∷ 11 ∷ zeros 7
-unfolding ownerTable directoryTable mapTable smallLayout imageFar imageWithAB imageWithA freshImage afterCall sent hostCall perform reply attempt outputBuffer callFormat callStore checkImage rightSize validNameArgument storableKind writable filesNamed image disk put first sectorNumber onDisk firstOn sectorsOn total tracks sectorsNeeded allocationOrder allocationTracks ascending descending sectorsOfTrack lastOf formattedDisk formattedMap formatHeader freeAfterFormat padded expectedEntry expectedBit bitmapByte rewriteMap claimCount claimList claimsOf directorySectors files occupied fileOf slotIn slotsIn firstLink linkTo fileLink directoryLink decodeFileLink decodeDirectoryLink freeForFiles freeForDirectory emptySlots slotPlaceFor placement storedDisk writeSlot overwriteSlot growDirectory newEntry checkDisk checkDirectory checkSlot checkEntry entryCorrect wrongBits mapOnes mapBit validType validName nameOf
+unfolding ownerTable directoryTable mapTable smallLayout imageFar imageWithAB imageWithA freshImage afterCall sent hostCall perform reply attempt outputBuffer callFormat callStore checkImage rightSize validNameArgument storableKind writable filesNamed image disk put first sectorNumber onDisk firstOn sectorsOn total tracks sectorsNeeded allocationOrder allocationTracks ascending descending sectorsOfTrack lastOf formattedDisk formattedMap formatHeader freeAfterFormat padded expectedEntry expectedBit bitmapByte binary rewriteMap claimCount claimList claimsOf directorySectors files occupied fileOf slotIn slotsIn firstLink linkTo fileLink directoryLink decodeFileLink decodeDirectoryLink freeForFiles freeForDirectory emptySlots slotPlaceFor placement storedDisk writeSlot overwriteSlot growDirectory newEntry checkDisk checkDirectory checkSlot checkEntry entryCorrect wrongBits mapOnes mapBit bitOf validType validName nameOf
 numbers-computed = refl

@@ -11,6 +11,7 @@ use lib.Seq.{getD-set-same, getD-set-other}
 use lib.Dec.{eqb, ltb}
 use borrow.Author.Tests.{lt-ltb, eqb-true, eqb-false, eq-eqb, ne-eqb}
 use Rattle.d64spec.specs.Lists.{indicator, All, count, member}
+use Rattle.d64spec.proofs.SumLaws.{indicator-le}
 use Rattle.d64spec.proofs.ListLaws.{count-append}
 use Rattle.owners.specs.OwnerTable.{ownedFrom, owned, withOwner}
 
@@ -34,10 +35,6 @@ owned-at i (suc k) (suc x ∷ own) =
 member-indicator : (b : Bool) → ltb 0 (indicator b) ≡ b
 member-indicator true = refl
 member-indicator false = refl
-
-indicator-le : (b : Bool) → indicator b ≤ 1
-indicator-le true = omega arith
-indicator-le false = omega arith
 
 pub count-owned : (own : List ℕ) (n : ℕ) → count n (owned own) ≡ indicator (not (eqb (getD own n 0) 0))
 unfolding owned

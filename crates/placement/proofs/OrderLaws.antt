@@ -11,6 +11,7 @@ use lib.Seq.{drop-cons}
 use lib.Dec.{eqb, ltb}
 use borrow.Author.Tests.{eqb-true, lt-ltb, le-ltb}
 use Rattle.d64spec.specs.Lists.{Bytes, ascending, descending, filter, join, range}
+use Rattle.d64spec.specs.Bits.{bitOf}
 use Rattle.d64spec.specs.Answers.{Address, address}
 use Rattle.d64spec.specs.Geometry.{layout35, tracks, sectorsOn, sectorsOfTrack, allocationTracks, allocationOrder}
 use Rattle.d64spec.proofs.SplitLaws.{filter-append}
@@ -54,7 +55,7 @@ module _ {i t : ℕ} where
 
 module _ (es : Entries) where
   free-same : (t s k : ℕ) → filter (markedFree es) (map (λ s. address t s) (range s k)) ≡ filter (markedIn (bitmapOf (entryOf es t))) (map (λ s. address t s) (range s k))
-  unfolding markedFree markedIn
+  unfolding markedFree markedIn bitOf
   free-same t s zero = refl
   free-same t s (suc k) = rw (free-same t (suc s) k)
 

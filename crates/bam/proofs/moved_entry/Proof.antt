@@ -3,7 +3,7 @@
 use native.Mathlib.Omega.{arith}
 use borrow.Author.Needs.{needs}
 use Rattle.bam.specs.MapEntry.{bitmapOf}
-use Rattle.bam.proofs.BinaryLaws.{power-le, shifted}
+use Rattle.bam.proofs.BitmapLaws.{power-le, shifted}
 use Rattle.bam.proofs.ShapeLaws.{EntryShape, entry-shaped}
 use Rattle.bam.proofs.MoveLaws.{moved-past, moved-free, moved-used}
 use Rattle.bam.proofs.moved_entry.Statement.{statement}

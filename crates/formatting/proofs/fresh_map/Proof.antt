@@ -1,6 +1,7 @@
 -- `formatting::fresh_map` meets its contract: the table is what the definitions give for each of the 35 tracks, computed.
 use mathlib.Core.Path.{refl}
 use Rattle.d64spec.specs.Geometry.{layout35, sectorsOn, sectorNumber, firstOn}
+use Rattle.d64spec.specs.Bits.{binary}
 use Rattle.d64spec.specs.Map.{expectedBit, bitmapByte, expectedEntry}
 use Rattle.d64spec.specs.Format.{freeAfterFormat}
 use Rattle.formatting.proofs.MapSectorLaws.{wrongTracks, fresh-entries}
@@ -8,7 +9,7 @@ use Rattle.formatting.proofs.fresh_map.Statement.{statement}
 use Rattle.formatting.proofs.fresh_map.Tie as tie
 
 returns : tie.Need-returns
-unfolding wrongTracks expectedEntry expectedBit bitmapByte freeAfterFormat layout35 sectorsOn sectorNumber firstOn
+unfolding wrongTracks expectedEntry expectedBit bitmapByte binary freeAfterFormat layout35 sectorsOn sectorNumber firstOn
 returns c = fresh-entries _ refl refl
 
 pub fresh-map-spec : {M : Type 1} → statement M

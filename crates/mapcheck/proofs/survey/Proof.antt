@@ -3,7 +3,7 @@ use mathlib.Core.Path.{sym, _∙_}
 use lib.Pow.{pow-pos}
 use native.Mathlib.Omega.{arith}
 use borrow.Author.Needs.{needs}
-use Rattle.bam.proofs.BinaryLaws.{shifted}
+use Rattle.bam.proofs.BitmapLaws.{shifted}
 use Rattle.mapcheck.proofs.SurveyLaws.{surveyed-all, unowned-all}
 use Rattle.mapcheck.proofs.survey.Statement.{statement}
 use Rattle.mapcheck.proofs.survey.Tie as tie

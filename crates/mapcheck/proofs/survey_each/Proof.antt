@@ -4,7 +4,7 @@ use Prim.Native.Nat.{_-_}
 use native.Mathlib.Omega.{arith}
 use mathlib.Core.Logic.{⊎-elim}
 use borrow.Author.Needs.{needs}
-use Rattle.bam.proofs.BinaryLaws.{shifted}
+use Rattle.bam.proofs.BitmapLaws.{shifted}
 use Rattle.mapcheck.proofs.SurveyLaws.{Surveying, surveying-start, surveying-mask-lt, surveying-count-le, surveying-free, surveying-owned, surveying-finished}
 use Rattle.mapcheck.proofs.survey_each.Statement.{statement}
 use Rattle.mapcheck.proofs.survey_each.Tie as tie
