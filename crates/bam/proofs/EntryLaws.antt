@@ -2,8 +2,8 @@
 -- bits; an entry is known by its count and its bitmap; a mark moved. Assumes nothing.
 use Prim.Native.Nat.{ℕ, _+_, _*_, _/_, _%_, _^_, _≤_, _<_}
 use native.Mathlib.Omega.{arith}
-use mathlib.Core.Path.{_≡_, refl, sym, ap, _∙_, fun-ext}
-use mathlib.Core.Bool.{Bool, true, false, _&&_, not}
+use mathlib.Core.Path.{_≡_, refl, sym, ap, _∙_}
+use mathlib.Core.Bool.{Bool, true, false, cond, not}
 use mathlib.Core.List.{[], _∷_, map}
 use lib.Dec.{ltb}
 use borrow.Author.Tests.{lt-ltb, ltb-true}
@@ -11,10 +11,10 @@ use Rattle.d64spec.specs.Lists.{Bytes, byte, indicator, range, sum}
 use Rattle.d64spec.specs.Bits.{bitOf, binary}
 use Rattle.d64spec.specs.Answers.{Address, address}
 use Rattle.d64spec.specs.Geometry.{Geometry, Valid, sectorsOn}
-use Rattle.d64spec.specs.Map.{expectedBit, bitmapByte, expectedEntry}
+use Rattle.d64spec.specs.Map.{mapBit, expectedBit, bitmapByte, expectedEntry}
 use Rattle.d64spec.proofs.SumLaws.{sum-map-le, sum-map-more}
 use Rattle.d64spec.proofs.BitLaws.{binary-lt, binary-same, binary-set, binary-bit}
-use Rattle.d64spec.proofs.MapWriteLaws.{expected-le}
+use Rattle.d64spec.proofs.MapWriteLaws.{expected-le, expected-entry-same}
 use Rattle.bam.specs.MapEntry.{entryBit, bitmapOf, entryFrom, movedEntry}
 use Rattle.bam.proofs.BitmapLaws.{power-le, bitmap-binary}
 use Rattle.bam.proofs.ShapeLaws.{EntryShape}
@@ -44,71 +44,66 @@ entry-itself {e} shape =
 
 -- ---- what it depends on
 
-module _ (g : Geometry) (f h : Address → Bool) (t : ℕ) where
-  pub expected-bit-same : (s : ℕ) → (s < sectorsOn g t → f (address t s) ≡ h (address t s)) → expectedBit g f t s ≡ expectedBit g h t s
+-- of what is free, on the track's own sectors alone
+module _ (g : Geometry) (valid : Valid g) (f h : Address → Bool) (m : Bytes) (t : ℕ) where
+  pub expected-bit-same : (s : ℕ) → (s < sectorsOn g t → f (address t s) ≡ h (address t s)) → expectedBit g f m t s ≡ expectedBit g h m t s
   unfolding expectedBit
-  expected-bit-same s same = ap indicator (go (ltb s (sectorsOn g t)) refl)
+  expected-bit-same s same = go (ltb s (sectorsOn g t)) refl
     where
-      go : (b : Bool) → ltb s (sectorsOn g t) ≡ b → (b && f (address t s)) ≡ (b && h (address t s))
-      go true on = same (ltb-true _ _ on)
+      go : (b : Bool) → ltb s (sectorsOn g t) ≡ b
+          → cond b (indicator (f (address t s))) (mapBit g m t s) ≡ cond b (indicator (h (address t s))) (mapBit g m t s)
+      go true on = ap indicator (same (ltb-true _ _ on))
       go false off = refl
 
-  pub expected-entry-same : ((s : ℕ) → s < sectorsOn g t → f (address t s) ≡ h (address t s)) → expectedEntry g f t ≡ expectedEntry g h t
-  unfolding expectedEntry bitmapByte
-  expected-entry-same same =
-      ap (λ (bit : ℕ → ℕ).
-      sum (map bit (range 0 (sectorsOn g t)))
-      ∷ binary (λ i. bit (8 * 0 + i)) 8
-      ∷ binary (λ i. bit (8 * 1 + i)) 8
-      ∷ binary (λ i. bit (8 * 2 + i)) 8
-      ∷ []) (fun-ext (λ s. expected-bit-same s (same s)))
+  pub entry-agrees : ((s : ℕ) → s < sectorsOn g t → f (address t s) ≡ h (address t s)) → expectedEntry g f m t ≡ expectedEntry g h m t
+  entry-agrees same = expected-entry-same g valid f h m m t (λ s b. expected-bit-same s (same s))
 
 -- ---- its bitmap and its count
 
-module _ (g : Geometry) (valid : Valid g) (free : Address → Bool) (t : ℕ) where
+module _ (g : Geometry) (valid : Valid g) (free : Address → Bool) (m : Bytes) (t : ℕ) where
   -- its bits, and how many of them are 1
   abbrev bits : ℕ → ℕ
-  bits = expectedBit g free t
+  bits = expectedBit g free m t
 
   abbrev ones : ℕ
   ones = sum (map bits (range 0 (sectorsOn g t)))
 
   ones-le : ones ≤ 24
-  ones-le = omega (arith, sum-map-le bits (expected-le g valid free t) 0 (sectorsOn g t), valid .small t)
+  ones-le = omega (arith, sum-map-le bits (expected-le g valid free m t) 0 (sectorsOn g t), valid .small t)
 
-  three-bytes : binary bits 24 ≡ bitmapByte g free t 0 + 256 * bitmapByte g free t 1 + 65536 * bitmapByte g free t 2
+  three-bytes : binary bits 24 ≡ bitmapByte g free m t 0 + 256 * bitmapByte g free m t 1 + 65536 * bitmapByte g free m t 2
   unfolding bitmapByte binary
   three-bytes = omega arith
 
-  count-expected : byte (expectedEntry g free t) 0 ≡ ones
+  count-expected : byte (expectedEntry g free m t) 0 ≡ ones
   unfolding expectedEntry
   count-expected = refl
 
   bits-lt : binary bits 24 < 16777216
-  bits-lt = binary-lt bits (expected-le g valid free t) 24
+  bits-lt = binary-lt bits (expected-le g valid free m t) 24
 
-  bitmap-expected : bitmapOf (expectedEntry g free t) ≡ binary bits 24
+  bitmap-expected : bitmapOf (expectedEntry g free m t) ≡ binary bits 24
   unfolding bitmapOf expectedEntry
   bitmap-expected = sym three-bytes
 
-  pub bit-expected : (s : ℕ) → s < 24 → bitOf (bitmapOf (expectedEntry g free t)) s ≡ bits s
-  bit-expected s h = ap (λ (x : ℕ). bitOf x s) bitmap-expected ∙ binary-bit bits (expected-le g valid free t) 24 s h
+  pub bit-expected : (s : ℕ) → s < 24 → bitOf (bitmapOf (expectedEntry g free m t)) s ≡ bits s
+  bit-expected s h = ap (λ (x : ℕ). bitOf x s) bitmap-expected ∙ binary-bit bits (expected-le g valid free m t) 24 s h
 
-  bitmap-byte-lt : (j : ℕ) → bitmapByte g free t j < 256
+  bitmap-byte-lt : (j : ℕ) → bitmapByte g free m t j < 256
   unfolding bitmapByte
-  bitmap-byte-lt j = binary-lt (λ i. expectedBit g free t (8 * j + i)) (λ i. expected-le g valid free t (8 * j + i)) 8
+  bitmap-byte-lt j = binary-lt (λ i. expectedBit g free m t (8 * j + i)) (λ i. expected-le g valid free m t (8 * j + i)) 8
 
   -- ---- known by these
 
   -- AN ENTRY IS THE EXPECTED ONE where its count and its bitmap are
-  entry-from-expected : (n m : ℕ) → n % 256 ≡ ones → m % 16777216 ≡ binary bits 24 → entryFrom n m ≡ expectedEntry g free t
+  entry-from-expected : (n k : ℕ) → n % 256 ≡ ones → k % 16777216 ≡ binary bits 24 → entryFrom n k ≡ expectedEntry g free m t
   unfolding entryFrom expectedEntry
-  entry-from-expected n m count bitmap =
-      let three = low-bytes m _ _ _ (bitmap-byte-lt 0) (bitmap-byte-lt 1) (bitmap-byte-lt 2) (bitmap ∙ three-bytes) in
+  entry-from-expected n k count bitmap =
+      let three = low-bytes k _ _ _ (bitmap-byte-lt 0) (bitmap-byte-lt 1) (bitmap-byte-lt 2) (bitmap ∙ three-bytes) in
       simp (count, three .low, three .middle, three .high)
 
   -- the same of four bytes
-  pub entry-expected : {e : Bytes} → EntryShape e → byte e 0 ≡ ones → ((s : ℕ) → s < 24 → entryBit e s ≡ bits s) → e ≡ expectedEntry g free t
+  pub entry-expected : {e : Bytes} → EntryShape e → byte e 0 ≡ ones → ((s : ℕ) → s < 24 → entryBit e s ≡ bits s) → e ≡ expectedEntry g free m t
   entry-expected {e} shape count same =
       let bitmap : bitmapOf e ≡ binary bits 24 = bitmap-binary e shape ∙ binary-same (entryBit e) bits 24 same in
       entry-itself shape ∙ entry-from-expected (byte e 0) (bitmapOf e) (omega (arith, shape .small 0)) (omega (arith, bits-lt))
@@ -120,31 +115,32 @@ record Freed (ones ones′ bitmap bitmap′ s : ℕ) : Type 0 where
   count : ones′ ≡ ones + 1
   bit : bitmap′ ≡ bitmap + 2 ^ s
 
-module _ (g : Geometry) (valid : Valid g) (t s : ℕ) (on : s < sectorsOn g t) where
-  bit-one : (free : Address → Bool) (v : Bool) → free (address t s) ≡ v → expectedBit g free t s ≡ indicator v
+module _ (g : Geometry) (valid : Valid g) (m : Bytes) (t s : ℕ) (on : s < sectorsOn g t) where
+  bit-one : (free : Address → Bool) (v : Bool) → free (address t s) ≡ v → expectedBit g free m t s ≡ indicator v
   unfolding expectedBit
   bit-one free v e = rw (lt-ltb s (sectorsOn g t) on, e)
 
-  freed : (f h : Address → Bool) → f (address t s) ≡ false → h (address t s) ≡ true → ((i : ℕ) → (i ≡ s → ⊥) → expectedBit g f t i ≡ expectedBit g h t i)
-      → Freed (ones g valid f t) (ones g valid h t) (binary (expectedBit g f t) 24) (binary (expectedBit g h t) 24) s
+  freed : (f h : Address → Bool) → f (address t s) ≡ false → h (address t s) ≡ true → ((i : ℕ) → (i ≡ s → ⊥) → expectedBit g f m t i ≡ expectedBit g h m t i)
+      → Freed (ones g valid f m t) (ones g valid h m t) (binary (expectedBit g f m t) 24) (binary (expectedBit g h m t) 24) s
   freed f h was is other =
-      let zero-bit : expectedBit g f t s ≡ 0 = bit-one f false was in
-      let one-bit : expectedBit g h t s ≡ 1 = bit-one h true is in
+      let zero-bit : expectedBit g f m t s ≡ 0 = bit-one f false was in
+      let one-bit : expectedBit g h m t s ≡ 1 = bit-one h true is in
       record {
-        count = sum-map-more (expectedBit g f t) (expectedBit g h t) s 1 (omega arith) other 0 (sectorsOn g t) (omega arith) (omega arith);
-        bit = binary-set (expectedBit g f t) (expectedBit g h t) s zero-bit one-bit other 24 (omega (arith, valid .small t));
+        count = sum-map-more (expectedBit g f m t) (expectedBit g h m t) s 1 (omega arith) other 0 (sectorsOn g t) (omega arith) (omega arith);
+        bit = binary-set (expectedBit g f m t) (expectedBit g h m t) s zero-bit one-bit other 24 (omega (arith, valid .small t));
       }
 
   -- A MARK MOVED in the expected entry gives the one expected where that sector alone is free, or used
-  pub entry-moved : (v : Bool) (f h : Address → Bool) → f (address t s) ≡ not v → h (address t s) ≡ v → ((i : ℕ) → (i ≡ s → ⊥) → expectedBit g f t i ≡ expectedBit g h t i)
-      → movedEntry (expectedEntry g f t) s v ≡ expectedEntry g h t
+  pub entry-moved : (v : Bool) (f h : Address → Bool) → f (address t s) ≡ not v → h (address t s) ≡ v
+      → ((i : ℕ) → (i ≡ s → ⊥) → expectedBit g f m t i ≡ expectedBit g h m t i)
+      → movedEntry (expectedEntry g f m t) s v ≡ expectedEntry g h m t
   unfolding movedEntry
   entry-moved true f h was is other =
       let more = freed f h was is other in
-      rw (lt-ltb s 24 (omega (arith, valid .small t)), count-expected g valid f t, bitmap-expected g valid f t)
-      (entry-from-expected g valid h t _ _ (omega (arith, ones-le g valid h t)) (omega (arith, bits-lt g valid h t)))
+      rw (lt-ltb s 24 (omega (arith, valid .small t)), count-expected g valid f m t, bitmap-expected g valid f m t)
+      (entry-from-expected g valid h m t _ _ (omega (arith, ones-le g valid h m t)) (omega (arith, bits-lt g valid h m t)))
   entry-moved false f h was is other =
       let more = freed h f is was (λ i q. sym (other i q)) in
       let below : s < 24 = omega (arith, valid .small t) in
-      rw (lt-ltb s 24 below, count-expected g valid f t, bitmap-expected g valid f t)
-      (entry-from-expected g valid h t _ _ (omega (arith, ones-le g valid h t)) (omega (arith, bits-lt g valid h t, power-le s (omega arith))))
+      rw (lt-ltb s 24 below, count-expected g valid f m t, bitmap-expected g valid f m t)
+      (entry-from-expected g valid h m t _ _ (omega (arith, ones-le g valid h m t)) (omega (arith, bits-lt g valid h m t, power-le s (omega arith))))

@@ -33,39 +33,40 @@ module _ (s : Bytes) (i : ℕ) (a b : Bytes) (fits : i + (length a + length b) �
       let after : drop (i + length a) (splice s (i + length a) b) ≡ rest = drop-at (take (i + length a) s) rest (i + length a) size in
       ap₂ (λ (x y : Bytes). x ++ (a ++ y)) before after ∙ splice-both s i a b fits
 
-module _ (free : Address → Bool) where
+module _ (free : Address → Bool) (m : Bytes) where
   -- the map by value of which every entry is as expected
   abbrev expected : Entries
-  expected = map (expectedEntry layout35 free) (range 1 35)
+  expected = map (expectedEntry layout35 free m) (range 1 35)
 
-  entries-expected : {es : Entries} → Expects free es → es ≡ expected
+  entries-expected : {es : Entries} → Expects free m es → es ≡ expected
   unfolding entryOf
   entries-expected {es} e =
-      ext-getD [] es expected (e .size ∙ sym (length-map-range (expectedEntry layout35 free) 1 35)) (λ i h.
+      ext-getD [] es expected (e .size ∙ sym (length-map-range (expectedEntry layout35 free m) 1 35)) (λ i h.
       let below : i < 35 = omega (arith, e .size) in
       let z : 1 + i - 1 ≡ i = omega arith in
       ap (λ (k : ℕ). getD es k []) (sym z) ∙ e .entry (1 + i) (omega arith) (omega arith)
-      ∙ sym (getD-map-range (expectedEntry layout35 free) 1 35 i [] below))
+      ∙ sym (getD-map-range (expectedEntry layout35 free m) 1 35 i [] below))
 
-  length-joined : (a n : ℕ) → length (join (map (expectedEntry layout35 free) (range a n))) ≡ 4 * n
+  length-joined : (a n : ℕ) → length (join (map (expectedEntry layout35 free m) (range a n))) ≡ 4 * n
   length-joined a zero = refl
   length-joined a (suc n) =
-      omega (arith, length-append (expectedEntry layout35 free a) (join (map (expectedEntry layout35 free) (range (suc a) n))), entry-length layout35 valid35 free a, length-joined (suc a) n)
+      let rest : Bytes = join (map (expectedEntry layout35 free m) (range (suc a) n)) in
+      omega (arith, length-append (expectedEntry layout35 free m a) rest, entry-length layout35 valid35 free m a, length-joined (suc a) n)
 
   -- entries behind one another at once, or one by one
-  rewritten : (m : Bytes) (a n : ℕ) → 4 * (a + n) ≤ length m
-      → splice m (4 * a) (join (map (expectedEntry layout35 free) (range a n))) ≡ withEntries layout35 free m (range a n)
+  rewritten : (a n : ℕ) → 4 * (a + n) ≤ length m
+      → splice m (4 * a) (join (map (expectedEntry layout35 free m) (range a n))) ≡ withEntries layout35 free m (range a n)
   unfolding layout35
-  rewritten m a zero h = splice-nil m (4 * a)
-  rewritten m a (suc n) h =
-      let e : Bytes = expectedEntry layout35 free a in
-      let rest : Bytes = join (map (expectedEntry layout35 free) (range (suc a) n)) in
-      let z : 4 * a + length e ≡ 4 * suc a = omega (arith, entry-length layout35 valid35 free a) in
-      sym (splice-ahead m (4 * a) e rest (omega (arith, entry-length layout35 valid35 free a, length-joined (suc a) n)))
+  rewritten a zero h = splice-nil m (4 * a)
+  rewritten a (suc n) h =
+      let e : Bytes = expectedEntry layout35 free m a in
+      let rest : Bytes = join (map (expectedEntry layout35 free m) (range (suc a) n)) in
+      let z : 4 * a + length e ≡ 4 * suc a = omega (arith, entry-length layout35 valid35 free m a) in
+      sym (splice-ahead m (4 * a) e rest (omega (arith, entry-length layout35 valid35 free m a, length-joined (suc a) n)))
       ∙ ap (λ (k : ℕ). splice (splice m k rest) (4 * a) e) z
-      ∙ ap (λ (l : Bytes). splice l (4 * a) e) (rewritten m (suc a) n (omega arith))
+      ∙ ap (λ (l : Bytes). splice l (4 * a) e) (rewritten (suc a) n (omega arith))
 
-  pub stored-follows : {es : Entries} → Expects free es → (m : Bytes) → 144 ≤ length m → storedEntries es m ≡ withEntries layout35 free m (range 1 (tracks layout35))
+  pub stored-follows : {es : Entries} → Expects free m es → 144 ≤ length m → storedEntries es m ≡ withEntries layout35 free m (range 1 (tracks layout35))
   unfolding storedEntries tracks layout35
-  stored-follows expects m h =
-      ap (λ (x : Entries). storedEntries x m) (entries-expected expects) ∙ (simp (le-leb 144 (length m) h) (rewritten m 1 35 (omega arith)))
+  stored-follows expects h =
+      ap (λ (x : Entries). storedEntries x m) (entries-expected expects) ∙ (simp (le-leb 144 (length m) h) (rewritten 1 35 (omega arith)))

@@ -4,17 +4,17 @@ use mathlib.Core.Path.{_≡_}
 use mathlib.Core.Bool.{Bool, cond}
 use mathlib.Core.List.{List, map}
 use lib.ListN.{length}
-use Rattle.d64spec.specs.Lists.{member}
+use Rattle.d64spec.specs.Lists.{Bytes, member}
 use Rattle.d64spec.specs.Answers.{Address}
 use Rattle.d64spec.specs.Geometry.{layout35, sectorNumber}
 use Rattle.d64spec.specs.Map.{expectedEntry}
 use Rattle.bam.specs.MapEntry.{Entries}
 use Rattle.bam.specs.Bam.{entryOf}
 
--- every entry of the map is the one that these free sectors ask for
-pub record Expects (free : Address → Bool) (es : Entries) : Type 0 where
+-- every entry of the map is the one that these free sectors ask for, with the bits past its track's last sector that the map sector m has (02, §5)
+pub record Expects (free : Address → Bool) (m : Bytes) (es : Entries) : Type 0 where
   pub size : length es ≡ 35
-  pub entry : (t : ℕ) → 1 ≤ t → t ≤ 35 → entryOf es t ≡ expectedEntry layout35 free t
+  pub entry : (t : ℕ) → 1 ≤ t → t ≤ 35 → entryOf es t ≡ expectedEntry layout35 free m t
 
 -- which sectors are free once those of a list are given back, or else taken
 unfoldable pub freeAfter : Bool → List Address → (Address → Bool) → Address → Bool

@@ -9,6 +9,7 @@ use Rattle.d64spec.specs.Host.{HostReply}
 use Rattle.d64spec.specs.Run.{Request, serve, after, run}
 use Rattle.d64spec.proofs.RunTheorem.{demand-3, valid35}
 use Rattle.d64spec.proofs.RetiredTheorem.{start-kept}
+use Rattle.d64spec.proofs.SpareTheorem.{spare-kept}
 use Rattle.d64.specs.Runs.{Served, imageLeft, replies, CallsHold}
 
 -- what the calls gave is what the run gives
@@ -28,4 +29,4 @@ served-run img (q ∷ l) (r ∷ rs) s =
 pub calls-run : (img : Bytes) (l : List Request) (rs : List HostReply) → Accepted layout35 img → Served img l rs → CallsHold img l rs
 calls-run img l rs a s =
     let h = served-run img l rs s in
-    record { replied = h .0; left = h .1; holds = demand-3 img l a; kept = start-kept layout35 valid35 img l a }
+    record { replied = h .0; left = h .1; holds = demand-3 img l a; kept = start-kept layout35 valid35 img l a; spare = spare-kept layout35 valid35 img l }

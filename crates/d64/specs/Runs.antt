@@ -6,6 +6,7 @@ use Rattle.d64spec.specs.Lists.{Bytes}
 use Rattle.d64spec.specs.Geometry.{layout35}
 use Rattle.d64spec.specs.Host.{HostReply, hostCall}
 use Rattle.d64spec.specs.Run.{Request, serve, after, run, RunHolds}
+use Rattle.d64spec.specs.SpareBits.{SpareKept}
 use Rattle.d64spec.specs.Retired.{StartKept}
 use Rattle.d64.specs.HostCalls.{HostServed}
 
@@ -27,9 +28,11 @@ abbrev pub replies : Bytes → List Request → List HostReply
 replies img [] = []
 replies img (q ∷ l) = serve layout35 img q ∷ replies (after layout35 img q) l
 
--- demand 3 of what the calls returned and left: they are the run's, and the run holds, and keeps what was there at the start (02, §12)
+-- demand 3 of what the calls returned and left: they are the run's, and the run holds, and keeps the files that were there at the start (02, §12) and the
+-- bits past the tracks' last sectors (02, §5)
 pub record CallsHold (img : Bytes) (l : List Request) (rs : List HostReply) : Type 0 where
   pub replied : rs ≡ replies img l
   pub left : imageLeft img rs ≡ run layout35 img l
   pub holds : RunHolds layout35 681 img l
   pub kept : StartKept layout35 img l
+  pub spare : SpareKept layout35 img l

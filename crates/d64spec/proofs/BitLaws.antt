@@ -2,7 +2,7 @@
 -- made of a number's lowest bits is its remainder, so that numbers are known by their bits; one bit changed. Assumes nothing.
 use Prim.Native.Nat.{ℕ, zero, suc, _+_, _*_, _/_, _%_, _^_, _≤_, _<_}
 use native.Mathlib.Omega.{arith}
-use native.Mathlib.Nat.{pow-succ', mul-add, mul-assoc, mul-comm, mul-left-comm, div-div-eq-div-mul, mod-add-div, mod-eq-of-lt, mod-lt, add-mul-mod-self-left}
+use native.Mathlib.Nat.{pow-succ', mul-add, mul-assoc, mul-comm, mul-left-comm, zero-div, div-div-eq-div-mul, mod-add-div, mod-eq-of-lt, mod-lt, add-mul-mod-self-left}
 use mathlib.Core.Path.{_≡_, refl, sym, ap, _∙_}
 use mathlib.Core.List.{map}
 use lib.Pow.{pow-pos}
@@ -13,6 +13,10 @@ use Rattle.d64spec.proofs.SumLaws.{sum-same, sum-map-last, sum-map-more
 pub bit-le : (b k : ℕ) → bitOf b k ≤ 1
 unfolding bitOf
 bit-le b k = omega arith
+
+pub zero-bit : (k : ℕ) → bitOf 0 k ≡ 0
+unfolding bitOf
+zero-bit k = ap (λ (x : ℕ). x % 2) (zero-div (2 ^ k))
 
 module _ (f : ℕ → ℕ) where
   pub binary-more : (n : ℕ) → binary f (suc n) ≡ binary f n + f n * 2 ^ n

@@ -16,13 +16,13 @@ use Rattle.d64spec.specs.Accepted.{Accepted}
 use Rattle.d64spec.specs.Reply.{Change, changed}
 use Rattle.d64spec.specs.Store.{SlotPlace, callStore, newEntry, placement, sectorsNeeded, slotPlaceFor, storedDisk, writeChain, writeSlot}
 use Rattle.d64spec.specs.Scratch.{callScratch, scratchChange, scratchedDisk}
-use Rattle.d64spec.specs.Changes.{ScratchWrites, ScratchedBytes, StoreWrites, StoredBytes, addedSectors}
+use Rattle.d64spec.specs.Changes.{OtherBits, ScratchWrites, ScratchedBytes, StoreWrites, StoredBytes, addedSectors}
 use Rattle.d64spec.proofs.ResultLaws.{done-inj}
 use Rattle.d64spec.proofs.CallLaws.{ScratchDone, StoreDone, scratch-done, store-done}
 use Rattle.d64spec.proofs.FrameLaws.{Sound}
 use Rattle.d64spec.proofs.ImageLaws.{Whole, disk-whole}
 use Rattle.d64spec.proofs.MapBytes.{Prepared}
-use Rattle.d64spec.proofs.OtherBytes.{after-disk, after-size, after-map, after-rest}
+use Rattle.d64spec.proofs.OtherBytes.{after-disk, after-size, after-map, after-bits, after-rest}
 use Rattle.d64spec.proofs.ScratchLaws.{OccupiedSlot, d2, prepared2, rest2}
 use Rattle.d64spec.proofs.ScratchedLaws.{scratch-cleared, scratch-slot}
 use Rattle.d64spec.proofs.ScratchStep.{Found, found, scratch-finds, sound-of}
@@ -32,6 +32,15 @@ use Rattle.d64spec.proofs.StoreStep.{Taken, place-case, placement-taken
 use Rattle.d64spec.proofs.NamedLaws.{filesNamed-one}
 
 -- ---- scratch
+
+slot-bits : (g : Geometry) (v : Valid g) (img : Bytes) (a : Accepted g img) (o : OccupiedSlot g (disk img))
+    → OtherBits g (fileOf g (disk img) (o .slot) .sectors) (disk img) (disk (image g (scratchedDisk g (disk img) (fileOf g (disk img) (o .slot)))))
+unfolding scratchedDisk fileOf
+slot-bits g v img a o =
+    let d : Disk = disk img in
+    let w : Whole g d = disk-whole g img (a .size) in
+    let s : Sound g d = sound-of g d (a .content) in
+    after-bits g v img a (d2 g v d w s o) (fileOf g d (o .slot) .sectors) (prepared2 g v d w s o)
 
 scratched-slot : (g : Geometry) (v : Valid g) (img : Bytes) (a : Accepted g img) → ((k : ℕ) → byte img k < 256) → (o : OccupiedSlot g (disk img))
     → ScratchedBytes g img (fileOf g (disk img) (o .slot)) (image g (scratchedDisk g (disk img) (fileOf g (disk img) (o .slot))))
@@ -48,6 +57,7 @@ scratched-slot g v img a small o =
       cleared = λ n h. ap (λ (x : Disk). x n) (after-disk g v img a e (f .sectors) p) ∙ scratch-cleared g v d w s o n h;
       slot = rw (after-disk g v img a e (f .sectors) p) (scratch-slot g v d w s o);
       map = after-map g v img a e (f .sectors) p;
+      bits = slot-bits g v img a o;
       rest = after-rest g v img a e (f .sectors) p small (λ n i. ScratchWrites g f n i) (λ n i h. inr (inr h)) (λ n i out. rest2 g v d w s o n i (λ h. out (inl h)) (λ h. out (inr (inl h))));
     }
 
@@ -64,6 +74,14 @@ pub scratched-bytes : (g : Geometry) → Valid g → (img : Bytes) → Accepted 
 scratched-bytes g v img a small name ch e f m is =
     let o : Found g (disk img) f = found g (disk img) f m in
     rw (scratch-change g img a name ch e f m is) (subst (λ (x : File). ScratchedBytes g img x (image g (scratchedDisk g (disk img) x))) (o .is) (scratched-slot g v img a small (o .place)))
+
+-- the map's bits, for any numbers in the place of bytes
+pub scratched-bits : (g : Geometry) → Valid g → (img : Bytes) → Accepted g img → (name : Bytes) (ch : Change) → callScratch g img name ≡ done ch
+    → (f : File) → List·Memᴰ f (files g (disk img)) → nameOf (f .slot .bytes) ≡ name → OtherBits g (f .sectors) (disk img) (disk (ch .imageAfter))
+scratched-bits g v img a name ch e f m is =
+    let o : Found g (disk img) f = found g (disk img) f m in
+    rw (scratch-change g img a name ch e f m is)
+    (subst (λ (x : File). OtherBits g (x .sectors) (disk img) (disk (image g (scratchedDisk g (disk img) x)))) (o .is) (slot-bits g v img a (o .place)))
 
 -- A SCRATCH REPORTS the file's length and the number of its sectors
 pub scratch-reports : (g : Geometry) (img : Bytes) → Accepted g img → (name : Bytes) (ch : Change) → callScratch g img name ≡ done ch → (f : File) → List·Memᴰ f (files g (disk img)) → nameOf (f .slot .bytes) ≡ name
@@ -107,6 +125,11 @@ module _ (g : Geometry) (img name : Bytes) (kind : ℕ) (bs : Bytes) (ch : Chang
         stored g v img a name kind bs (told .asked) (told .kind-asked) (store-new told) r l (subst (Taken g (disk img)) takes (placement-taken g (disk img) (sectorsNeeded (length bs))))
         (sectors-fit (r ∷ l) (length bs) store-size) place (place-case g (disk img) place found)
 
+    -- the map's bits, for any numbers in the place of bytes
+    pub stored-bits : OtherBits g (addedSectors place ++ r ∷ l) (disk img) (disk (ch .imageAfter))
+    unfolding storedDisk
+    stored-bits = rw store-change (after-bits g v img a e2 (addedSectors place ++ r ∷ l) (leaves .prepared))
+
     stored-place : ((k : ℕ) → byte img k < 256) → StoredBytes g img place r l name kind bs (image g (storedDisk g (disk img) place (r ∷ l) name kind bs))
     unfolding storedDisk
     stored-place small =
@@ -117,6 +140,7 @@ module _ (g : Geometry) (img name : Bytes) (kind : ℕ) (bs : Bytes) (ch : Chang
           laid = rw (after-disk g v img a e2 t (k .prepared)) (k .laid);
           entry = rw (after-disk g v img a e2 t (k .prepared)) (k .entry);
           map = after-map g v img a e2 t (k .prepared);
+          bits = rw store-change at stored-bits;
           rest = after-rest g v img a e2 t (k .prepared) small (λ n i. StoreWrites g (disk img) place (r ∷ l) n i) (λ n i h. inr (inr h)) (λ n i out. k .rest n i (λ h. out (inl h)) (λ h. out (inr (inl h))));
         }
 

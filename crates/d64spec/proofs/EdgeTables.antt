@@ -18,12 +18,13 @@ use Rattle.d64spec.specs.Format.{callFormat, formatHeader, formattedDisk
 use Rattle.d64spec.specs.Read.{callRead, callTell, noInformation, tellReply}
 use Rattle.d64spec.specs.Store.{callStore, emptySlots, growDirectory, lastOf, newEntry, overwriteSlot, placement, sectorsNeeded, slotPlaceFor, storedDisk, writeSlot}
 use Rattle.d64spec.specs.Scratch.{callScratch, scratchedDisk}
-use Rattle.d64spec.specs.Call.{attempt, callCheck, outputBuffer, perform, read}
+use Rattle.d64spec.specs.Call.{attempt, callCheck, check, format, outputBuffer, perform, read, scratch, store}
 use Rattle.d64spec.specs.Listing.{bytesOfTrack18, callListing, digit, diskOfTrack18, freeTotal, headFrame, line, listingOutput, listingReply, listingText, refusalLine, sleeveOutput, slotFrame}
 use Rattle.d64spec.specs.Host.{answerBlock, hostCall}
 use Rattle.d64spec.specs.Run.{run}
-use Rattle.d64spec.specs.Trial.{afterCall, answerBytes, fieldsOf, freshImage, headOfD, imageWithA, imageWithAB, lent, lentBlock, nameA, nameB, sent, smallLayout}
+use Rattle.d64spec.specs.Trial.{afterCall, answerBytes, entryOn19, fieldsOf, freshImage, headOfD, imageWithA, imageWithAB, imageWithEight, lent, lentBlock, nameA, nameB, requests, sent, smallLayout, withEnds}
 use Rattle.d64spec.specs.Edges.{answersAt, bitmaps, dirtyHole, faultsAt, filledHole, firstAndLast, formatted180, holeFilled, houseNumbers, longerNumbers, manyFree, name16, onTrack18, sameBitmaps, sent600, shownFaults, writtenPart, wrongTracks}
+use Rattle.d64spec.specs.SpareBits.{brokenEntries, entriesAfter, entryHolds, spareDisk, spareEight, spareFull, zoneRows}
 use Rattle.d64spec.specs.Retired.{numbers, prgC, retiring, sparing, usrA, usrB, usrDisk, usrLines}
 
 -- DOCUMENT 01'S TABLE OF ANSWERS, for every place
@@ -56,9 +57,14 @@ pub ones-are : map (mapOnes layout35 (sameBitmaps (replicate 3 0xFF))) (ascendin
 unfolding sameBitmaps mapOnes mapBit bitOf sectorsOn ascending layout35
 ones-are = refl
 
+-- BITS PAST A TRACK'S LAST SECTOR, in each zone (02, §5)
+pub zones-are : brokenEntries zoneRows ≡ []
+unfolding zoneRows entryHolds entryCorrect wrongBits mapOnes mapBit bitOf expectedEntry expectedBit bitmapByte binary sectorsOn layout35
+zones-are = refl
+
 -- EVERY BYTE OF 18/0 after a format
 pub formatted-180 : formattedDisk layout35 name16 0xFF 0x80 357 ≡ formatted180
-unfolding formatted180 formattedDisk formattedMap formatHeader freeAfterFormat padded expectedEntry expectedBit bitmapByte binary ascending sectorNumber firstOn sectorsOn tracks put layout35
+unfolding formatted180 formattedDisk formattedMap formatHeader freeAfterFormat padded expectedEntry expectedBit bitmapByte binary mapBit bitOf ascending sectorNumber firstOn sectorsOn tracks put layout35
 formatted-180 = refl
 
 -- ---- calls on the small disk
@@ -77,6 +83,14 @@ pub record EdgesHold : Type 0 where
   pub usrSpared : plainList smallLayout (disk (run smallLayout usrDisk sparing)) ≡ usrA ∷ usrB ∷ prgC ∷ []
   pub usrScratched : plainList smallLayout (disk (run smallLayout usrDisk (sparing ++ retiring))) ≡ usrB ∷ prgC ∷ []
   pub usrCleared : take 512 (drop 768 (run smallLayout usrDisk (sparing ++ retiring))) ≡ zeros 512
+  -- bits past a track's last sector (02, §5): B is stored in 19/2, and A in 19/0 and 19/1 scratched; a format clears them; the directory grows
+  pub spareStored : entriesAfter spareDisk (store nameB 1 (7 ∷ []) ∷ []) ≡ 1 ∷ 0xAC ∷ 0x5A ∷ 0xC3 ∷ 7 ∷ 0xF8 ∷ 0x57 ∷ 0x99 ∷ []
+  pub spareScratched : entriesAfter spareDisk (store nameB 1 (7 ∷ []) ∷ scratch nameA ∷ []) ≡ 1 ∷ 0xAC ∷ 0x5A ∷ 0xC3 ∷ 9 ∷ 0xFB ∷ 0x57 ∷ 0x99 ∷ []
+  pub spareFormatted : entriesAfter spareDisk (format nameA 1 2 ∷ []) ≡ 1 ∷ 0x04 ∷ 0x00 ∷ 0x00 ∷ 10 ∷ 0xFF ∷ 0x03 ∷ 0x00 ∷ []
+  pub spareGrown : entriesAfter spareEight (store nameA 2 sent ∷ []) ≡ 0 ∷ 0xA8 ∷ 0x5A ∷ 0xC3 ∷ 0 ∷ 0x00 ∷ 0x54 ∷ 0x99 ∷ []
+  -- and they are no room: the disk is full, or the directory is
+  pub spareNumbers : numbers smallLayout spareEight (requests (check ∷ store nameA 2 sent ∷ store nameB 1 [] ∷ check ∷ [])) ≡ 0 ∷ 0 ∷ 15 ∷ 0 ∷ []
+  pub spareNoSlot : numbers smallLayout spareFull (requests (check ∷ store nameA 1 [] ∷ [])) ≡ 0 ∷ 14 ∷ []
   -- a file on track 18 is read, and no byte behind its last
   pub on18 : hostCall smallLayout onTrack18 lentBlock (read nameA (replicate 257 7)) .outputAfter ≡ range 2 254 ++ (100 ∷ 7 ∷ 7 ∷ [])
   -- freed sectors are used again by the same rule, whatever they hold; bytes 00-01 of a slot stay, and so does all that is free
@@ -92,7 +106,7 @@ pub record EdgesHold : Type 0 where
 
 -- WHAT NO EXAMPLE REACHES, on a small disk
 pub edges-hold : EdgesHold
-unfolding usrDisk plainList plainEntryOf onTrack18 writtenPart filledHole holeFilled dirtyHole sent600 longerNumbers manyFree firstAndLast shownFaults callListing listingText headFrame slotFrame line digit freeTotal diskOfTrack18 listingReply sleeveOutput bytesOfTrack18 listingOutput refusalLine afterCall freshImage imageWithA imageWithAB sent smallLayout fieldsOf hostCall perform reply attempt outputBuffer answerBlock callCheck callFormat callRead callStore callScratch callTell tellReply noInformation checkImage rightSize validNameArgument storableKind writable filesNamed image disk put first sectorNumber onDisk firstOn sectorsOn total tracks mapOnes mapBit bitOf sectorsNeeded allocationOrder allocationTracks ascending descending sectorsOfTrack lastOf formattedDisk formattedMap formatHeader freeAfterFormat padded expectedEntry expectedBit bitmapByte binary rewriteMap claimCount claimList claimsOf directorySectors files occupied fileOf slotIn slotsIn firstLink linkTo fileLink directoryLink decodeFileLink decodeDirectoryLink freeForFiles freeForDirectory emptySlots slotPlaceFor placement storedDisk writeSlot overwriteSlot growDirectory newEntry scratchedDisk checkDisk checkDirectory checkSlot checkEntry entryCorrect wrongBits validType validName nameOf
+unfolding spareDisk spareEight spareFull imageWithEight entryOn19 withEnds usrDisk plainList plainEntryOf onTrack18 writtenPart filledHole holeFilled dirtyHole sent600 longerNumbers manyFree firstAndLast shownFaults callListing listingText headFrame slotFrame line digit freeTotal diskOfTrack18 listingReply sleeveOutput bytesOfTrack18 listingOutput refusalLine afterCall freshImage imageWithA imageWithAB sent smallLayout fieldsOf hostCall perform reply attempt outputBuffer answerBlock callCheck callFormat callRead callStore callScratch callTell tellReply noInformation checkImage rightSize validNameArgument storableKind writable filesNamed image disk put first sectorNumber onDisk firstOn sectorsOn total tracks mapOnes mapBit bitOf sectorsNeeded allocationOrder allocationTracks ascending descending sectorsOfTrack lastOf formattedDisk formattedMap formatHeader freeAfterFormat padded expectedEntry expectedBit bitmapByte binary rewriteMap claimCount claimList claimsOf directorySectors files occupied fileOf slotIn slotsIn firstLink linkTo fileLink directoryLink decodeFileLink decodeDirectoryLink freeForFiles freeForDirectory emptySlots slotPlaceFor placement storedDisk writeSlot overwriteSlot growDirectory newEntry scratchedDisk checkDisk checkDirectory checkSlot checkEntry entryCorrect wrongBits validType validName nameOf
 edges-hold = record {
   usrTold = refl;
   usrListed = refl;
@@ -101,6 +115,12 @@ edges-hold = record {
   usrSpared = refl;
   usrScratched = refl;
   usrCleared = refl;
+  spareStored = refl;
+  spareScratched = refl;
+  spareFormatted = refl;
+  spareGrown = refl;
+  spareNumbers = refl;
+  spareNoSlot = refl;
   on18 = refl;
   hole = refl;
   longer = refl;

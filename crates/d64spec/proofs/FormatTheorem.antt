@@ -1,14 +1,14 @@
 -- A formatted disk has the bytes that document 01 lists, and is ready for use (01, Format). For 35 tracks, document 01's two numbers by computation.
-use Prim.Native.Nat.{ℕ, zero, suc, _+_, _-_, _≤_, _<_}
+use Prim.Native.Nat.{ℕ, zero, suc, _+_, _-_, _/_, _%_, _≤_, _<_}
 use native.Mathlib.Omega.{arith}
 use native.Mathlib.Decide.{decLe}
-use mathlib.Core.Path.{_≡_, refl, sym, ap, _∙_, fun-ext}
-use mathlib.Core.Bool.{Bool, false}
+use mathlib.Core.Path.{_≡_, refl, sym, ap, ap₂, _∙_, fun-ext}
+use mathlib.Core.Bool.{Bool, false, cond}
 use mathlib.Core.Logic.{_⊎_, inl, inr, ⊎-elim, _↔_}
 use mathlib.Core.List.{[], _∷_, _++_}
 use lib.ListN.{List·getD-append, length-replicate, length, take, drop, length-take, length-drop}
 use lib.Seq.{take-at, drop-at, drop-drop, ext-getD, getD-take, getD-drop}
-use lib.Dec.{eqb}
+use lib.Dec.{eqb, ltb}
 use borrow.Author.Tests.{eq-eqb, ltb-true, ne-eqb}
 use Rattle.d64spec.specs.Lists.{Bytes, ascending, byte, descending, filter, indicator, part, zeros}
 use Rattle.d64spec.specs.Answers.{Address, address, done}
@@ -16,16 +16,17 @@ use Rattle.d64spec.specs.Geometry.{Geometry, Valid, allocationOrder, all
 use Rattle.d64spec.specs.Image.{Disk, disk}
 use Rattle.d64spec.specs.Directory.{padded}
 use Rattle.d64spec.specs.Owner.{claimCount, freeForDirectory, freeForFiles, isFree}
-use Rattle.d64spec.specs.Bits.{binary}
+use Rattle.d64spec.specs.Bits.{binary, bitOf}
 use Rattle.d64spec.specs.Map.{bitmapByte, expectedBit, expectedEntry, mapBit, rewriteMap}
 use Rattle.d64spec.specs.Reply.{Change}
 use Rattle.d64spec.specs.Format.{callFormat, emptyDirectorySector, freeAfterFormat}
 use Rattle.d64spec.specs.Call.{attempt, format, outputBuffer, perform}
-use Rattle.d64spec.specs.Facts.{Formatted, FormattedMap, MapBesideName}
+use Rattle.d64spec.specs.Facts.{Formatted, FormattedMap}
+use Rattle.d64spec.proofs.BitLaws.{zero-bit}
 use Rattle.d64spec.proofs.BoundLaws.{sectorNumber-lt, map-on}
 use Rattle.d64spec.proofs.SpliceLaws.{part-same}
 use Rattle.d64spec.proofs.ImageLaws.{Whole}
-use Rattle.d64spec.proofs.MapWriteLaws.{entry-length, rewrite-accepted, rewrite-claims, rewrite-holds, rewrite-other, rewrite-whole}
+use Rattle.d64spec.proofs.MapWriteLaws.{entry-length, expected-entry-same, rewrite-accepted, rewrite-claims, rewrite-holds, rewrite-other, rewrite-past, rewrite-whole}
 use Rattle.d64spec.proofs.AllocationLaws.{one-track}
 use Rattle.d64spec.proofs.FormatLaws.{blankDisk, blank-claims, blank-dir, blank-map, blank-other, blank-sound, blank-whole, free-same, header, padded-length}
 use Rattle.d64spec.proofs.FormatReady.{formatted-disk, format-ready}
@@ -66,7 +67,12 @@ module _ (name : Bytes) (i j : ℕ) (short : length name ≤ 16) where
 
 -- ---- 18/0
 
-module _ (g : Geometry) (v : Valid g) (beside : MapBesideName g) (name : Bytes) (i j : ℕ) (short : length name ≤ 16) where
+-- a byte that is 0 has no bits
+bit-of-none : (g : Geometry) (m : Bytes) (t s : ℕ) → byte m (g .mapAt t + 1 + s / 8) ≡ 0 → mapBit g m t s ≡ 0
+unfolding mapBit
+bit-of-none g m t s e = ap (λ (x : ℕ). bitOf x (s % 8)) e ∙ zero-bit (s % 8)
+
+module _ (g : Geometry) (v : Valid g) (name : Bytes) (i j : ℕ) (short : length name ≤ 16) where
   -- the formatted disk
   abbrev d : Disk
   d = rewriteMap g (blankDisk g name i j)
@@ -94,18 +100,39 @@ module _ (g : Geometry) (v : Valid g) (beside : MapBesideName g) (name : Bytes) 
 
   -- a part from $90 to $AA
   map-named : (k n : ℕ) → 0x90 ≤ k → k + n ≤ 0xAB → take n (drop k m) ≡ take n (drop k (header name i j))
-  map-named k n l u = map-part k n (λ t a b. ⊎-elim (λ c. inr (omega arith)) (λ c. inl (omega arith)) (beside t a b))
+  map-named k n l u = map-part k n (λ t a b. ⊎-elim (λ c. inr (omega arith)) (λ c. inl (omega arith)) (v .mapBeside t a b))
 
-  map-entry : (t : ℕ) → 1 ≤ t → t ≤ tracks g → part (g .mapAt t) (g .mapAt t + 3) m ≡ expectedEntry g (freeAfterFormat g) t
+  -- where the map's entries lie, the header is 0
+  header-bit : (t s : ℕ) → 1 ≤ t → t ≤ tracks g → s < 24 → mapBit g (header name i j) t s ≡ 0
+  header-bit t s l h b =
+      bit-of-none g (header name i j) t s
+      (header-rest name i j short (g .mapAt t + 1 + s / 8) (omega (arith, v .mapPast t l h))
+      (⊎-elim (λ c. inl (omega arith)) (λ c. inr (omega arith)) (v .mapBeside t l h)))
+
+  -- bits past a track's last sector are 0
+  pub formatted-spare : (t s : ℕ) → 1 ≤ t → t ≤ tracks g → sectorsOn g t ≤ s → s < 24 → mapBit g m t s ≡ 0
+  formatted-spare t s l h past b =
+      rewrite-past g v (blankDisk g name i j) (blank-whole g v name i j short) (blank-sound g v name i j short) t s l h past b
+      ∙ ap (λ (x : Bytes). mapBit g x t s) (blank-map g name i j) ∙ header-bit t s l h b
+
+  -- the entry of a map sector that was all 0
+  pub fresh-entry : (t : ℕ) → 1 ≤ t → t ≤ tracks g → expectedEntry g (freeAfterFormat g) (header name i j) t ≡ expectedEntry g (freeAfterFormat g) (zeros 256) t
+  unfolding expectedBit
+  fresh-entry t l h =
+      expected-entry-same g v (freeAfterFormat g) (freeAfterFormat g) (header name i j) (zeros 256) t
+      (λ s b. ap (cond (ltb s (sectorsOn g t)) _) (header-bit t s l h b ∙ sym (bit-of-none g (zeros 256) t s (byte-zeros 256 (g .mapAt t + 1 + s / 8)))))
+
+  map-entry : (t : ℕ) → 1 ≤ t → t ≤ tracks g → part (g .mapAt t) (g .mapAt t + 3) m ≡ expectedEntry g (freeAfterFormat g) (zeros 256) t
   map-entry t l h =
-      let e : Bytes = expectedEntry g (isFree g (blankDisk g name i j)) t in
+      let old : Bytes = blankDisk g name i j (sectorNumber g mapAddress) in
+      let e : Bytes = expectedEntry g (isFree g (blankDisk g name i j)) old t in
       let p : Bytes = take 4 (drop (g .mapAt t) m) in
       let n : g .mapAt t + 3 + 1 - g .mapAt t ≡ 4 = omega arith in
       let size : length p ≡ 4 = length-take 4 (drop (g .mapAt t) m) ∙ omega (arith, length-drop (g .mapAt t) m, whole .full (sectorNumber g mapAddress) map-below, v .mapFits t l h) in
       ap (λ (k : ℕ). take k (drop (g .mapAt t) m)) n
-      ∙ ext-getD 0 p e (size ∙ sym (entry-length g v (isFree g (blankDisk g name i j)) t))
+      ∙ ext-getD 0 p e (size ∙ sym (entry-length g v (isFree g (blankDisk g name i j)) old t))
       (λ k b. getD-take 4 (drop (g .mapAt t) m) k 0 (omega arith) ∙ getD-drop (g .mapAt t) m k 0 ∙ rewrite-holds g v (blankDisk g name i j) (blank-whole g v name i j short) (blank-sound g v name i j short) t l h k (omega arith))
-      ∙ ap (λ (f : Address → Bool). expectedEntry g f t) (sym (free-same g v name i j short))
+      ∙ ap₂ (λ (f : Address → Bool) (x : Bytes). expectedEntry g f x t) (sym (free-same g v name i j short)) (blank-map g name i j) ∙ fresh-entry t l h
 
   claims : (n : ℕ) → claimCount g d n ≡ indicator (eqb n (sectorNumber g mapAddress)) + indicator (eqb n (sectorNumber g directoryStart))
   claims n = rewrite-claims g v (blankDisk g name i j) (blank-whole g v name i j short) (blank-sound g v name i j short) n ∙ blank-claims g v name i j short n
@@ -156,6 +183,7 @@ module _ (g : Geometry) (v : Valid g) (beside : MapBesideName g) (name : Bytes) 
     afterType = map-named 0xA7 4 (omega arith) (omega arith) ∙ ap (take 4) (header-behind name i j short 7);
     entry = map-entry;
     free = map-free;
+    spare = formatted-spare;
     rest = λ k l c h. map-byte k (λ t a b. ⊎-elim (λ x. inl x) (λ x. inr (omega arith)) (h t a b)) ∙ header-rest name i j short k l c;
   }
 
@@ -185,32 +213,30 @@ module _ (g : Geometry) (v : Valid g) (beside : MapBesideName g) (name : Bytes) 
   formatted-free18 = ap (λ (p : Address → Bool). filter p (sectorsOfTrack g 18)) formatted-isFree
 
 -- A FORMATTED DISK HAS THESE BYTES: every byte of the image after a format that is done
-pub format-bytes : (g : Geometry) → Valid g → MapBesideName g → (img name : Bytes) (id1 id2 : ℕ) (ch : Change) → callFormat g img name id1 id2 ≡ done ch → Formatted g name id1 id2 (ch .imageAfter)
-format-bytes g v beside img name id1 id2 ch e =
+pub format-bytes : (g : Geometry) → Valid g → (img name : Bytes) (id1 id2 : ℕ) (ch : Change) → callFormat g img name id1 id2 ≡ done ch
+    → Formatted g name id1 id2 (ch .imageAfter)
+format-bytes g v img name id1 id2 ch e =
     let z = formatted-disk g v img name id1 id2 ch e in
     let r = format-ready g v img name id1 id2 ch e in
     record {
       size = r .accepted .size;
-      directory = rw (z .1) (formatted-directory g v beside name id1 id2 (z .0));
-      map = rw (z .1) (formatted-map g v beside name id1 id2 (z .0));
-      other = rw (z .1) (formatted-other g v beside name id1 id2 (z .0));
+      directory = rw (z .1) (formatted-directory g v name id1 id2 (z .0));
+      map = rw (z .1) (formatted-map g v name id1 id2 (z .0));
+      other = rw (z .1) (formatted-other g v name id1 id2 (z .0));
       ready = r;
     }
 
 -- ---- 35 tracks
 
-beside35 : MapBesideName layout35
-unfolding layout35 tracks
-beside35 t l h = inl (omega arith)
-
 -- the image after a format answered 0
 pub format-bytes35 : (img name : Bytes) (id1 id2 : ℕ) → perform layout35 img (format name id1 id2) .answer .number ≡ 0 → Formatted layout35 name id1 id2 (perform layout35 img (format name id1 id2) .change .imageAfter)
 unfolding perform attempt outputBuffer
 format-bytes35 img name id1 id2 e =
-    format-bytes layout35 valid35 beside35 img name id1 id2 (perform layout35 img (format name id1 id2) .change) (zero-change img [] (callFormat layout35 img name id1 id2) e)
+    format-bytes layout35 valid35 img name id1 id2 (perform layout35 img (format name id1 id2) .change)
+    (zero-change img [] (callFormat layout35 img name id1 id2) e)
 
-entry18 : expectedEntry layout35 (freeAfterFormat layout35) 18 ≡ 0x11 ∷ 0xFC ∷ 0xFF ∷ 0x07 ∷ []
-unfolding expectedEntry expectedBit bitmapByte binary freeAfterFormat layout35 sectorsOn sectorNumber firstOn
+entry18 : expectedEntry layout35 (freeAfterFormat layout35) (zeros 256) 18 ≡ 0x11 ∷ 0xFC ∷ 0xFF ∷ 0x07 ∷ []
+unfolding expectedEntry expectedBit bitmapByte binary mapBit bitOf freeAfterFormat layout35 sectorsOn sectorNumber firstOn
 entry18 = refl
 
 free664 : length (filter (freeAfterFormat layout35) (allocationOrder layout35)) ≡ 664
@@ -221,13 +247,13 @@ free664 = refl
 pub format-entry18 : (img name : Bytes) (id1 id2 : ℕ) (ch : Change) → callFormat layout35 img name id1 id2 ≡ done ch
     → part 0x48 0x4B (disk (ch .imageAfter) (sectorNumber layout35 mapAddress)) ≡ 0x11 ∷ 0xFC ∷ 0xFF ∷ 0x07 ∷ []
 unfolding layout35 tracks
-format-entry18 img name id1 id2 ch e = format-bytes layout35 valid35 beside35 img name id1 id2 ch e .map .entry 18 (omega arith) (omega arith) ∙ entry18
+format-entry18 img name id1 id2 ch e = format-bytes layout35 valid35 img name id1 id2 ch e .map .entry 18 (omega arith) (omega arith) ∙ entry18
 
 -- 664 sectors off track 18 are free (01, Examples)
 pub format-free664 : (img name : Bytes) (id1 id2 : ℕ) (ch : Change) → callFormat layout35 img name id1 id2 ≡ done ch → length (freeForFiles layout35 (disk (ch .imageAfter))) ≡ 664
 format-free664 img name id1 id2 ch e =
     let z = formatted-disk layout35 valid35 img name id1 id2 ch e in
-    rw (z .1) (ap length (formatted-free layout35 valid35 beside35 name id1 id2 (z .0)) ∙ free664)
+    rw (z .1) (ap length (formatted-free layout35 valid35 name id1 id2 (z .0)) ∙ free664)
 
 free17 : length (filter (freeAfterFormat layout35) (sectorsOfTrack layout35 18)) ≡ 17
 unfolding sectorsOfTrack freeAfterFormat layout35 sectorsOn sectorNumber firstOn
@@ -237,4 +263,4 @@ free17 = refl
 pub format-free17 : (img name : Bytes) (id1 id2 : ℕ) (ch : Change) → callFormat layout35 img name id1 id2 ≡ done ch → length (freeForDirectory layout35 (disk (ch .imageAfter))) ≡ 17
 format-free17 img name id1 id2 ch e =
     let z = formatted-disk layout35 valid35 img name id1 id2 ch e in
-    rw (z .1) (ap length (formatted-free18 layout35 valid35 beside35 name id1 id2 (z .0)) ∙ free17)
+    rw (z .1) (ap length (formatted-free18 layout35 valid35 name id1 id2 (z .0)) ∙ free17)

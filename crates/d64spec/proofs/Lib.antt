@@ -65,6 +65,7 @@ pub mod RefusalTheorem
 pub mod LinkTheorem
 pub mod GivenBack
 pub mod RetiredTheorem
+pub mod SpareTheorem
 pub mod RoomLaws
 pub mod PlaceTheorem
 pub mod ListingTheorem

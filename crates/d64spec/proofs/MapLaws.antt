@@ -2,19 +2,19 @@
 use Prim.Native.Nat.{ℕ, zero, suc, _+_, _/_, _%_, _≤_, _<_}
 use native.Mathlib.Omega.{arith}
 use native.Mathlib.Decide.{decLe}
-use mathlib.Core.Path.{_≡_, refl, sym, ap, _∙_}
+use mathlib.Core.Path.{_≡_, refl, ap, ap₂, _∙_}
 use mathlib.Core.Bool.{Bool, true, false, cond, not, _&&_}
 use mathlib.Core.Logic.{_↔_}
 use mathlib.Core.List.{List, [], _∷_}
 use lib.ListN.{length}
 use lib.Dec.{eqb}
-use borrow.Author.Tests.{lt-ltb, le-ltb, eqb-true, eq-eqb, not-false}
+use borrow.Author.Tests.{eqb-true, eq-eqb, not-false}
 use Rattle.d64spec.specs.Lists.{All, Bytes, byte, filter, indicator, range}
 use Rattle.d64spec.specs.Answers.{address, done, wrongMapEntry}
 use Rattle.d64spec.specs.Geometry.{Geometry, Valid, mapAddress, sectorNumber, sectorsOn}
 use Rattle.d64spec.specs.Image.{Disk}
 use Rattle.d64spec.specs.Owner.{Free, claimCount, isFree}
-use Rattle.d64spec.specs.Map.{entryCorrect, expectedBit, mapBit, mapOnes, wrongBits}
+use Rattle.d64spec.specs.Map.{entryCorrect, mapBit, mapOnes, wrongBit, wrongBits}
 use Rattle.d64spec.specs.Check.{checkMap}
 use Rattle.d64spec.specs.Accepted.{MarksFree}
 use Rattle.d64spec.proofs.BitLaws.{bit-le}
@@ -34,6 +34,12 @@ module _ {A : Type 0} (p : A → Bool) where
   pub none-filter : (l : List A) → All (λ x. p x ≡ false) l → length (filter p l) ≡ 0
   none-filter [] a = refl
   none-filter (x ∷ l) a = rw (a .0) (none-filter l (a .1))
+
+-- tests that agree on a range pass the same numbers of it
+pub filter-same : (p q : ℕ → Bool) (a n : ℕ) → ((i : ℕ) → a ≤ i → i < a + n → p i ≡ q i) → filter p (range a n) ≡ filter q (range a n)
+filter-same p q a zero e = refl
+filter-same p q a (suc n) e =
+    ap₂ (λ (b : Bool) (l : List ℕ). cond b (a ∷ l) l) (e a (omega arith) (omega arith)) (filter-same p q (suc a) n (λ i l u. e i (omega arith) (omega arith)))
 
 module _ (P : ℕ → Type 0) where
   pub range-at : (a n : ℕ) → All P (range a n) → (i : ℕ) → a ≤ i → i < a + n → P i
@@ -61,57 +67,57 @@ free-claims zero h = refl
 free-claims (suc zero) h = refl
 free-claims (suc (suc o)) h = absurd (omega arith)
 
+pub map-bit-le : (g : Geometry) (m : Bytes) (t s : ℕ) → mapBit g m t s ≤ 1
+unfolding mapBit
+map-bit-le g m t s = bit-le (byte m (g .mapAt t + 1 + s / 8)) (s % 8)
+
 module _ (g : Geometry) (v : Valid g) (d : Disk) (u : (n : ℕ) → claimCount g d n ≤ 1) where
   -- the map sector
   abbrev m : Bytes
   m = d (sectorNumber g mapAddress)
 
-  pub in-bit : (t s : ℕ) → s < sectorsOn g t → expectedBit g (isFree g d) t s + claimCount g d (sectorNumber g (address t s)) ≡ 1
-  unfolding expectedBit
-  in-bit t s h = rw (lt-ltb s (sectorsOn g t) h) (free-claims (claimCount g d (sectorNumber g (address t s))) (u (sectorNumber g (address t s))))
-
-  pub past-bit : (t s : ℕ) → sectorsOn g t ≤ s → expectedBit g (isFree g d) t s ≡ 0
-  unfolding expectedBit
-  past-bit t s h = rw (le-ltb s (sectorsOn g t) h)
+  -- the bit that is right for a sector
+  pub right-bit : (t s : ℕ) → indicator (isFree g d (address t s)) + claimCount g d (sectorNumber g (address t s)) ≡ 1
+  right-bit t s = free-claims (claimCount g d (sectorNumber g (address t s))) (u (sectorNumber g (address t s)))
 
   -- a bit and the owners: one of the two is 1, the other 0
   pub mark-of-sum : (t s : ℕ) → mapBit g m t s + claimCount g d (sectorNumber g (address t s)) ≡ 1 → (mapBit g m t s ≡ 1) ↔ Free g d (sectorNumber g (address t s))
   mark-of-sum t s e = ((λ h. omega arith), (λ h. omega arith))
 
-  bit-below : (t s : ℕ) → mapBit g m t s ≤ 1
-  unfolding mapBit
-  bit-below t s = bit-le (byte m (g .mapAt t + 1 + s / 8)) (s % 8)
-
   pub sum-of-mark : (t s : ℕ) → (mapBit g m t s ≡ 1) ↔ Free g d (sectorNumber g (address t s)) → mapBit g m t s + claimCount g d (sectorNumber g (address t s)) ≡ 1
   sum-of-mark t s h = elim (decLe 1 (claimCount g d (sectorNumber g (address t s)))) [
-    | yes k ↦ let no-bit : mapBit g m t s ≡ 1 → ⊥ = λ e. (let f : claimCount g d (sectorNumber g (address t s)) ≡ 0 = h .0 e in omega arith) in omega (arith, bit-below t s, u (sectorNumber g (address t s)))
+    | yes k ↦
+        let no-bit : mapBit g m t s ≡ 1 → ⊥ = λ e. (let f : claimCount g d (sectorNumber g (address t s)) ≡ 0 = h .0 e in omega arith) in
+        omega (arith, map-bit-le g m t s, u (sectorNumber g (address t s)))
     | no k ↦ let f : claimCount g d (sectorNumber g (address t s)) ≡ 0 = omega arith in omega (arith, h .1 f)
   ]
+
+  -- whether the bit of sector s is wrong
+  abbrev wrong : ℕ → ℕ → Bool
+  wrong = wrongBit g (isFree g d) m
 
   pub track-sound : (t : ℕ) → entryCorrect g (isFree g d) m t ≡ true → MarksFree g d t
   unfolding entryCorrect wrongBits
   track-sound t e =
       let h = and-true (eqb (length (wrongBits g (isFree g d) m t)) 0) (eqb (byte m (g .mapAt t)) (mapOnes g m t)) e in
-      let all = filter-none (λ s. not (eqb (mapBit g m t s) (expectedBit g (isFree g d) t s))) (range 0 24) (eqb-true (length (wrongBits g (isFree g d) m t)) 0 (h .0)) in
-      let bit : (s : ℕ) → s < 24 → mapBit g m t s ≡ expectedBit g (isFree g d) t s
-      = λ s l. eqb-true (mapBit g m t s) (expectedBit g (isFree g d) t s) (not-false _ (range-at (λ s. not (eqb (mapBit g m t s) (expectedBit g (isFree g d) t s)) ≡ false) 0 24 all s (omega arith) (omega arith))) in
+      let all = filter-none (wrong t) (range 0 (sectorsOn g t)) (eqb-true (length (wrongBits g (isFree g d) m t)) 0 (h .0)) in
+      let bit : (s : ℕ) → s < sectorsOn g t → mapBit g m t s ≡ indicator (isFree g d (address t s))
+      = λ s l. eqb-true (mapBit g m t s) (indicator (isFree g d (address t s)))
+      (not-false _ (range-at (λ s. wrong t s ≡ false) 0 (sectorsOn g t) all s (omega arith) (omega arith))) in
       record {
         freeCount = eqb-true _ _ (h .1);
-        free = λ s l. mark-of-sum t s (rw (bit s (omega (arith, v .small t))) (in-bit t s l));
-        past = λ s l l′. bit s l′ ∙ past-bit t s l;
+        free = λ s l. mark-of-sum t s (rw (bit s l) (right-bit t s));
       }
 
   pub track-complete : (t : ℕ) → MarksFree g d t → entryCorrect g (isFree g d) m t ≡ true
   unfolding entryCorrect wrongBits
   track-complete t r =
-      let bit : (s : ℕ) → s < 24 → mapBit g m t s ≡ expectedBit g (isFree g d) t s
-      = λ s l. elim (decLe (sectorsOn g t) s) [
-        | yes k ↦ r .past s k l ∙ sym (past-bit t s k)
-        | no k ↦ omega (arith, sum-of-mark t s (r .free s (omega arith)), in-bit t s (omega arith))
-      ] in
+      let bit : (s : ℕ) → s < sectorsOn g t → mapBit g m t s ≡ indicator (isFree g d (address t s))
+      = λ s l. omega (arith, sum-of-mark t s (r .free s l), right-bit t s) in
       let none : length (wrongBits g (isFree g d) m t) ≡ 0
-      = none-filter (λ s. not (eqb (mapBit g m t s) (expectedBit g (isFree g d) t s))) (range 0 24)
-      (range-all (λ s. not (eqb (mapBit g m t s) (expectedBit g (isFree g d) t s)) ≡ false) 0 24 (λ s l l′. ap not (eq-eqb (mapBit g m t s) (expectedBit g (isFree g d) t s) (bit s (omega arith))))) in
+      = none-filter (wrong t) (range 0 (sectorsOn g t))
+      (range-all (λ s. wrong t s ≡ false) 0 (sectorsOn g t)
+      (λ s l l′. ap not (eq-eqb (mapBit g m t s) (indicator (isFree g d (address t s))) (bit s (omega arith))))) in
       both-true (eq-eqb (length (wrongBits g (isFree g d) m t)) 0 none) (eq-eqb (byte m (g .mapAt t)) (mapOnes g m t) (r .freeCount))
 
   -- ---- all tracks

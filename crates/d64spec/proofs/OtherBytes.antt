@@ -13,10 +13,10 @@ use Rattle.d64spec.specs.Geometry.{Geometry, Valid, mapAddress, sectorNu
 use Rattle.d64spec.specs.Image.{Disk, disk, image}
 use Rattle.d64spec.specs.Map.{rewriteMap}
 use Rattle.d64spec.specs.Accepted.{Accepted}
-use Rattle.d64spec.specs.Changes.{InEntryOf, MapFollows}
+use Rattle.d64spec.specs.Changes.{InEntryOf, MapFollows, OtherBits}
 use Rattle.d64spec.proofs.ImageLaws.{Whole, image-size, image-disk}
 use Rattle.d64spec.proofs.MapWriteLaws.{rewrite-whole, rewrite-follows}
-use Rattle.d64spec.proofs.MapBytes.{Prepared, rewritten-rest}
+use Rattle.d64spec.proofs.MapBytes.{rewritten-bits, Prepared, rewritten-rest}
 
 -- ---- a byte of an image is a byte of a sector
 
@@ -52,8 +52,11 @@ module _ (g : Geometry) (v : Valid g) (img : Bytes) (a : Accepted g img) (d2 : D
   pub after-size : length after ≡ length img
   after-size = image-size g (rewriteMap g d2) whole ∙ sym (a .size)
 
-  pub after-map : MapFollows g (disk after)
-  after-map = rw after-disk (rewrite-follows g v d2 (p .whole) (p .sound))
+  pub after-map : MapFollows g (disk img) (disk after)
+  after-map = rw (after-disk, sym (p .unmapped)) (rewrite-follows g v d2 (p .whole) (p .sound))
+
+  pub after-bits : OtherBits g l (disk img) (disk after)
+  after-bits = rw after-disk (rewritten-bits g v (disk img) d2 l (a .content) p)
 
   -- Writes are the places that the call writes
   pub after-rest : ((k : ℕ) → byte img k < 256) → (Writes : ℕ → ℕ → Type 0) → ((n i : ℕ) → InEntryOf g l n i → Writes n i) → ((n i : ℕ) → (Writes n i → ⊥) → byte (d2 n) i ≡ byte (disk img n) i)
@@ -62,5 +65,5 @@ module _ (g : Geometry) (v : Valid g) (img : Bytes) (a : Accepted g img) (d2 : D
       let n : ℕ = k / 256 in
       let i : ℕ = k % 256 in
       image-byte after k ∙ ap (λ (x : Disk). byte (x n) i) after-disk
-      ∙ rewritten-rest g v (disk img) d2 l (a .content) (byte-small img small (sectorNumber g mapAddress)) p n i (λ h. out (entry n i h)) (left n i out)
+      ∙ rewritten-rest g v (disk img) d2 l (a .content) p (byte-small img small (sectorNumber g mapAddress)) n i (λ h. out (entry n i h)) (left n i out)
       ∙ sym (image-byte img k)

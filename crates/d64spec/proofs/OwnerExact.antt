@@ -172,7 +172,6 @@ module _ (g : Geometry) (v : Valid g) (img : Bytes) where
       owner = λ n h. one-owner g (disk img) (a .content) n;
       marks = λ t s l h b. a .content .marks t l h .free s b;
       counts = λ t l h. a .content .marks t l h .freeCount;
-      past = λ t s l h b c. a .content .marks t l h .past s b c;
     }),
     (λ w. record {
       size = w .size;
@@ -181,7 +180,7 @@ module _ (g : Geometry) (v : Valid g) (img : Bytes) where
         entry = w .entry;
         names = w .names;
         once = claims-of-owners g (disk img) (w .directory) (w .entry) (w .names) v (w .owner);
-        marks = λ t l h. record { freeCount = w .counts t l h; free = λ s b. w .marks t s l h b; past = λ s b c. w .past t s l h b c };
+        marks = λ t l h. record { freeCount = w .counts t l h; free = λ s b. w .marks t s l h b };
       };
     }),
   )

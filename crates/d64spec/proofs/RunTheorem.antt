@@ -55,6 +55,7 @@ valid35 = record {
   directory = refl;
   small = λ t. below24-at (0 ∷ layout35 .counts) refl t;
   mapPast = λ t l h. omega arith;
+  mapBeside = λ t l h. inl (omega arith);
   mapFits = λ t l h. omega arith;
   mapApart = λ t u l m h. inl (omega arith);
 }

@@ -22,11 +22,10 @@ pub record ValidEntry (g : Geometry) (d : Disk) (f : File) : Type 0 where
   pub chain : Chain g (fileLink g) d (firstLink g d (f .slot)) (f .sectors)
   pub sectorCount : countOf (f .slot .bytes) ≡ length (f .sectors)
 
--- a track's map entry marks exactly nobody's sectors free: its count, its own bits, the bits past its last sector (01, The map)
+-- a track's map entry marks exactly nobody's sectors free: its count, and the bits of its own sectors (01, The map; 02, §5)
 pub record MarksFree (g : Geometry) (d : Disk) (t : ℕ) : Type 0 where
   pub freeCount : byte (d (sectorNumber g mapAddress)) (g .mapAt t) ≡ mapOnes g (d (sectorNumber g mapAddress)) t
   pub free : (s : ℕ) → s < sectorsOn g t → (mapBit g (d (sectorNumber g mapAddress)) t s ≡ 1) ↔ Free g d (sectorNumber g (address t s))
-  pub past : (s : ℕ) → sectorsOn g t ≤ s → s < 24 → mapBit g (d (sectorNumber g mapAddress)) t s ≡ 0
 
 -- what steps 2 to 4 find no fault in
 pub record AcceptedDisk (g : Geometry) (d : Disk) : Type 0 where

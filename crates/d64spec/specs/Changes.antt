@@ -11,7 +11,7 @@ use Rattle.d64spec.specs.Geometry.{Geometry, sectorNumber, sectorsOn, tr
 use Rattle.d64spec.specs.Image.{Disk, disk}
 use Rattle.d64spec.specs.Directory.{File, directorySectors}
 use Rattle.d64spec.specs.Owner.{Among, isFree}
-use Rattle.d64spec.specs.Map.{expectedEntry}
+use Rattle.d64spec.specs.Map.{expectedEntry, mapBit}
 use Rattle.d64spec.specs.Store.{SlotPlace, inEmptySlot, inNewSector, newEntry, lastOf}
 
 -- ---- places
@@ -30,9 +30,17 @@ pub record InEntryOf (g : Geometry) (l : List Address) (n i : ℕ) : Type 0 wher
   pub low : g .mapAt track ≤ i
   pub high : i ≤ g .mapAt track + 3
 
--- every map entry of the disk is the one that its owners ask for
-abbrev pub MapFollows : Geometry → Disk → Type 0
-MapFollows g d = (t : ℕ) → 1 ≤ t → t ≤ tracks g → part (g .mapAt t) (g .mapAt t + 3) (d (sectorNumber g mapAddress)) ≡ expectedEntry g (isFree g d) t
+-- every map entry of the disk d is the one that its owners ask for, with the bits past the track's last sector that the disk `before` has
+abbrev pub MapFollows : Geometry → Disk → Disk → Type 0
+MapFollows g before d =
+    (t : ℕ) → 1 ≤ t → t ≤ tracks g
+    → part (g .mapAt t) (g .mapAt t + 3) (d (sectorNumber g mapAddress)) ≡ expectedEntry g (isFree g d) (before (sectorNumber g mapAddress)) t
+
+-- the map, bit by bit: all bits of its entries are as they were but those of these sectors; so the bits past a track's last sector are (02, §5)
+abbrev pub OtherBits : Geometry → List Address → Disk → Disk → Type 0
+OtherBits g l before d =
+    (t s : ℕ) → 1 ≤ t → t ≤ tracks g → s < 24 → (s < sectorsOn g t → Among g (sectorNumber g (address t s)) l → ⊥)
+    → mapBit g (d (sectorNumber g mapAddress)) t s ≡ mapBit g (before (sectorNumber g mapAddress)) t s
 
 -- ---- scratch
 
@@ -45,7 +53,8 @@ pub record ScratchedBytes (g : Geometry) (img : Bytes) (f : File) (img′ : Byte
   pub size : length img′ ≡ length img
   pub cleared : (n : ℕ) → Among g n (f .sectors) → disk img′ n ≡ zeros 256
   pub slot : part 0x02 0x1F (drop (32 * f .slot .index) (disk img′ (sectorNumber g (f .slot .holder)))) ≡ zeros 30
-  pub map : MapFollows g (disk img′)
+  pub map : MapFollows g (disk img) (disk img′)
+  pub bits : OtherBits g (f .sectors) (disk img) (disk img′)
   pub rest : (k : ℕ) → (ScratchWrites g f (k / 256) (k % 256) → ⊥) → byte img′ k ≡ byte img k
 
 -- ---- store
@@ -82,5 +91,6 @@ pub record StoredBytes (g : Geometry) (img : Bytes) (place : SlotPlace) (r : Add
   pub size : length img′ ≡ length img
   pub laid : DataWritten g (disk img′) (r ∷ l) bs
   pub entry : EntryWritten g (disk img) (disk img′) place (newEntry name kind r (length (r ∷ l)))
-  pub map : MapFollows g (disk img′)
+  pub map : MapFollows g (disk img) (disk img′)
+  pub bits : OtherBits g (addedSectors place ++ r ∷ l) (disk img) (disk img′)
   pub rest : (k : ℕ) → (StoreWrites g (disk img) place (r ∷ l) (k / 256) (k % 256) → ⊥) → byte img′ k ≡ byte img k

@@ -42,7 +42,7 @@ pub record OneOwner (g : Geometry) (d : Disk) (n : ℕ) : Type 0 where
   pub only : (o : Owner) → Owns g d o n → o ≡ owner
 
 -- DEMAND 2, IN ITS OWN WORDS: the published layout of so many tracks and sectors, with document 01's entry rules; each sector has exactly one owner; and the map
--- marks exactly nobody's sectors free (01, The map: its bits, its counts, the bits past a track's last sector). No claim is counted here: proofs/OwnerExact
+-- marks exactly nobody's sectors free (01, The map: its bits, its counts; of the track's own sectors: 02, §5). No claim is counted here: proofs/OwnerExact
 pub record DemandTwo (g : Geometry) (trackTotal sectorTotal : ℕ) (img : Bytes) : Type 0 where
   pub size : length img ≡ 256 * sectorTotal
   pub directory : Chain g (directoryLink g) (disk img) (to directoryStart) (directorySectors g (disk img))
@@ -52,7 +52,6 @@ pub record DemandTwo (g : Geometry) (trackTotal sectorTotal : ℕ) (img : Bytes)
   pub marks : (t s : ℕ) → 1 ≤ t → t ≤ trackTotal → s < sectorsOn g t
       → (mapBit g (disk img (sectorNumber g mapAddress)) t s ≡ 1) ↔ Owns g (disk img) nobody (sectorNumber g (address t s))
   pub counts : (t : ℕ) → 1 ≤ t → t ≤ trackTotal → byte (disk img (sectorNumber g mapAddress)) (g .mapAt t) ≡ mapOnes g (disk img (sectorNumber g mapAddress)) t
-  pub past : (t s : ℕ) → 1 ≤ t → t ≤ trackTotal → sectorsOn g t ≤ s → s < 24 → mapBit g (disk img (sectorNumber g mapAddress)) t s ≡ 0
 
 -- ---- slots
 
@@ -127,10 +126,6 @@ pub record Ready (g : Geometry) (img : Bytes) : Type 0 where
   pub writable : writable g (disk img) ≡ true
   pub bare : plainList g (disk img) ≡ []
 
--- what the bytes of 18/0 ask of a layout: its map entries lie apart from the name and what follows it
-abbrev pub MapBesideName : Geometry → Type 0
-MapBesideName g = (t : ℕ) → 1 ≤ t → t ≤ tracks g → (g .mapAt t + 3 < 0x90) ⊎ (0xAA < g .mapAt t)
-
 -- every byte of 18/0 after a format (01, Format); m is 18/0
 pub record FormattedMap (g : Geometry) (name : Bytes) (id1 id2 : ℕ) (m : Bytes) : Type 0 where
   pub start : part 0x00 0x03 m ≡ 0x12 ∷ 0x01 ∷ 0x41 ∷ 0x00 ∷ []
@@ -140,8 +135,9 @@ pub record FormattedMap (g : Geometry) (name : Bytes) (id1 id2 : ℕ) (m : Bytes
   pub afterId : part 0xA4 0xA4 m ≡ 0xA0 ∷ []
   pub type : part 0xA5 0xA6 m ≡ 0x32 ∷ 0x41 ∷ []
   pub afterType : part 0xA7 0xAA m ≡ 0xA0 ∷ 0xA0 ∷ 0xA0 ∷ 0xA0 ∷ []
-  pub entry : (t : ℕ) → 1 ≤ t → t ≤ tracks g → part (g .mapAt t) (g .mapAt t + 3) m ≡ expectedEntry g (freeAfterFormat g) t
+  pub entry : (t : ℕ) → 1 ≤ t → t ≤ tracks g → part (g .mapAt t) (g .mapAt t + 3) m ≡ expectedEntry g (freeAfterFormat g) (zeros 256) t
   pub free : (t s : ℕ) → 1 ≤ t → t ≤ tracks g → s < sectorsOn g t → (mapBit g m t s ≡ 1) ↔ ((t ≡ 18) × (s ≤ 1) → ⊥)  -- all but 18/0 and 18/1
+  pub spare : (t s : ℕ) → 1 ≤ t → t ≤ tracks g → sectorsOn g t ≤ s → s < 24 → mapBit g m t s ≡ 0  -- past a track's last sector (02, §5: format writes 0)
   pub rest : (i : ℕ) → 0x04 ≤ i → (i < 0x90) ⊎ (0xAA < i) → ((t : ℕ) → 1 ≤ t → t ≤ tracks g → (i < g .mapAt t) ⊎ (g .mapAt t + 3 < i)) → byte m i ≡ 0
 
 -- every byte of an image after a format (01, Format), and what it is good for

@@ -64,10 +64,12 @@ allocationTracks g = descending 17 1 ++ ascending 19 (tracks g)
 unfoldable pub allocationOrder : Geometry → List Address
 allocationOrder g = join (map (sectorsOfTrack g) (allocationTracks g))
 
--- what the theorems ask of a layout: 18/1 is there, a bitmap of 24 bits suffices, and map entries lie behind byte 3 of 18/0, inside it and apart
+-- what the theorems ask of a layout: 18/1 is there, a bitmap of 24 bits suffices, and map entries lie behind byte 3 of 18/0,
+-- before or behind the bytes $90 to $AA that a format writes, inside the sector and apart
 pub record Valid (g : Geometry) : Type 0 where
   pub directory : onDisk g directoryStart ≡ true
   pub small : (t : ℕ) → sectorsOn g t ≤ 24
   pub mapPast : (t : ℕ) → 1 ≤ t → t ≤ tracks g → 4 ≤ g .mapAt t
+  pub mapBeside : (t : ℕ) → 1 ≤ t → t ≤ tracks g → (g .mapAt t + 4 ≤ 0x90) ⊎ (0xAB ≤ g .mapAt t)
   pub mapFits : (t : ℕ) → 1 ≤ t → t ≤ tracks g → g .mapAt t + 4 ≤ 256
   pub mapApart : (t u : ℕ) → 1 ≤ t → t < u → u ≤ tracks g → (g .mapAt t + 4 ≤ g .mapAt u) ⊎ (g .mapAt u + 4 ≤ g .mapAt t)

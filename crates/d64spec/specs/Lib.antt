@@ -28,3 +28,4 @@ pub mod Trial
 pub mod TwoFaults
 pub mod Edges
 pub mod Retired
+pub mod SpareBits

@@ -2,7 +2,7 @@
 -- In order: what a map sector m says; what an entry is expected to say, given which sectors are free; the map rewritten from the owners.
 -- Laws: proofs/MapLaws (exact), MapWriteLaws (a rewritten map is right), MapEntryLaws and MapBytes (no other byte of its sector changes).
 use Prim.Native.Nat.{ℕ, _+_, _*_, _/_, _%_}
-use mathlib.Core.Bool.{Bool, _&&_, not}
+use mathlib.Core.Bool.{Bool, _&&_, cond, not}
 use mathlib.Core.List.{List, [], _∷_, map}
 use lib.ListN.{length}
 use lib.Dec.{eqb, ltb}
@@ -21,18 +21,23 @@ mapBit g m t s = bitOf (byte m (g .mapAt t + 1 + s / 8)) (s % 8)
 unfoldable pub mapOnes : Geometry → Bytes → ℕ → ℕ
 mapOnes g m t = sum (map (mapBit g m t) (range 0 (sectorsOn g t)))
 
-module _ (g : Geometry) (free : Address → Bool) where
-  -- the bit expected for sector s of track t: 1 where it is free, and 0 past the track's last sector
+-- m is a map sector, and `free` says which sectors are free
+module _ (g : Geometry) (free : Address → Bool) (m : Bytes) where
+  -- whether a sector's bit is wrong: 1 is right where it is free, else 0
+  abbrev pub wrongBit : ℕ → ℕ → Bool
+  wrongBit t s = not (eqb (mapBit g m t s) (indicator (free (address t s))))
+
+  -- those of the track's own sectors whose bit is wrong; bits past its last sector are not looked at (02, §5)
+  unfoldable pub wrongBits : ℕ → List ℕ
+  wrongBits t = filter (wrongBit t) (range 0 (sectorsOn g t))
+
+  -- whether a track's entry is correct: its own bits, and the count
+  unfoldable pub entryCorrect : ℕ → Bool
+  entryCorrect t = eqb (length (wrongBits t)) 0 && eqb (byte m (g .mapAt t)) (mapOnes g m t)
+
+  -- the bit to write for sector s of track t: 1 where it is free, else 0; past the track's last sector the bit that is there (02, §5)
   unfoldable pub expectedBit : ℕ → ℕ → ℕ
-  expectedBit t s = indicator (ltb s (sectorsOn g t) && free (address t s))
-
-  -- those of the 24 bits of a track's entry that are wrong in the map sector m
-  unfoldable pub wrongBits : Bytes → ℕ → List ℕ
-  wrongBits m t = filter (λ s. not (eqb (mapBit g m t s) (expectedBit t s))) (range 0 24)
-
-  -- whether a track's entry is correct: all bits, and the count
-  unfoldable pub entryCorrect : Bytes → ℕ → Bool
-  entryCorrect m t = eqb (length (wrongBits m t)) 0 && eqb (byte m (g .mapAt t)) (mapOnes g m t)
+  expectedBit t s = cond (ltb s (sectorsOn g t)) (indicator (free (address t s))) (mapBit g m t s)
 
   -- the bitmap byte for sectors 8j to 8j + 7
   unfoldable pub bitmapByte : ℕ → ℕ → ℕ
@@ -42,10 +47,10 @@ module _ (g : Geometry) (free : Address → Bool) where
   unfoldable pub expectedEntry : ℕ → Bytes
   expectedEntry t = sum (map (expectedBit t) (range 0 (sectorsOn g t))) ∷ bitmapByte t 0 ∷ bitmapByte t 1 ∷ bitmapByte t 2 ∷ []
 
-  -- the map sector m with correct entries of these tracks
-  abbrev pub withEntries : Bytes → List ℕ → Bytes
-  withEntries m [] = m
-  withEntries m (t ∷ l) = splice (withEntries m l) (g .mapAt t) (expectedEntry t)
+  -- the map sector with correct entries of these tracks
+  abbrev pub withEntries : List ℕ → Bytes
+  withEntries [] = m
+  withEntries (t ∷ l) = splice (withEntries l) (g .mapAt t) (expectedEntry t)
 
 -- the disk with the map that its owners ask for (01, Store: the map follows; Scratch: frees the sectors in the map)
 unfoldable pub rewriteMap : Geometry → Disk → Disk

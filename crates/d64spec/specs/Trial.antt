@@ -86,7 +86,8 @@ pub data Given : Type 0 where
   lastLink0000 linkOffDisk linkToMap linkToItself firstLinkTrack0 chainsMeet : Given
   directoryLinkToMap directoryLinkTwice directoryLinkTrack19 : Given
   delEntry emptyName sharedName countOfThree : Given
-  mapCountWrong mapBitWrong bitPastTheLast : Given
+  mapCountWrong mapBitWrong : Given
+  bitPastTheLast bitPastCounted : Given  -- of track 18, set, and set and counted
   mapLinkElsewhere : Given  -- bytes 0-1 of 18/0 lead to a file's sector
   eightFiles : Given  -- all slots of 18/1 in use, and 18/2 free
   nineFiles : Given  -- and A in 18/2
@@ -141,6 +142,7 @@ imageOf countOfThree = patch18 1 0x1E (3 ∷ []) imageWithA
 imageOf mapCountWrong = patch18 0 0x4C (9 ∷ []) imageWithA
 imageOf mapBitWrong = patch18 0 0x4C (9 ∷ 0xFE ∷ []) imageWithA
 imageOf bitPastTheLast = patch18 0 0x49 (0x0C ∷ []) imageWithA
+imageOf bitPastCounted = patch18 0 0x48 (2 ∷ 0x0C ∷ []) imageWithA
 imageOf mapLinkElsewhere = patch18 0 0x00 (19 ∷ 1 ∷ []) imageWithA
 imageOf eightFiles = imageWithEight
 imageOf nineFiles = afterCall imageWithEight (store nameA 2 sent)
@@ -221,7 +223,8 @@ checkRows =
     ∷ quiet countOfThree check 7 (faultAt 18 1 0) []
     ∷ quiet mapCountWrong check 8 (faultAt 19 255 255) []
     ∷ quiet mapBitWrong check 8 (faultAt 19 255 255) []
-    ∷ quiet bitPastTheLast check 8 (faultAt 18 255 255) []
+    ∷ quiet bitPastTheLast check 0 (report 0 0) []
+    ∷ quiet bitPastCounted check 8 (faultAt 18 255 255) []
     ∷ quiet farLinkTwice check 3 (faultAt 18 2 255) []
     ∷ quiet farLinkOff check 2 (faultAt 18 2 255) []
     ∷ quiet farType check 4 (faultAt 18 2 8) []

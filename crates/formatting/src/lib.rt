@@ -78,7 +78,7 @@ fn clear_all(img: &mut [u8])
 
 // The map of a fresh disk.
 fn fresh_map() -> [[u8; 4]; 35]
-    ensures { λ r. ⌜ r ≡ map (expectedEntry layout35 (freeAfterFormat layout35)) (range 1 35) ⌝ }
+    ensures { λ r. ⌜ r ≡ map (expectedEntry layout35 (freeAfterFormat layout35) (zeros 256)) (range 1 35) ⌝ }
 {
     FRESH_MAP
 }

@@ -2,25 +2,25 @@
 -- Assumes nothing.
 use Prim.Native.Nat.{ℕ, suc, _+_, _-_, _≤_, _<_}
 use native.Mathlib.Omega.{arith}
-use mathlib.Core.Path.{_≡_, refl, sym, ap, _∙_, fun-ext}
+use mathlib.Core.Path.{_≡_, refl, sym, ap, _∙_}
 use mathlib.Core.Bool.{Bool, true, false, _&&_, not}
 use mathlib.Core.List.{List, [], _∷_}
 use lib.ListN.{length, getD}
 use lib.Dec.{eqb}
 use borrow.Author.Tests.{lt-ltb}
-use Rattle.d64spec.specs.Lists.{Bytes, byte, range, filter}
+use Rattle.d64spec.specs.Lists.{Bytes, byte, indicator, range}
 use Rattle.d64spec.specs.Answers.{Address, address, Result, done, refused, need, _>>_, wrongMapEntry}
 use Rattle.d64spec.specs.Geometry.{Geometry, layout35, tracks, sectorsOn, sectorNumber, mapAddress, onDisk}
 use Rattle.d64spec.specs.Image.{Disk}
-use Rattle.d64spec.specs.Map.{mapBit, mapOnes, expectedBit, wrongBits, entryCorrect}
+use Rattle.d64spec.specs.Map.{mapBit, mapOnes, wrongBit, wrongBits, entryCorrect}
 use Rattle.d64spec.specs.Check.{checkMap}
+use Rattle.d64spec.proofs.MapLaws.{filter-same}
 use Rattle.owners.specs.OwnerTable.{freeBy}
 use Rattle.bam.specs.MapEntry.{Entries}
 use Rattle.bam.proofs.ShapeLaws.{EntryShape}
 use Rattle.bam.specs.MapSector.{mapEntry, mapEntries}
 use Rattle.bam.proofs.MapShapeLaws.{MapShape}
 use Rattle.bam.proofs.SectorLaws.{entry-at-map-entries}
-use Rattle.bam.proofs.EntryLaws.{expected-bit-same}
 use Rattle.mapcheck.specs.MapChecks.{trackCorrect, mapVerdict}
 use Rattle.mapcheck.proofs.TrackLaws.{track-same}
 
@@ -34,15 +34,12 @@ module _ (g : Geometry) where
       ap (λ (r : Result (Unit {0})). need (entryCorrect g free (d (sectorNumber g mapAddress)) t) (wrongMapEntry t) >> r) (map-alone d free l)
 
   module _ {f h : Address → Bool} (same : (r : Address) → onDisk g r ≡ true → f r ≡ h r) where
-    expected-same : (t s : ℕ) → expectedBit g f t s ≡ expectedBit g h t s
-    unfolding onDisk
-    expected-same t s = expected-bit-same g f h t s (λ on. same (address t s) (lt-ltb s (sectorsOn g t) on))
-
     entry-same : (m : Bytes) (t : ℕ) → entryCorrect g f m t ≡ entryCorrect g h m t
-    unfolding entryCorrect wrongBits
+    unfolding entryCorrect wrongBits onDisk
     entry-same m t =
-        ap (λ (bit : ℕ → ℕ). eqb (length (filter (λ s. not (eqb (mapBit g m t s) (bit s))) (range 0 24))) 0 && eqb (byte m (g .mapAt t)) (mapOnes g m t))
-        (fun-ext (expected-same t))
+        ap (λ (l : List ℕ). eqb (length l) 0 && eqb (byte m (g .mapAt t)) (mapOnes g m t))
+        (filter-same (wrongBit g f m t) (wrongBit g h m t) 0 (sectorsOn g t) (λ s l u.
+        ap (λ (b : Bool). not (eqb (mapBit g m t s) (indicator b))) (same (address t s) (lt-ltb s (sectorsOn g t) (omega arith)))))
 
     -- of what is free, on the sectors of the disk alone
     pub map-free-same : (d : Disk) (l : List ℕ) → checkMap g d f l ≡ checkMap g d h l

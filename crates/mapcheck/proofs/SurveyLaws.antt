@@ -21,7 +21,7 @@ use Rattle.parts.proofs.NumberLaws.{each-four}
 use Rattle.mapcheck.specs.MapChecks.{freeBit, freeMask, freeCount, Surveyed, unownedTrack}
 
 module _ (own : List ℕ) (first : ℕ) where
-  free-bit-le : (s : ℕ) → freeBit own first s ≤ 1
+  pub free-bit-le : (s : ℕ) → freeBit own first s ≤ 1
   unfolding freeBit
   free-bit-le s = indicator-le (eqb (getD own (first + s) 0) 0)
 

@@ -1,22 +1,21 @@
--- A track's test as the code makes it is d64spec's `entryCorrect`. In order: a bit that is expected is the table's; the bitmap as a number; the
--- count; the track. Stated once over the track's number of sectors. Assumes nothing.
-use Prim.Native.Nat.{ℕ, zero, suc, _+_, _-_, _*_, _^_, _≤_, _<_, zero-le}
+-- A track's test as the code makes it is d64spec's `entryCorrect`. In order: its bits; the bitmap's lowest bits as a number; the count; the track.
+-- Stated once over the track's number of sectors. Assumes nothing.
+use Prim.Native.Nat.{ℕ, _%_, _^_, _<_, zero-le}
 use native.Mathlib.Omega.{arith}
 use mathlib.Core.Path.{_≡_, refl, sym, ap, ap₂, _∙_}
 use mathlib.Core.Bool.{Bool, true, false, _&&_, not}
 use mathlib.Core.List.{List}
 use lib.ListN.{length}
 use lib.Dec.{eqb}
-use borrow.Author.Tests.{lt-ltb, le-ltb, eqb-true, eq-eqb, ne-eqb, not-false}
-use Rattle.d64spec.specs.Lists.{Bytes, byte, range}
-use Rattle.d64spec.specs.Bits.{binary}
-use Rattle.d64spec.specs.Answers.{Address}
+use borrow.Author.Tests.{eqb-true, eq-eqb, ne-eqb, not-false}
+use Rattle.d64spec.specs.Lists.{Bytes, byte, indicator, range}
+use Rattle.d64spec.specs.Bits.{bitOf, binary}
+use Rattle.d64spec.specs.Answers.{Address, address}
 use Rattle.d64spec.specs.Geometry.{Geometry, layout35, firstOn, sectorsOn, sectorNumber}
-use Rattle.d64spec.specs.Map.{mapBit, mapOnes, expectedBit, wrongBits, entryCorrect}
-use Rattle.d64spec.proofs.MapLaws.{filter-none, none-filter, range-at, range-all}
+use Rattle.d64spec.specs.Map.{mapBit, mapOnes, wrongBit, wrongBits, entryCorrect}
+use Rattle.d64spec.proofs.MapLaws.{map-bit-le, filter-none, none-filter, range-at, range-all}
 use Rattle.d64spec.proofs.SumLaws.{sum-same}
-use Rattle.d64spec.proofs.BitLaws.{binary-more, binary-same, bits-same}
-use Rattle.d64spec.proofs.MapWriteLaws.{expected-le}
+use Rattle.d64spec.proofs.BitLaws.{binary-same, binary-bit, binary-remainder, bits-same}
 use Rattle.d64spec.proofs.RunTheorem.{valid35}
 use Rattle.owners.specs.OwnerTable.{freeBy}
 use Rattle.bam.specs.MapEntry.{entryBit, bitmapOf}
@@ -25,6 +24,7 @@ use Rattle.bam.proofs.BitmapLaws.{entry-bit-le, bitmap-binary}
 use Rattle.bam.specs.MapSector.{mapEntry, fourBytes}
 use Rattle.bam.proofs.SectorLaws.{bit-map-entry}
 use Rattle.mapcheck.specs.MapChecks.{freeBit, freeMask, freeCount, Surveyed, trackCorrect}
+use Rattle.mapcheck.proofs.SurveyLaws.{free-bit-le}
 use Rattle.mapcheck.specs.declared.FreeSectors.{FreeSectors}
 
 -- ---- tests
@@ -40,38 +40,28 @@ and-same : (a b c d : Bool) → a ≡ c → (a ≡ true → b ≡ d) → (a && b
 and-same true b c d e next = ap₂ (λ (x y : Bool). x && y) e (next refl)
 and-same false b c d e next = ap (λ (x : Bool). x && d) e
 
--- bits that are 0 add nothing
-binary-past : (f : ℕ → ℕ) (n : ℕ) → ((s : ℕ) → n ≤ s → f s ≡ 0) → (k : ℕ) → binary f (n + k) ≡ binary f n
-binary-past f n none zero = let z : n + 0 ≡ n = omega arith in ap (binary f) z
-binary-past f n none (suc k) =
-    let z : n + suc k ≡ suc (n + k) = omega arith in
-    let top : f (n + k) * 2 ^ (n + k) ≡ 0 * 2 ^ (n + k) = ap (λ (x : ℕ). x * 2 ^ (n + k)) (none (n + k) (omega arith)) in
-    ap (binary f) z ∙ binary-more f (n + k) ∙ omega (arith, binary-past f n none k)
-
--- no bit is wrong exactly where each of the 24 is the one expected
+-- no bit is wrong exactly where each of the track's own is the one that its sector asks for
 module _ (g : Geometry) (free : Address → Bool) (m : Bytes) (t : ℕ) where
-  wrong : ℕ → Bool
-  wrong s = not (eqb (mapBit g m t s) (expectedBit g free t s))
+  abbrev wrong : ℕ → Bool
+  wrong = wrongBit g free m t
 
   Right : Type 0
-  Right = (s : ℕ) → s < 24 → mapBit g m t s ≡ expectedBit g free t s
+  Right = (s : ℕ) → s < sectorsOn g t → mapBit g m t s ≡ indicator (free (address t s))
 
   bits-of-none : length (wrongBits g free m t) ≡ 0 → Right
-  unfolding wrongBits wrong Right
+  unfolding wrongBits Right
   bits-of-none e s h =
-      eqb-true _ _ (not-false _ (range-at (λ s. wrong s ≡ false) 0 24 (filter-none wrong (range 0 24) e) s zero-le h))
+      eqb-true _ _ (not-false _ (range-at (λ s. wrong s ≡ false) 0 (sectorsOn g t) (filter-none wrong (range 0 (sectorsOn g t)) e) s zero-le (omega arith)))
 
   none-of-bits : Right → length (wrongBits g free m t) ≡ 0
-  unfolding wrongBits wrong Right
-  none-of-bits bit = none-filter wrong (range 0 24) (range-all (λ s. wrong s ≡ false) 0 24 (λ s l h. ap not (eq-eqb _ _ (bit s (omega arith)))))
+  unfolding wrongBits Right
+  none-of-bits bit =
+      none-filter wrong (range 0 (sectorsOn g t)) (range-all (λ s. wrong s ≡ false) 0 (sectorsOn g t) (λ s l h. ap not (eq-eqb _ _ (bit s (omega arith)))))
 
 module _ (m : Bytes) (own : List ℕ) (t : ℕ) where
   -- what the definitions ask, and the track's sectors
   abbrev free : Address → Bool
   free = freeBy layout35 own
-
-  abbrev expected : ℕ → ℕ
-  expected = expectedBit layout35 free t
 
   abbrev first : ℕ
   first = firstOn layout35 t
@@ -82,39 +72,33 @@ module _ (m : Bytes) (own : List ℕ) (t : ℕ) where
   abbrev entry : Bytes
   entry = mapEntry layout35 m t
 
-  sectors-le : sectors ≤ 24
-  sectors-le = valid35 .small t
-
-  expected-in : (s : ℕ) → s < sectors → expected s ≡ freeBit own first s
-  unfolding expectedBit freeBy freeBit sectorNumber
-  expected-in s h = rw (lt-ltb s sectors h)
-
-  expected-past : (s : ℕ) → sectors ≤ s → expected s ≡ 0
-  unfolding expectedBit
-  expected-past s h = rw (le-ltb s sectors h)
-
-  -- ---- the bitmap
-
-  mask-binary : freeMask own first sectors ≡ binary expected 24
-  unfolding freeMask
-  mask-binary =
-      let all : sectors + (24 - sectors) ≡ 24 = omega (arith, sectors-le) in
-      binary-same (freeBit own first) expected sectors (λ s h. sym (expected-in s h)) ∙ sym (binary-past expected sectors expected-past (24 - sectors))
-      ∙ ap (binary expected) all
+  -- a sector is free exactly where the table has no owner
+  free-bit : (s : ℕ) → freeBit own first s ≡ indicator (free (address t s))
+  unfolding freeBy freeBit sectorNumber
+  free-bit s = refl
 
   module _ (shape : EntryShape entry) where
-    bits-of-mask : bitmapOf entry ≡ freeMask own first sectors → Right layout35 free m t
-    unfolding Right
+    -- ---- the bitmap
+
+    -- its lowest bits, as many as the track has sectors
+    bitmap-low : bitmapOf entry % 2 ^ sectors ≡ binary (mapBit layout35 m t) sectors
+    bitmap-low =
+        sym (binary-remainder (bitmapOf entry) sectors)
+        ∙ binary-same (bitOf (bitmapOf entry)) (mapBit layout35 m t) sectors (λ s h.
+        let below : s < 24 = omega (arith, valid35 .small t) in
+        ap (λ (x : ℕ). bitOf x s) (bitmap-binary entry shape) ∙ binary-bit (entryBit entry) (entry-bit-le entry) 24 s below
+        ∙ bit-map-entry layout35 m t s below)
+
+    bits-of-mask : bitmapOf entry % 2 ^ sectors ≡ freeMask own first sectors → Right layout35 free m t
+    unfolding Right freeMask
     bits-of-mask e s h =
-        sym (bit-map-entry layout35 m t s h)
-        ∙ bits-same (entryBit entry) expected (entry-bit-le entry) (expected-le layout35 valid35 free t) 24 (sym (bitmap-binary entry shape) ∙ e ∙ mask-binary) s h
+        bits-same (mapBit layout35 m t) (freeBit own first) (map-bit-le layout35 m t) (free-bit-le own first) sectors (sym bitmap-low ∙ e) s h ∙ free-bit s
 
-    mask-of-bits : Right layout35 free m t → bitmapOf entry ≡ freeMask own first sectors
-    unfolding Right
-    mask-of-bits bit =
-        bitmap-binary entry shape ∙ binary-same (entryBit entry) expected 24 (λ s h. bit-map-entry layout35 m t s h ∙ bit s h) ∙ sym mask-binary
+    mask-of-bits : Right layout35 free m t → bitmapOf entry % 2 ^ sectors ≡ freeMask own first sectors
+    unfolding Right freeMask
+    mask-of-bits bit = bitmap-low ∙ binary-same (mapBit layout35 m t) (freeBit own first) sectors (λ s h. bit s h ∙ sym (free-bit s))
 
-    bitmap-test : eqb (bitmapOf entry) (freeMask own first sectors) ≡ eqb (length (wrongBits layout35 free m t)) 0
+    bitmap-test : eqb (bitmapOf entry % 2 ^ sectors) (freeMask own first sectors) ≡ eqb (length (wrongBits layout35 free m t)) 0
     bitmap-test =
         test-same _ _
         (λ e. eq-eqb _ 0 (none-of-bits layout35 free m t (bits-of-mask (eqb-true _ _ e))))
@@ -124,11 +108,10 @@ module _ (m : Bytes) (own : List ℕ) (t : ℕ) where
 
     count-of-bits : Right layout35 free m t → freeCount own first sectors ≡ mapOnes layout35 m t
     unfolding freeCount mapOnes Right
-    count-of-bits bit =
-        sum-same (freeBit own first) (mapBit layout35 m t) 0 sectors
-        (λ s l h. let below : s < 24 = omega (arith, sectors-le) in sym (expected-in s (omega arith)) ∙ sym (bit s below))
+    count-of-bits bit = sum-same (freeBit own first) (mapBit layout35 m t) 0 sectors (λ s l h. free-bit s ∙ sym (bit s (omega arith)))
 
-    count-test : eqb (bitmapOf entry) (freeMask own first sectors) ≡ true → eqb (byte entry 0) (freeCount own first sectors) ≡ eqb (byte m (layout35 .mapAt t)) (mapOnes layout35 m t)
+    count-test : eqb (bitmapOf entry % 2 ^ sectors) (freeMask own first sectors) ≡ true
+        → eqb (byte entry 0) (freeCount own first sectors) ≡ eqb (byte m (layout35 .mapAt t)) (mapOnes layout35 m t)
     unfolding mapEntry fourBytes
     count-test e = ap (eqb (byte m (layout35 .mapAt t))) (count-of-bits (bits-of-mask (eqb-true _ _ e)))
 
@@ -146,12 +129,19 @@ module _ (e : Bytes) (own : List ℕ) (t : ℕ) {first n : ℕ} {r : FreeSectors
   count-found : r .count ≡ freeCount own (firstOn layout35 t) (sectorsOn layout35 t)
   count-found = found .count ∙ ap₂ (λ (x y : ℕ). freeCount own x y) from to
 
-  -- another bitmap than the free sectors' is wrong
-  pub track-wrong : (bitmapOf e ≡ r .mask → ⊥) → false ≡ trackCorrect e own t
+  -- another bitmap than the free sectors' is wrong; k is the power of two that the code divides by
+  pub track-wrong : {k : ℕ} → k ≡ 2 ^ n → (bitmapOf e % k ≡ r .mask → ⊥) → false ≡ trackCorrect e own t
   unfolding trackCorrect
-  track-wrong other = let test = ne-eqb (bitmapOf e) _ (λ q. other (q ∙ sym mask-found)) in rw test
+  track-wrong power other =
+      let test =
+      ne-eqb (bitmapOf e % 2 ^ sectorsOn layout35 t) _
+      (λ q. other (ap (λ (x : ℕ). bitmapOf e % x) (power ∙ ap (λ (x : ℕ). 2 ^ x) to) ∙ q ∙ sym mask-found)) in
+      rw test
 
   -- and where it is theirs, the count decides
-  pub track-by-count : bitmapOf e ≡ r .mask → eqb (byte e 0) (r .count) ≡ trackCorrect e own t
+  pub track-by-count : {k : ℕ} → k ≡ 2 ^ n → bitmapOf e % k ≡ r .mask → eqb (byte e 0) (r .count) ≡ trackCorrect e own t
   unfolding trackCorrect
-  track-by-count same = let test = eq-eqb (bitmapOf e) _ (same ∙ mask-found) in rw test (ap (eqb (byte e 0)) count-found)
+  track-by-count power same =
+      let test =
+      eq-eqb (bitmapOf e % 2 ^ sectorsOn layout35 t) _ (ap (λ (x : ℕ). bitmapOf e % x) (sym (power ∙ ap (λ (x : ℕ). 2 ^ x) to)) ∙ same ∙ mask-found) in
+      rw test (ap (eqb (byte e 0)) count-found)

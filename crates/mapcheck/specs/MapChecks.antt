@@ -1,7 +1,7 @@
 -- Step 4 of the check on the map sector alone, against the owner table (01, Order of the check, 4; The map).
 -- In order: a track's free sectors as a number and how many they are; an entry's test; the step. Numbers made of bits: d64spec's `binary`.
 -- Laws: proofs/SurveyLaws (the free sectors), TrackLaws (a track's test is d64spec's), StepLaws (so is the step).
-use Prim.Native.Nat.{ℕ, _+_}
+use Prim.Native.Nat.{ℕ, _+_, _%_, _^_}
 use mathlib.Core.Path.{_≡_}
 use mathlib.Core.Bool.{Bool, _&&_}
 use mathlib.Core.List.{List, map}
@@ -37,10 +37,13 @@ pub record Surveyed (own : List ℕ) (first n : ℕ) (r : FreeSectors) : Type 0 
 unfoldable pub unownedTrack : List ℕ → ℕ → ℕ → Bool
 unownedTrack own first n = leb 16 n && leb n 24 && leb (first + n) (length own) && eqb (freeCount own first n) n
 
--- whether an entry marks exactly the sectors of its track that nobody owns, and counts them
+-- whether an entry marks exactly the sectors of its track that nobody owns, and counts them: of the bitmap's number as many bits are compared as the
+-- track has sectors (02, §5)
 unfoldable pub trackCorrect : Bytes → List ℕ → ℕ → Bool
 trackCorrect e own t =
-    eqb (bitmapOf e) (freeMask own (firstOn layout35 t) (sectorsOn layout35 t)) && eqb (byte e 0) (freeCount own (firstOn layout35 t) (sectorsOn layout35 t))
+    let first = firstOn layout35 t in
+    let n = sectorsOn layout35 t in
+    eqb (bitmapOf e % 2 ^ n) (freeMask own first n) && eqb (byte e 0) (freeCount own first n)
 
 -- STEP 4 of the check, on the map sector m and the owner table
 unfoldable pub mapVerdict : Bytes → List ℕ → Result (Unit {0})

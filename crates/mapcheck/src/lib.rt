@@ -78,13 +78,10 @@ fn entry_correct(entry: [u8; 4], own: &[u8; 683], track: u8) -> bool
     requires { ⌜ (1 ≤ track) × (track ≤ 35) ⌝ }
     ensures { λ r. ⌜ r ≡ trackCorrect entry (now (own .entry)) track ⌝ }
 {
-    let free = survey(
-        own,
-        geometry::first_on(track) as usize,
-        geometry::sectors_on(track),
-    );
+    let sectors = geometry::sectors_on(track);
+    let free = survey(own, geometry::first_on(track) as usize, sectors);
     let bitmap = entry[1] as u32 + 256 * (entry[2] as u32) + 65536 * (entry[3] as u32);
-    if bitmap != free.mask {
+    if bitmap % (1 << sectors) != free.mask {
         return false;
     }
     entry[0] == free.count

@@ -12,7 +12,7 @@ use lib.Dec.{eqb, ltb}
 use borrow.Author.Tests.{eq-eqb, ne-eqb}
 use Rattle.d64spec.specs.Lists.{Bytes, byte, count, indicator, zeros}
 use Rattle.d64spec.specs.Answers.{Address}
-use Rattle.d64spec.specs.Geometry.{layout35, sectorNumber}
+use Rattle.d64spec.specs.Geometry.{layout35, sectorNumber, mapAddress}
 use Rattle.d64spec.specs.Image.{Disk, disk, put}
 use Rattle.d64spec.specs.Owner.{claimCount, isFree}
 use Rattle.d64spec.specs.Store.{lastOf}
@@ -90,7 +90,7 @@ pub record Clearing (img : Bytes) (first at : Address) (img′ : Bytes) (es′ :
   pub cleared : List Address
   pub sectors : disk img′ ≡ clearSectors layout35 cleared (disk img)
   pub size : length img′ ≡ length img
-  pub marks : Expects (freeAfter true cleared (isFree layout35 (disk img))) es′
+  pub marks : Expects (freeAfter true cleared (isFree layout35 (disk img))) (disk img (sectorNumber layout35 mapAddress)) es′
   pub apart : (n : ℕ) → times n cleared + times n (sectorsFrom img at) ≡ times n (sectorsFrom img first)
   pub left : k + length (sectorsFrom img at) ≡ length (sectorsFrom img first)
   pub same : endOf img (sectorsFrom img at) ≡ endOf img (sectorsFrom img first)
@@ -166,7 +166,7 @@ module _ {img : Bytes} {es : Entries} {first at : Address} {img′ : Bytes} {es�
       size″ = step .size ∙ w .size
 
       module _ {es″ : Entries} (marked : es″ ≡ movedMark true at es′) {k′ : ℕ} (more : k′ ≡ k + 1) where
-        marks″ : Expects (freeAfter true (at ∷ w .cleared) (isFree layout35 (disk img))) es″
+        marks″ : Expects (freeAfter true (at ∷ w .cleared) (isFree layout35 (disk img))) (disk img (sectorNumber layout35 mapAddress)) es″
         marks″ = rw marked (expects-moved true (w .cleared) (isFree layout35 (disk img)) (w .marks) at (w .chain .on) used)
 
         pub clearing-moved : Follows img at link → link .track < 256 → link .sector < 256 → Clearing img first link img″ es″ k′

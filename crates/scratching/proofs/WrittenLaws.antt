@@ -184,13 +184,13 @@ module _ {img : Bytes} {holder index : ℕ} (t : FileThere img holder index) whe
         disk-overwrittenIn img′ n (32 * index + 2) (zeros 30) (omega (arith, cleared .size, size-there, t .inside)) (omega (arith, t .place))
         ∙ ap₂ (λ (x : Disk) (k : ℕ). put x k (splice (x k) (32 * index + 2) (zeros 30))) first-disk (sym (number-18 holder))
 
-    marks : Expects (isFree layout35 d2) es′
+    marks : Expects (isFree layout35 d2) (d m) es′
     marks =
-        let freed : Expects (freeAfter true (f .sectors) (isFree layout35 d)) es′ = rw (← sectors-are) at (cleared .marks) in
+        let freed : Expects (freeAfter true (f .sectors) (isFree layout35 d)) (d m) es′ = rw (← sectors-are) at (cleared .marks) in
         expects-agree freed (λ r on. free-after r)
 
     follows : put d2 m (storedEntries es′ (d2 m)) ≡ rewriteMap layout35 d2
-    follows = map-follows d2 marks (prepared .whole .full m (omega (arith, number-18 0, sectors35)))
+    follows = map-follows d2 marks (sym (prepared .unmapped)) (prepared .whole .full m (omega (arith, number-18 0, sectors35)))
 
     -- THE IMAGE AFTER A SCRATCH is that of document 01's disk
     image-scratched : img″ ≡ image layout35 (scratchedDisk layout35 d f)

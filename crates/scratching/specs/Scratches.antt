@@ -46,7 +46,7 @@ pub record ChainOwned (img : Bytes) (es : Entries) (r : Address) : Type 0 where
   pub chain : ChainFrom img r
   pub owned : (n : ℕ) → count n (map (sectorNumber layout35) (sectorsFrom img r)) ≤ claimCount layout35 (disk img) n
   pub once : (n : ℕ) → claimCount layout35 (disk img) n ≤ 1
-  pub marks : Expects (isFree layout35 (disk img)) es
+  pub marks : Expects (isFree layout35 (disk img)) (disk img (sectorNumber layout35 mapAddress)) es
 
 -- what the loop relies on: besides, a table of the tracks' first numbers
 pub record ClearReady (img : Bytes) (es : Entries) (firsts : List ℕ) (r : Address) : Type 0 where
@@ -57,7 +57,7 @@ pub record ClearReady (img : Bytes) (es : Entries) (firsts : List ℕ) (r : Addr
 pub record ChainCleared (img : Bytes) (r : Address) (c : Cleared) (img′ : Bytes) (es′ : Entries) : Type 0 where
   pub sectors : disk img′ ≡ clearSectors layout35 (sectorsFrom img r) (disk img)
   pub size : length img′ ≡ length img
-  pub marks : Expects (freeAfter true (sectorsFrom img r) (isFree layout35 (disk img))) es′
+  pub marks : Expects (freeAfter true (sectorsFrom img r) (isFree layout35 (disk img))) (disk img (sectorNumber layout35 mapAddress)) es′
   pub number : c .count ≡ length (sectorsFrom img r)
   pub last : c .last ≡ endOf img (sectorsFrom img r)
 

@@ -154,11 +154,13 @@ module _ (img name : Bytes) (kind : ℕ) (bs : Bytes) (x : ℕ) (xs : List ℕ) 
 
   -- ---- the marks, and the map stored
 
-  expects-after : {es″ : Entries} → es″ ≡ movedMarks false added es → Expects (isFree layout35 d2) es″
+  expects-after : {es″ : Entries} → es″ ≡ movedMarks false added es → Expects (isFree layout35 d2) (d (sectorNumber layout35 mapAddress)) es″
   expects-after m =
-      let before : Expects (isFree layout35 d) es = subst (Expects (isFree layout35 d)) (sym (w .ready .entries)) (expects-loaded d (w .ready .accepted .content) whole-map small-map) in
+      let before : Expects (isFree layout35 d) (d (sectorNumber layout35 mapAddress)) es
+      = subst (Expects (isFree layout35 d) (d (sectorNumber layout35 mapAddress))) (sym (w .ready .entries))
+      (expects-loaded d (w .ready .accepted .content) whole-map small-map) in
       let few : (n : ℕ) → count n (map (sectorNumber layout35) added) ≤ 1 = λ n. omega (arith, owners n) in
-      subst (Expects (isFree layout35 d2)) (sym m)
+      subst (Expects (isFree layout35 d2) (d (sectorNumber layout35 mapAddress))) (sym m)
       (expects-agree (expects-marks false before added added-on few added-free) free-now)
 
   module _ {img″ img‴ : Bytes} {es″ : Entries} (entered : disk img″ ≡ d2) (kept : length img″ ≡ length img) (m : es″ ≡ movedMarks false added es) (k : MapWritten img″ es″ img‴) where
@@ -168,7 +170,7 @@ module _ (img name : Bytes) (kind : ℕ) (bs : Bytes) (x : ℕ) (xs : List ℕ) 
     disk-after : disk img‴ ≡ rewriteMap layout35 d2
     disk-after =
         k .laid (omega (arith, kept, size35 w)) ∙ ap (λ (y : Disk). put y (sectorNumber layout35 mapAddress) (storedEntries es″ (y (sectorNumber layout35 mapAddress)))) entered
-        ∙ map-follows d2 (expects-after m) map-full
+        ∙ map-follows d2 (expects-after m) (sym (leaves .prepared .unmapped)) map-full
 
     image-after : (q : SlotPlace) → slotPlaceFor layout35 d ≡ done q → img‴ ≡ storeChange layout35 img q name kind bs .imageAfter
     unfolding storedDisk

@@ -1,9 +1,11 @@
 -- `mapcheck::entry_correct`: the bitmap is compared with the surveyed mask, and where they agree the count decides.
 -- Assumes nothing.
 use native.Mathlib.Omega.{arith}
+use lib.Pow.{pow-pos}
 use borrow.Author.Needs.{needs}
 use Rattle.geometry.proofs.TableLaws.{track-end-le}
 use Rattle.bam.specs.MapEntry.{bitmapOf}
+use Rattle.bam.proofs.BitmapLaws.{power-le, shifted}
 use Rattle.bam.proofs.ShapeLaws.{EntryShape, entry-shaped}
 use Rattle.mapcheck.proofs.TrackLaws.{track-wrong, track-by-count}
 use Rattle.mapcheck.proofs.entry_correct.Statement.{statement}
@@ -24,8 +26,8 @@ sectors-on-requires c κs = search needs
 
 survey-requires : tie.Need-survey-requires
 survey-requires c κs =
-    let first = c .before .first-on .ensures in
-    let count = c .sectors-on .ensures in
+    let first = c .first-on .ensures in
+    let count = c .before .sectors-on .ensures in
     (omega (arith, track-end-le (c .before .before .args .track)), omega arith)
 
 array-read-bitmap : tie.Need-array-read-bitmap
@@ -58,11 +60,25 @@ mul-bitmap-2 c = let e = shape (c .before .before .before) in omega (arith, e .s
 add-bitmap-2 : tie.Need-add-bitmap-2
 add-bitmap-2 c = let e = shape (c .before .before .before) in omega (arith, e .small 1, e .small 2, e .small 3)
 
+cast-if1 : tie.Need-cast-if1
+cast-if1 c = search needs
+
+shl-if1 : tie.Need-shl-if1
+shl-if1 c = search needs
+
+rem-if1 : tie.Need-rem-if1
+rem-if1 c =
+    let n = c .before .before .sectors-on in
+    omega (arith, power-le (n .result) (omega (arith, n .ensures .small)), pow-pos (n .result))
+
 returns : tie.Need-returns
 unfolding bitmapOf
 returns c =
     let k = c .before .before in
-    track-wrong _ _ _ (k .before .before .first-on .ensures) (k .before .sectors-on .ensures .sectors) (k .survey .ensures) (λ q. c .if1 .taken (omega (arith, q)))
+    let n = k .before .before .sectors-on in
+    track-wrong _ _ _ (k .before .first-on .ensures) (n .ensures .sectors) (k .survey .ensures)
+    (shifted (n .result) (omega (arith, n .ensures .small)))
+    (λ q. c .if1 .taken (omega (arith, q)))
 
 array-read-result : tie.Need-array-read-result
 array-read-result c = search needs
@@ -71,15 +87,18 @@ returns-2 : tie.Need-returns-2
 unfolding bitmapOf
 returns-2 c =
     let k = c .before .before .before in
-    track-by-count _ _ _ (k .before .before .first-on .ensures) (k .before .sectors-on .ensures .sectors) (k .survey .ensures) (omega (arith, c .before .if1 .left))
+    let n = k .before .before .sectors-on in
+    track-by-count _ _ _ (k .before .first-on .ensures) (n .ensures .sectors) (k .survey .ensures)
+    (shifted (n .result) (omega (arith, n .ensures .small)))
+    (omega (arith, c .before .if1 .left))
 
 pub entry-correct-spec : {M : Type 1} → statement M
 entry-correct-spec =
     tie.close
     (tie.spec
+    sectors-on-requires
     first-on-requires
     cast-survey
-    sectors-on-requires
     survey-requires
     array-read-bitmap
     cast-bitmap
@@ -91,6 +110,9 @@ entry-correct-spec =
     cast-bitmap-3
     mul-bitmap-2
     add-bitmap-2
+    cast-if1
+    shl-if1
+    rem-if1
     returns
     array-read-result
     returns-2)
