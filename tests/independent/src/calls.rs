@@ -7,9 +7,9 @@ use crate::answer::{
 };
 use crate::check::{examine, Layout};
 use crate::disk::{
-    disk, disk_mut, free_off_track_18, is_empty, lowest_free, map, mark_free, mark_used, slot_at,
-    slot_count, slot_in_mut, slot_name, Chain, Directory, Disk, Sector, DATA_BYTES, NAME_BYTES,
-    PAD,
+    disk, disk_mut, free_off_track_18, is_empty, lowest_free, map, mark_free, mark_used, own_bits,
+    slot_at, slot_count, slot_in_mut, slot_name, Chain, Directory, Disk, Sector, DATA_BYTES,
+    NAME_BYTES, PAD,
 };
 use crate::geometry::{
     house_tracks, number, on_track_18, sectors_on, DIRECTORY_TRACK, IMAGE_BYTES, MAP_NUMBER,
@@ -82,12 +82,12 @@ pub fn format(image: &mut [u8], name: &[u8], id1: u8, id2: u8) -> Answer {
     Answer::done(0, 0)
 }
 
-/// 18/0 of a fresh disk, from zeros.
+/// 18/0 of a fresh disk, from zeros; bits past a track's last sector are 0.
 fn format_map(map: &mut Sector, name: &[u8; NAME_BYTES], id1: u8, id2: u8) {
     map[..4].copy_from_slice(&[0x12, 0x01, 0x41, 0x00]);
     for track in 1..=TRACKS {
         let sectors = sectors_on(track);
-        let bits = ((1u32 << sectors) - 1).to_le_bytes();
+        let bits = own_bits(sectors).to_le_bytes();
         let at = 4 * usize::from(track);
         map[at] = sectors;
         map[at + 1..at + 4].copy_from_slice(&bits[..3]);

@@ -5,8 +5,8 @@ use crate::answer::{
     NAME_TWICE, NONE, WRONG_SIZE,
 };
 use crate::disk::{
-    bitmap, disk, is_empty, link, map, map_entry, slot_at, slot_count, slot_name, track_18,
-    walk_directory, Directory, Disk, Link, Slot, MAX_SLOTS, NAME_BYTES, PAD,
+    bitmap, disk, is_empty, link, map, map_entry, own_bits, slot_at, slot_count, slot_name,
+    track_18, walk_directory, Directory, Disk, Link, Slot, MAX_SLOTS, NAME_BYTES, PAD,
 };
 use crate::geometry::{
     number, on_track_18, sectors_on, DIRECTORY_TRACK, MAP_NUMBER, SECTORS, TRACKS, TRACK_18_BYTES,
@@ -137,11 +137,13 @@ fn claim_chain(
     }
 }
 
-/// Step 4: each entry's bits are those of the owner table, with 0 past the
-/// track's last sector, and its count is the number of ones.
+/// Step 4: each entry's bits are those of the owner table, and its count is
+/// the number of ones among them. Bits past the track's last sector are
+/// ignored (02, §5).
 fn check_map(disk: &Disk, owners: &[u16; SECTORS]) -> Result<(), Answer> {
     let mut first = 0;
     for track in 1..=TRACKS {
+        let own = own_bits(sectors_on(track));
         let sectors = usize::from(sectors_on(track));
         let mut free = 0u32;
         for sector in 0..sectors {
@@ -149,7 +151,7 @@ fn check_map(disk: &Disk, owners: &[u16; SECTORS]) -> Result<(), Answer> {
         }
         first += sectors;
         let entry = map_entry(map(disk), track);
-        if bitmap(entry) != free || u32::from(entry[0]) != free.count_ones() {
+        if bitmap(entry) & own != free || u32::from(entry[0]) != free.count_ones() {
             return Err(Answer::fault(MAP_WRONG, track, NONE, NONE));
         }
     }

@@ -7,7 +7,9 @@
 use crate::answer::Answer;
 use crate::naive::track_length;
 use crate::rng::Rng;
-use crate::sound::{not_pad, offset, slot_offset, Plan, Planned};
+use crate::sound::{
+    map_offset, not_pad, offset, slot_offset, spare_bit, spare_mask, Plan, Planned,
+};
 
 /// Step, then directory sector, slot or track, then the part of the slot,
 /// then the link.
@@ -79,7 +81,10 @@ pub const FAULTS: &[(&str, Planter)] = &[
     ("8-count", map_count),
     ("8-bit", map_bit),
     ("8-bit-and-count", map_bit_and_count),
-    ("8-bit-past-end", map_past_end),
+    ("8-bit-among-spare", bit_among_spare),
+    ("8-bit-for-spare", bit_for_spare),
+    ("8-spare-bit-counted", spare_bit_counted),
+    ("8-spare-bits-counted", spare_bits_counted),
     ("8-lost-file", lost_file),
     ("8-directory-cut", directory_cut),
     ("later-file", link_to_later),
@@ -432,13 +437,16 @@ fn lost_file(rng: &mut Rng, plan: &Plan) -> Option<Fault> {
 
 // --- The map --------------------------------------------------------------
 
-fn map_offset(track: u8) -> usize {
-    offset(18, 0) + 4 * usize::from(track)
-}
-
 fn map_says_free(plan: &Plan, track: u8, sector: u8) -> bool {
     let byte = plan.image[map_offset(track) + 1 + usize::from(sector / 8)];
     byte & (1 << (sector % 8)) != 0
+}
+
+/// A track and its map entry.
+fn any_entry(rng: &mut Rng, plan: &Plan) -> (u8, [u8; 4]) {
+    let track = rng.range(1, 35) as u8;
+    let at = map_offset(track);
+    (track, std::array::from_fn(|byte| plan.image[at + byte]))
 }
 
 fn map_fault(track: u8, writes: Vec<(usize, u8)>) -> Fault {
@@ -450,6 +458,11 @@ fn map_fault(track: u8, writes: Vec<(usize, u8)>) -> Fault {
     }
 }
 
+/// A wrong entry in the place of a track's own.
+fn entry_fault(track: u8, entry: [u8; 4]) -> Fault {
+    map_fault(track, (map_offset(track)..).zip(entry).collect())
+}
+
 fn map_count(rng: &mut Rng, plan: &Plan) -> Option<Fault> {
     let track = rng.range(1, 35) as u8;
     let right = plan.image[map_offset(track)];
@@ -458,10 +471,20 @@ fn map_count(rng: &mut Rng, plan: &Plan) -> Option<Fault> {
     Some(map_fault(track, vec![(map_offset(track), wrong)]))
 }
 
-/// The write that flips one bit of the map, the bit's sector being below
-/// `limit` and not below `from`; also whether it was 1.
-fn flip(rng: &mut Rng, plan: &Plan, track: u8, from: u8, limit: u8) -> ((usize, u8), bool) {
-    let sector = rng.range(usize::from(from), usize::from(limit) - 1) as u8;
+/// One of a track's sectors, half of the time its last: there a mask of the
+/// track's own bits goes wrong.
+fn any_sector(rng: &mut Rng, track: u8) -> u8 {
+    let sector = rng.below(usize::from(track_length(track))) as u8;
+    match rng.one_in(2) {
+        true => track_length(track) - 1,
+        false => sector,
+    }
+}
+
+/// The write that flips the bit of one of a track's sectors; also whether it
+/// was 1.
+fn flip(rng: &mut Rng, plan: &Plan, track: u8) -> ((usize, u8), bool) {
+    let sector = any_sector(rng, track);
     let at = map_offset(track) + 1 + usize::from(sector / 8);
     let mask = 1 << (sector % 8);
     ((at, plan.image[at] ^ mask), plan.image[at] & mask != 0)
@@ -469,25 +492,73 @@ fn flip(rng: &mut Rng, plan: &Plan, track: u8, from: u8, limit: u8) -> ((usize, 
 
 fn map_bit(rng: &mut Rng, plan: &Plan) -> Option<Fault> {
     let track = rng.range(1, 35) as u8;
-    let (write, _) = flip(rng, plan, track, 0, track_length(track));
+    let (write, _) = flip(rng, plan, track);
     Some(map_fault(track, vec![write]))
 }
 
 fn map_bit_and_count(rng: &mut Rng, plan: &Plan) -> Option<Fault> {
     let track = rng.range(1, 35) as u8;
-    let (write, was_free) = flip(rng, plan, track, 0, track_length(track));
+    let (write, was_free) = flip(rng, plan, track);
     let right = plan.image[map_offset(track)];
     let count = if was_free { right - 1 } else { right + 1 };
     Some(map_fault(track, vec![write, (map_offset(track), count)]))
 }
 
-/// A bit past the last sector, with and without the count following it.
-fn map_past_end(rng: &mut Rng, plan: &Plan) -> Option<Fault> {
-    let track = rng.range(1, 35) as u8;
-    let (write, _) = flip(rng, plan, track, track_length(track), 24);
-    let mut writes = vec![write];
-    if rng.one_in(2) {
-        writes.push((map_offset(track), plan.image[map_offset(track)] + 1));
+// --- Bits past a track's last sector (02, §5) -----------------------------
+//
+// Such a bit is no fault; a count or a sector's bit that is wrong beside it is.
+
+/// Flips a bit of an entry; gives whether it was 1.
+fn flip_in(entry: &mut [u8; 4], sector: u8) -> bool {
+    let (byte, mask) = (1 + usize::from(sector / 8), 1 << (sector % 8));
+    entry[byte] ^= mask;
+    entry[byte] & mask == 0
+}
+
+/// All spare bits are set, and a sector's bit is wrong. The count follows it,
+/// or doesn't.
+fn bit_among_spare(rng: &mut Rng, plan: &Plan) -> Option<Fault> {
+    let (track, mut entry) = any_entry(rng, plan);
+    entry[3] |= spare_mask(track);
+    let was_free = flip_in(&mut entry, any_sector(rng, track));
+    match (rng.one_in(2), was_free) {
+        (true, true) => entry[0] -= 1,
+        (true, false) => entry[0] += 1,
+        _ => {}
     }
-    Some(map_fault(track, writes))
+    Some(entry_fault(track, entry))
+}
+
+/// A sector's bit is wrong, and a spare one goes the other way: the 24 bits
+/// hold as many ones as before.
+fn bit_for_spare(rng: &mut Rng, plan: &Plan) -> Option<Fault> {
+    let (track, mut entry) = any_entry(rng, plan);
+    let past = rng.range(usize::from(track_length(track)), 23) as u8;
+    let was_free = flip_in(&mut entry, any_sector(rng, track));
+    let spare_was_set = flip_in(&mut entry, past);
+    (was_free != spare_was_set).then(|| entry_fault(track, entry))
+}
+
+/// One spare bit is set, and the count counts it. The others are 0 or as they
+/// were.
+fn spare_bit_counted(rng: &mut Rng, plan: &Plan) -> Option<Fault> {
+    let (track, mut entry) = any_entry(rng, plan);
+    if rng.one_in(2) {
+        entry[3] &= !spare_mask(track);
+    }
+    entry[3] |= spare_bit(rng, track);
+    entry[0] += 1;
+    Some(entry_fault(track, entry))
+}
+
+/// The count is that of the ones of all 24 bits. All spare bits are set, or
+/// those that were.
+fn spare_bits_counted(rng: &mut Rng, plan: &Plan) -> Option<Fault> {
+    let (track, mut entry) = any_entry(rng, plan);
+    if rng.one_in(2) {
+        entry[3] |= spare_mask(track);
+    }
+    let counted = (entry[3] & spare_mask(track)).count_ones() as u8;
+    entry[0] += counted;
+    (counted > 0).then(|| entry_fault(track, entry))
 }

@@ -66,6 +66,13 @@ pub fn bitmap(entry: [u8; 4]) -> u32 {
     u32::from_le_bytes([entry[1], entry[2], entry[3], 0])
 }
 
+/// The bits of a bitmap that stand for sectors. Those past the track's last
+/// sector are ignored and left as they are (02, §5).
+pub fn own_bits(sectors: u8) -> u32 {
+    (1 << sectors) - 1
+}
+
+/// Whether a sector that the track has is free.
 pub fn is_free(map: &Sector, track: u8, sector: u8) -> bool {
     bitmap(map_entry(map, track)) >> (sector & 31) & 1 == 1
 }

@@ -203,15 +203,32 @@ fn owners(directory: &[u8], files: &[File]) -> Option<Vec<Owner>> {
         .collect()
 }
 
-/// Whether every map entry is what the owners ask for.
+/// A bit of a track's bitmap, whether it stands for a sector or not.
+fn map_bit(map: &[u8], (track, sector): Place) -> bool {
+    let byte = map[4 * usize::from(track) + 1 + usize::from(sector) / 8];
+    byte & (1 << (sector % 8)) != 0
+}
+
+/// Whether every map entry is what the owners ask for: the bit of each sector
+/// of the disk, and each track's count. No other bit is looked at.
 fn map_agrees(map: &[u8], owners: &[Owner]) -> bool {
-    let mut expected = [0u8; 140];
-    for ((track, sector), owner) in places().zip(owners) {
-        if *owner == Owner::Nobody {
-            let entry = 4 * (usize::from(track) - 1);
-            expected[entry] += 1;
-            expected[entry + 1 + usize::from(sector) / 8] += 1 << (sector % 8);
+    let mut free = [0; 36];
+    for (place, owner) in places().zip(owners) {
+        let nobody = *owner == Owner::Nobody;
+        if map_bit(map, place) != nobody {
+            return false;
         }
+        free[usize::from(place.0)] += u8::from(nobody);
     }
-    map[4..144] == expected[..]
+    (1..=35).all(|track| map[4 * track] == free[track])
+}
+
+/// The bits past each track's last sector, which stand for no sector, from
+/// track 1 on; none if these bytes are no image.
+pub fn spare_bits(image: &[u8]) -> Vec<bool> {
+    let spare = (1..=35).flat_map(|track| (track_length(track)..24).map(move |bit| (track, bit)));
+    match sector_bytes(image, (18, 0)) {
+        Some(map) => spare.map(|place| map_bit(map, place)).collect(),
+        None => Vec::new(),
+    }
 }

@@ -9,7 +9,7 @@
 //! is all zeros; each read answered "done" reported as many sectors as its
 //! file's chain had, never more than 681."
 
-use crate::naive::{contents, Contents, File, Owner};
+use crate::naive::{contents, spare_bits, Contents, File, Owner};
 use crate::request::{lent, perform, Call, Library, Reply, Request};
 
 /// Demand 3, first clause.
@@ -29,6 +29,9 @@ pub const READ_BYTES: &str = "demand 2, a read gives its entry's bytes";
 /// Demand 2: only format, store and scratch leave another image. A library
 /// in safe Rust can't break this; one behind C entry points could.
 pub const LOOKS_ONLY: &str = "demand 2, a call that only looks leaves the image";
+/// Demand 2, read with 02, §5: bits past a track's last sector are "left as
+/// they are by every call but format. Format still writes 0."
+pub const SPARE_BITS: &str = "demand 2, spare bits of the map stay, and format writes 0";
 
 /// All that `demand3` verifies.
 pub const CLAUSES: &[&str] = &[
@@ -39,6 +42,7 @@ pub const CLAUSES: &[&str] = &[
     REFUSED,
     READ_BYTES,
     LOOKS_ONLY,
+    SPARE_BITS,
 ];
 
 /// No file has more sectors: 18/0 is the map's, 18/1 the directory's.
@@ -188,6 +192,7 @@ impl Run {
             (READ_BYTES, read_bytes_are_right(request, reply, &self.list)),
             (REFUSED, refusal_is_clean(request, reply, old == image)),
             (LOOKS_ONLY, writes(&request.call) || old == image),
+            (SPARE_BITS, spare_bits_are_right(request, reply, old, image)),
         ];
         let after = contents(image);
         verdicts.push((ACCEPTED, after.is_some()));
@@ -265,6 +270,15 @@ fn refusal_is_clean(request: &Request, reply: &Reply, same_image: bool) -> bool 
     let refused = reply.number != 0;
     let block_is_right = request.block == 9 || (refused && reply.block == lent(request.block));
     block_is_right && (!refused || (same_image && reply.out == lent(reply.out.len())))
+}
+
+/// A refused format leaves them, like any other call.
+fn spare_bits_are_right(request: &Request, reply: &Reply, old: &[u8], image: &[u8]) -> bool {
+    let after = spare_bits(image);
+    match request.call {
+        Call::Format { .. } if reply.number == 0 => !after.contains(&true),
+        _ => after == spare_bits(old),
+    }
 }
 
 fn writes(call: &Call) -> bool {

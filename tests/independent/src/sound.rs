@@ -47,7 +47,8 @@ pub struct Shape {
     /// Whether files may lie on track 18, and whether they go there first.
     pub on_track_18: bool,
     pub track_18_first: bool,
-    /// Junk in every ignored place; else zeros there.
+    /// Junk in every ignored place; else zeros there. The map's spare bits are
+    /// left to chance in either case.
     pub junk: bool,
     pub fill: Fill,
     pub odd_names: bool,
@@ -252,6 +253,22 @@ pub fn slot_offset(directory: &[u8], slot: usize) -> usize {
     offset(18, directory[slot / 8]) + 32 * (slot % 8)
 }
 
+/// Where a track's map entry starts in the image.
+pub fn map_offset(track: u8) -> usize {
+    offset(18, 0) + 4 * usize::from(track)
+}
+
+/// The bits past a track's last sector. They all stand in the last byte of its
+/// map entry, since every track has 17 to 21 sectors.
+pub fn spare_mask(track: u8) -> u8 {
+    0xFF << (track_length(track) - 16)
+}
+
+/// One of them.
+pub fn spare_bit(rng: &mut Rng, track: u8) -> u8 {
+    1 << (rng.range(usize::from(track_length(track)), 23) - 16)
+}
+
 /// Writes only what the rules ask for; all other bytes stay junk or zero.
 fn lay_out(rng: &mut Rng, shape: &Shape, directory: &[u8], files: &[Planned]) -> Vec<u8> {
     let mut image = vec![0; 174_848];
@@ -267,6 +284,7 @@ fn lay_out(rng: &mut Rng, shape: &Shape, directory: &[u8], files: &[Planned]) ->
         lay_file(rng, &mut image, directory, file);
     }
     lay_map(&mut image, directory, files);
+    lay_spare_bits(rng, &mut image);
     image
 }
 
@@ -318,7 +336,24 @@ fn lay_map(image: &mut [u8], directory: &[u8], files: &[Planned]) {
                 entry[1 + usize::from(sector / 8)] |= 1 << (sector % 8);
             }
         }
-        let at = offset(18, 0) + 4 * usize::from(track);
+        let at = map_offset(track);
         image[at..at + 4].copy_from_slice(&entry);
+    }
+}
+
+/// The bits past each track's last sector, which are ignored (02, §5): none of
+/// them, all of them, any of them, or a single one is set, each on a fourth of
+/// the images. They are drawn last: the rest of an image doesn't hang on them.
+fn lay_spare_bits(rng: &mut Rng, image: &mut [u8]) {
+    let (turn, lone) = (rng.below(4), rng.range(1, 35) as u8);
+    for track in 1..=35 {
+        let bits = match turn {
+            0 => 0,
+            1 => 0xFF,
+            2 => rng.byte(),
+            _ if track == lone => spare_bit(rng, track),
+            _ => 0,
+        };
+        image[map_offset(track) + 3] |= bits & spare_mask(track);
     }
 }

@@ -1,20 +1,21 @@
 //! Demand 3 over generated lists (01, What demand 3 compares), and the cheats
 //! that it must catch (01, Strength of the promises).
 
+mod cheats;
 mod model;
 
+use cheats::{demand3_catches, only_the_model_catches, Run};
 use independent::generate::{generate, sound, SOUND};
 use independent::host;
 use independent::lists::{requests, STYLES};
 use independent::naive::{contents, File, Owner};
 use independent::plain::{
-    demand3, PlainList, ACCEPTED, CLAUSES, GIVEN_BACK, PLAIN_LIST, READ_BYTES, READ_SECTORS,
-    REFUSED,
+    demand3, PlainList, ACCEPTED, GIVEN_BACK, PLAIN_LIST, READ_BYTES, READ_SECTORS, REFUSED,
 };
 use independent::request::{perform, Call, Independent, Library, Request};
 use independent::rng::{for_seeds, Rng};
 use independent::sound::slot_offset;
-use std::collections::{BTreeMap, BTreeSet};
+use std::collections::BTreeMap;
 
 #[test]
 fn demand3_holds_over_lists() {
@@ -327,7 +328,7 @@ impl Library for Cheating {
 }
 
 /// Start images and lists on which the library itself does nothing wrong.
-fn honest_runs() -> Vec<(Vec<u8>, Vec<Request>)> {
+fn honest_runs() -> Vec<Run> {
     let run = |seed: usize| {
         let kind = ["locked", "edge-ends"][seed % 2];
         let mut start = generate(kind, 2).unwrap().image;
@@ -342,45 +343,13 @@ fn honest_runs() -> Vec<(Vec<u8>, Vec<Request>)> {
 
 #[test]
 fn demand3_catches_cheats() {
-    let runs = honest_runs();
-    for (cheat, clauses) in CHEATS {
-        let caught = runs
-            .iter()
-            .find_map(|(start, list)| demand3(&Cheating(*cheat), start, list).err());
-        let what = caught.unwrap_or_else(|| panic!("{cheat:?} was not caught"));
-        let broken = CLAUSES.iter().filter(|clause| what.contains(**clause));
-        let broken: Vec<&str> = broken.copied().collect();
-        assert_eq!(broken, *clauses, "{cheat:?}: {what}");
-    }
+    demand3_catches(&honest_runs(), CHEATS, Cheating);
 }
 
-/// What demand 3 lets pass, the comparison of calls catches: the model owes
-/// another number on the image that the cheat itself made.
+/// What demand 3 lets pass, the comparison of calls catches.
 #[test]
 fn the_model_catches_what_demand3_does_not() {
-    let runs = honest_runs();
-    for &(cheat, given, owed) in NOT_SEEN {
-        let mut differ = BTreeSet::new();
-        for (start, list) in &runs {
-            demand3(&Cheating(cheat), start, list).unwrap();
-            differ.extend(differences(&Cheating(cheat), start, list));
-        }
-        assert!(differ.contains(&(given, owed)), "{cheat:?}: {differ:?}");
-    }
-}
-
-/// The numbers given and owed, where they differ.
-fn differences(library: &dyn Library, start: &[u8], list: &[Request]) -> Vec<(u32, u32)> {
-    let mut image = start.to_vec();
-    let mut differ = Vec::new();
-    for request in list {
-        let owed = model::number(&image, request);
-        if let Some(reply) = perform(library, &mut image, request) {
-            differ.push((reply.number, owed));
-        }
-    }
-    differ.retain(|(given, owed)| given != owed);
-    differ
+    only_the_model_catches(&honest_runs(), NOT_SEEN, Cheating);
 }
 
 /// "Demand 3 alone would let a store that always refuses pass": so the calls

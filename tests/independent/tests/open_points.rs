@@ -173,18 +173,18 @@ fn point_06_track_0_in_links() {
     assert_eq!(verdict(&image), (2, 17, 1, 0));
 }
 
-/// "The map, track 1 to 35": a wrong count, a wrong bit and a bit past the
-/// last sector all give 8.
+/// "The map, track 1 to 35": a wrong count, a wrong bit and a count of bits
+/// past the last sector all give 8.
 #[test]
 fn point_07_the_lowest_track_of_the_map() {
     let mut image = with_files(&[10]);
     for (track, entry) in [
-        (35u8, [17, 0xFF, 0xFF, 0x03]),
+        (35u8, [18, 0xFF, 0xFF, 0x03]),
         (20, [18, 0xFF, 0xFF, 0x07]),
-        (18, [0x11, 0xFC, 0xFF, 0x0F]),
+        (18, [0x12, 0xFC, 0xFF, 0x0F]),
         (17, [0x15, 0xFF, 0xFF, 0x1F]),
         (2, [0x14, 0xFE, 0xFF, 0x1F]),
-        (1, [0x15, 0xFF, 0xFF, 0xFF]),
+        (1, [0x18, 0xFF, 0xFF, 0xFF]),
     ] {
         set(&mut image, 18, 0, 4 * usize::from(track), &entry);
         assert_eq!(verdict(&image), (8, track, 255, 255));

@@ -7,7 +7,7 @@ use independent::calls::{read, tell, Told};
 use independent::check::{check, examine, DIRECTORY, FILES, MAP, NOBODY};
 use independent::generate::{sound, SOUND};
 use independent::listing::sleeve_output;
-use independent::naive::{contents, Contents, Owner};
+use independent::naive::{contents, spare_bits, Contents, Owner};
 use independent::request::lent;
 use independent::rng::for_seeds;
 use independent::sound::{Plan, Planned};
@@ -115,6 +115,7 @@ fn features_of(plan: &Plan) -> Vec<(&'static str, bool)> {
     let slots = 8 * plan.directory.len();
     let full = plan.files.len() == slots && slots < 144;
     let free18 = held.owners[357..376].contains(&Owner::Nobody);
+    let spare = spare_bits(&plan.image);
     vec![
         ("no file", plan.files.is_empty()),
         ("144 files", plan.files.len() == 144),
@@ -142,5 +143,7 @@ fn features_of(plan: &Plan) -> Vec<(&'static str, bool)> {
         ),
         ("full slots, track 18 free", full && free18),
         ("full slots, track 18 taken", full && !free18),
+        ("no spare bit", !spare.contains(&true)),
+        ("every spare bit", !spare.contains(&false)),
     ]
 }

@@ -11,7 +11,7 @@ use independent::answer::Answer;
 use independent::calls::Told;
 use independent::check::check;
 use independent::naive::{contents, places, position, track_length, Contents, File, Owner};
-use independent::request::{Call, Request};
+use independent::request::{perform, Call, Library, Request};
 use std::collections::HashSet;
 
 fn name_is_wrong(name: &[u8]) -> bool {
@@ -54,6 +54,20 @@ pub fn number(image: &[u8], request: &Request) -> u32 {
         None => u32::from(check(image).number),
         Some(held) => number_when_accepted(image, &held, call),
     }
+}
+
+/// The numbers given and owed, where they differ.
+pub fn differences(library: &dyn Library, start: &[u8], list: &[Request]) -> Vec<(u32, u32)> {
+    let mut image = start.to_vec();
+    let mut differ = Vec::new();
+    for request in list {
+        let owed = number(&image, request);
+        if let Some(reply) = perform(library, &mut image, request) {
+            differ.push((reply.number, owed));
+        }
+    }
+    differ.retain(|(given, owed)| given != owed);
+    differ
 }
 
 fn number_when_accepted(image: &[u8], held: &Contents, call: &Call) -> u32 {
@@ -144,14 +158,19 @@ pub fn image_after(image: &[u8], call: &Call) -> Vec<u8> {
     new
 }
 
-/// Rewrites all 35 entries from the owners.
+/// Rewrites each sector's bit and each track's count from the owners. Bits
+/// past a track's last sector stay as they are (02, §5).
 fn map_from(image: &mut [u8], owners: &[Owner]) {
-    image[91_392 + 4..91_392 + 144].fill(0);
     for ((track, sector), owner) in places().zip(owners) {
+        let entry = 91_392 + 4 * track as usize;
+        if sector == 0 {
+            image[entry] = 0;
+        }
+        let byte = entry + 1 + sector as usize / 8;
+        image[byte] &= !(1 << (sector % 8));
         if *owner == Owner::Nobody {
-            let entry = 91_392 + 4 * track as usize;
             image[entry] += 1;
-            image[entry + 1 + sector as usize / 8] += 1 << (sector % 8);
+            image[byte] += 1 << (sector % 8);
         }
     }
 }

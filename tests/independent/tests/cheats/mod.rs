@@ -1,0 +1,44 @@
+//! Libraries that cheat, and what must catch each of them.
+
+use crate::model;
+use independent::plain::{demand3, CLAUSES};
+use independent::request::{Library, Request};
+use std::collections::BTreeSet;
+use std::fmt::Debug;
+
+/// A start image, and a list of calls on it.
+pub type Run = (Vec<u8>, Vec<Request>);
+
+/// Each is caught by demand 3, and by exactly its own clauses.
+pub fn demand3_catches<C: Copy + Debug, L: Library>(
+    runs: &[Run],
+    cheats: &[(C, &[&str])],
+    cheating: fn(C) -> L,
+) {
+    for (cheat, clauses) in cheats {
+        let caught = runs
+            .iter()
+            .find_map(|(start, list)| demand3(&cheating(*cheat), start, list).err());
+        let what = caught.unwrap_or_else(|| panic!("{cheat:?} was not caught"));
+        let broken = CLAUSES.iter().filter(|clause| what.contains(**clause));
+        let broken: Vec<&str> = broken.copied().collect();
+        assert_eq!(broken, *clauses, "{cheat:?}: {what}");
+    }
+}
+
+/// Demand 3 lets each pass, and the comparison of calls catches it: the model
+/// owes another number on the image that the cheat itself made.
+pub fn only_the_model_catches<C: Copy + Debug, L: Library>(
+    runs: &[Run],
+    cheats: &[(C, u32, u32)],
+    cheating: fn(C) -> L,
+) {
+    for &(cheat, given, owed) in cheats {
+        let mut differ = BTreeSet::new();
+        for (start, list) in runs {
+            demand3(&cheating(cheat), start, list).unwrap();
+            differ.extend(model::differences(&cheating(cheat), start, list));
+        }
+        assert!(differ.contains(&(given, owed)), "{cheat:?}: {differ:?}");
+    }
+}
