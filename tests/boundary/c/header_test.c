@@ -279,11 +279,64 @@ static void slots_that_go_wrong(void)
 static void maps_that_go_wrong(void)
 {
     two_files();
-    map_entry(image, 35)[3] |= 0x02; /* sector 17, which track 35 hasn't */
+    map_entry(image, 35)[3] &= 0xFE; /* sector 16, the last of track 35, which is free */
     ALL_REFUSE(D64_WRONG_MAP, 35, 255, 255);
     map_entry(image, 1)[0]--;
     ALL_REFUSE(D64_WRONG_MAP, 1, 255, 255);
     EXPECT(list(sizeof out), D64_DONE);
+}
+
+/* Entries of two_files, at both ends of the tracks of 21, 19, 18 and 17 sectors, and the bits past the last sector. */
+static const struct ends {
+    int track;
+    uint8_t entry[4];
+    int spare, spare_bits;
+} ends[] = {
+    {1, {0x15, 0xFF, 0xFF, 0x1F}, 0xE0, 3},  {17, {0x0F, 0xC0, 0xFF, 0x1F}, 0xE0, 3},
+    {18, {0x11, 0xFC, 0xFF, 0x07}, 0xF8, 5}, {24, {0x13, 0xFF, 0xFF, 0x07}, 0xF8, 5},
+    {25, {0x12, 0xFF, 0xFF, 0x03}, 0xFC, 6}, {30, {0x12, 0xFF, 0xFF, 0x03}, 0xFC, 6},
+    {31, {0x11, 0xFF, 0xFF, 0x01}, 0xFE, 7}, {35, {0x11, 0xFF, 0xFF, 0x01}, 0xFE, 7},
+};
+
+/*
+ * With these bits the disk is accepted, read and listed. With a count that counts them, or the last sector's bit wrong,
+ * it is refused.
+ */
+static void with_spare(const struct ends *end, int bits, int counted)
+{
+    const int own = end->entry[3], last = own - own / 2;
+    uint8_t *entry = map_entry(image, end->track);
+    entry[3] = (uint8_t)(own | bits);
+    EXPECT(check(), D64_DONE);
+    EXPECT_NOWHERE();
+    EXPECT(read_file("TWO", 600), D64_DONE);
+    EXPECT_BLOCK(0, 0, 255, 600, 3);
+    EXPECT(list(sizeof out), D64_DONE);
+    EXPECT(memcmp(out + 37 + 2 * 43, "0292\n", 5), 0);
+    entry[0] = (uint8_t)(end->entry[0] + counted);
+    ALL_REFUSE(D64_WRONG_MAP, end->track, 255, 255);
+    entry[0] = end->entry[0];
+    entry[3] = (uint8_t)((own - last) | bits);
+    ALL_REFUSE(D64_WRONG_MAP, end->track, 255, 255);
+    entry[0]--;
+    ALL_REFUSE(D64_WRONG_MAP, end->track, 255, 255);
+    memcpy(entry, end->entry, 4);
+}
+
+static void bits_past_the_last_sector(void)
+{
+    two_files();
+    for (size_t i = 0; i < sizeof ends / sizeof *ends; i++) {
+        EXPECT(memcmp(map_entry(image, ends[i].track), ends[i].entry, 4), 0);
+        with_spare(&ends[i], ends[i].spare, ends[i].spare_bits);
+        for (int bit = 0x80; (bit & ends[i].spare) != 0; bit /= 2)
+            with_spare(&ends[i], bit, 1);
+    }
+    /* document 000's track */
+    memcpy(map_entry(image, 2), "\x15\xFF\xFF\xFF", 4);
+    EXPECT(check(), D64_DONE);
+    memcpy(map_entry(image, 2), "\x18\xFF\xFF\xFF", 4);
+    ALL_REFUSE(D64_WRONG_MAP, 2, 255, 255);
 }
 
 static void sizes(void)
@@ -364,6 +417,7 @@ int main(void)
     directories_that_go_wrong();
     slots_that_go_wrong();
     maps_that_go_wrong();
+    bits_past_the_last_sector();
     sizes();
     blocks_of_other_sizes();
     null_is_an_empty_slice();

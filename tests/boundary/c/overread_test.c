@@ -217,6 +217,18 @@ static void call_on_bad_links(void)
         }
 }
 
+/* All bits past the tracks' last sectors are set, and 35/16 alone is free or all: 35/17 would lie behind the image. */
+static void call_on_spare_bits(void)
+{
+    struct hand hand = {17, 0, 0};
+    format_by_hand(disk, "SPARE", 0x30, 0x31);
+    for (int track = 1; track <= TRACKS; track++)
+        map_entry(disk, track)[3] |= (uint8_t)(0xFF << (sectors_of(track) - 16));
+    call_on_disk(0);
+    add_files(disk, &hand, 1, 168656 - DATA_BYTES);
+    call_on_disk(168656 - DATA_BYTES);
+}
+
 static void call_on_many_disks(void)
 {
     struct hand hand = {17, 0, 0};
@@ -235,6 +247,7 @@ static void call_on_many_disks(void)
     memset(disk, 0xFF, sizeof disk);
     call_on_disk(10);
     call_on_bad_links();
+    call_on_spare_bits();
 }
 
 int main(void)

@@ -382,6 +382,94 @@ static void ignored_bytes(void)
     EXPECT_WANTED();
 }
 
+/* 18/0 of a disk with bits past its tracks' last sectors: none, one, some or all of them; empty, and then full. */
+#define MAP_HEAD "\x12\x01\x41\x00"
+#define MAP_NAME "CODES\xA0\xA0\xA0\xA0\xA0\xA0\xA0\xA0\xA0\xA0\xA0" "\xA0\xA0" "01" "\xA0" "2A" "\xA0\xA0\xA0\xA0"
+
+static const char empty_map[SECTOR_BYTES + 1] = MAP_HEAD
+    "\x15\xFF\xFF\x1F" "\x15\xFF\xFF\xFF" "\x15\xFF\xFF\x3F" "\x15\xFF\xFF\x5F" "\x15\xFF\xFF\x9F" "\x15\xFF\xFF\x7F"
+    "\x15\xFF\xFF\xBF" "\x15\xFF\xFF\xDF" "\x15\xFF\xFF\x1F" "\x15\xFF\xFF\xFF" "\x15\xFF\xFF\x3F" "\x15\xFF\xFF\x5F"
+    "\x15\xFF\xFF\x9F" "\x15\xFF\xFF\x7F" "\x15\xFF\xFF\xBF" "\x15\xFF\xFF\xDF" "\x15\xFF\xFF\xFF"
+    "\x11\xFC\xFF\xFF"
+    "\x13\xFF\xFF\x0F" "\x13\xFF\xFF\x17" "\x13\xFF\xFF\x27" "\x13\xFF\xFF\x47" "\x13\xFF\xFF\x87" "\x13\xFF\xFF\xFF"
+    "\x12\xFF\xFF\x07" "\x12\xFF\xFF\x0B" "\x12\xFF\xFF\x13" "\x12\xFF\xFF\x43" "\x12\xFF\xFF\x83" "\x12\xFF\xFF\xFF"
+    "\x11\xFF\xFF\x03" "\x11\xFF\xFF\x05" "\x11\xFF\xFF\x81" "\x11\xFF\xFF\x01" "\x11\xFF\xFF\xFF"
+    MAP_NAME;
+
+static const char full_map[SECTOR_BYTES + 1] = MAP_HEAD
+    "\x00\x00\x00\x00" "\x00\x00\x00\xE0" "\x00\x00\x00\x20" "\x00\x00\x00\x40" "\x00\x00\x00\x80" "\x00\x00\x00\x60"
+    "\x00\x00\x00\xA0" "\x00\x00\x00\xC0" "\x00\x00\x00\x00" "\x00\x00\x00\xE0" "\x00\x00\x00\x20" "\x00\x00\x00\x40"
+    "\x00\x00\x00\x80" "\x00\x00\x00\x60" "\x00\x00\x00\xA0" "\x00\x00\x00\xC0" "\x00\x00\x00\xE0"
+    "\x11\xFC\xFF\xFF"
+    "\x00\x00\x00\x08" "\x00\x00\x00\x10" "\x00\x00\x00\x20" "\x00\x00\x00\x40" "\x00\x00\x00\x80" "\x00\x00\x00\xF8"
+    "\x00\x00\x00\x04" "\x00\x00\x00\x08" "\x00\x00\x00\x10" "\x00\x00\x00\x40" "\x00\x00\x00\x80" "\x00\x00\x00\xFC"
+    "\x00\x00\x00\x02" "\x00\x00\x00\x04" "\x00\x00\x00\x80" "\x00\x00\x00\x00" "\x00\x00\x00\xFE"
+    MAP_NAME;
+
+static void expect_map(const char *map, int line)
+{
+    for (int i = 0; i < SECTOR_BYTES; i++)
+        expect(sector_at(image, 18, 0)[i], (uint8_t)map[i], "a byte of 18/0", __FILE__, line);
+}
+
+/* The disk with these bits in image and wanted. It is accepted. */
+static void spare_disk(void)
+{
+    format_by_hand(wanted, "CODES", 0x30, 0x31);
+    memcpy(sector_at(wanted, 18, 0), empty_map, SECTOR_BYTES);
+    memcpy(image, wanted, sizeof image);
+    EXPECT(check(), D64_DONE);
+}
+
+/* A store on every track, the scratch of it, and what is refused; then document 01's example. */
+static void spare_bits_stay(void)
+{
+    spare_disk();
+    EXPECT_REFUSED(store("ALL", 2, MOST + 1), D64_DISK_FULL);
+    EXPECT(store("ALL", 2, MOST), D64_DONE);
+    EXPECT_BLOCK(0, 0, 255, MOST, 664);
+    expect_map(full_map, __LINE__);
+    EXPECT_REFUSED(store("NONE", 2, 0), D64_DISK_FULL);
+    EXPECT_REFUSED(scratch("NONE"), D64_NOT_FOUND);
+    EXPECT(scratch("ALL"), D64_DONE);
+    expect_map(empty_map, __LINE__);
+    EXPECT_WANTED();
+    EXPECT(store("CODE", 2, 300), D64_DONE);
+    expect_entry(17, 0x13, 0xFC, 0xFF, 0xFF, __LINE__);
+    EXPECT(scratch("CODE"), D64_DONE);
+    EXPECT_WANTED();
+    map_entry(image, 2)[0] = 0x18; /* 18 FF FF FF: they are counted */
+    memcpy(before, image, sizeof image);
+    EXPECT(store("CODE", 2, 300), D64_WRONG_MAP);
+    EXPECT_BLOCK(2, 255, 255, 0, 0);
+    EXPECT(scratch("CODE"), D64_WRONG_MAP);
+    EXPECT_BLOCK(2, 255, 255, 0, 0);
+    expect_image(before, __LINE__);
+}
+
+/* The directory grows beside them, and not into 18/19. */
+static void spare_bits_are_no_slots(void)
+{
+    struct hand few = {17, 0, 0}, many = {17, 0, 0};
+    spare_disk();
+    add_files(image, &few, 8, 10);
+    EXPECT(store("MORE", 2, 10), D64_DONE);
+    expect_entry(18, 0x10, 0xF8, 0xFF, 0xFF, __LINE__);
+    spare_disk();
+    add_files(image, &many, 144, 10);
+    expect_entry(18, 0x00, 0x00, 0x00, 0xF8, __LINE__);
+    EXPECT_REFUSED(store("MORE", 2, 10), D64_DIRECTORY_FULL);
+}
+
+static void spare_bits_are_cleared_by_format(void)
+{
+    spare_disk();
+    EXPECT_REFUSED(format("", 0x30, 0x31), D64_BAD_NAME);
+    EXPECT(format("CODES", 0x30, 0x31), D64_DONE);
+    format_by_hand(wanted, "CODES", 0x30, 0x31);
+    EXPECT_WANTED();
+}
+
 static void dos_versions(void)
 {
     fresh();
@@ -494,6 +582,9 @@ int main(void)
     track_18_is_no_room();
     codes_are_cleared();
     ignored_bytes();
+    spare_bits_stay();
+    spare_bits_are_no_slots();
+    spare_bits_are_cleared_by_format();
     dos_versions();
     a_damaged_image();
     blocks_of_other_sizes();

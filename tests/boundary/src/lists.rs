@@ -13,15 +13,22 @@ use independent::lists::{requests, Style, STYLES};
 use independent::plain::demand3;
 use independent::request::{Library, Request};
 use independent::rng::Rng;
-use independent::sound::{build, Fill, Shape};
+use independent::sound::{build, map_offset, spare_mask, Fill, Shape};
 use std::cell::Cell;
 
 /// Calls of one list.
 pub const CALLS: usize = 200;
 
-/// Start images besides the kinds of sound ones: a formatted disk, and
-/// directories with few slots left, with and without room on track 18.
-const STARTS: [&str; 4] = ["formatted", "few-slots", "few-slots-18-full", "last-slots"];
+/// Start images besides the kinds of sound ones: a formatted disk, one with
+/// bits past its tracks' last sectors, and directories with few slots left,
+/// with and without room on track 18.
+const STARTS: [&str; 5] = [
+    "formatted",
+    "formatted-spare",
+    "few-slots",
+    "few-slots-18-full",
+    "last-slots",
+];
 
 /// An accepted image, and calls on it in turn.
 pub struct List {
@@ -61,6 +68,7 @@ impl List {
 fn start(rng: &mut Rng, kind: &str) -> Vec<u8> {
     let mut image = match kind {
         "formatted" => formatted(rng),
+        "formatted-spare" => formatted_elsewhere(rng),
         "few-slots" | "few-slots-18-full" | "last-slots" => {
             let shape = few_slots(rng, kind);
             build(rng, &shape).image
@@ -76,6 +84,18 @@ fn formatted(rng: &mut Rng) -> Vec<u8> {
     let mut image = rng.bytes(IMAGE_BYTES);
     let answer = format(&mut image, b"START", rng.byte(), rng.byte());
     assert_eq!(answer.number, 0);
+    image
+}
+
+/// As another program formats a disk, or as owners send it: all bits past a
+/// track's last sector are set, or any of them.
+fn formatted_elsewhere(rng: &mut Rng) -> Vec<u8> {
+    let mut image = formatted(rng);
+    let all = rng.one_in(2);
+    for track in 1..=35 {
+        let bits = if all { 0xFF } else { rng.byte() };
+        image[map_offset(track) + 3] |= bits & spare_mask(track);
+    }
     image
 }
 

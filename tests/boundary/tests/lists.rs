@@ -3,12 +3,29 @@
 
 use boundary::lists::List;
 use independent::check::examine;
-use independent::naive::{contents, position, Contents, Owner};
+use independent::generate::SOUND;
+use independent::naive::{contents, position, spare_bits, Contents, Owner};
 use independent::request::{perform, Call, Independent};
+use independent::sound::{map_offset, spare_mask};
+use std::collections::BTreeMap;
 
 fn has_room_on_track_18(held: &Contents) -> bool {
     let place = |sector| position(18, sector).expect("a place on the disk");
     (1..19).any(|sector| held.owners[place(sector)] == Owner::Nobody)
+}
+
+/// Whether a bit past a track's last sector is set.
+fn has_spare(image: &[u8]) -> bool {
+    spare_bits(image).contains(&true)
+}
+
+/// Whether an entry of the map differs that has such a bit set.
+fn written_beside_spare(before: &[u8], after: &[u8]) -> bool {
+    (1..=35).any(|track| {
+        let entry = map_offset(track)..map_offset(track) + 4;
+        let spare = before[map_offset(track) + 3] & spare_mask(track);
+        spare != 0 && before[entry.clone()] != after[entry]
+    })
 }
 
 #[test]
@@ -19,7 +36,8 @@ fn start_images_are_what_their_kind_says() {
         let left = 8 * held.directory.len() - held.files.len();
         let (slots, room) = (held.directory.len() == 18, has_room_on_track_18(&held));
         let right = match kind {
-            "formatted" => held.files.is_empty() && left == 8,
+            "formatted" => held.files.is_empty() && left == 8 && !has_spare(&list.start),
+            "formatted-spare" => held.files.is_empty() && left == 8 && has_spare(&list.start),
             "few-slots" => (1..=4).contains(&left) && room,
             "few-slots-18-full" => (1..=4).contains(&left) && !room && !slots,
             "last-slots" => (1..=4).contains(&left) && slots,
@@ -61,19 +79,26 @@ impl Met {
     }
 }
 
-#[test]
-fn stores_come_upon_every_end() {
-    let mut met = Met::default();
-    for list in (0..100).map(List::new) {
+/// Runs the first lists, and shows each call with the image before and after.
+fn each_call(mut shown: impl FnMut(&Call, &[u8], u32, &[u8])) {
+    for list in (0..105).map(List::new) {
         let mut image = list.start;
         for request in &list.requests {
             let before = image.clone();
             let reply = perform(&Independent, &mut image, request).expect("every call is there");
-            if matches!(request.call, Call::Store { .. }) {
-                met.note(&before, reply.number, &image);
-            }
+            shown(&request.call, &before, reply.number, &image);
         }
     }
+}
+
+#[test]
+fn stores_come_upon_every_end() {
+    let mut met = Met::default();
+    each_call(|call, before, number, after| {
+        if matches!(call, Call::Store { .. }) {
+            met.note(before, number, after);
+        }
+    });
     println!("{met:?}");
     let counts = [
         met.grown,
@@ -82,4 +107,68 @@ fn stores_come_upon_every_end() {
         met.room_on_track_18_alone,
     ];
     assert!(counts.iter().all(|count| *count > 50), "{met:?}");
+}
+
+/// What calls come upon where bits past a track's last sector are set.
+#[derive(Default, Debug)]
+struct BesideSpare {
+    /// Their entries change.
+    stored: usize,
+    scratched: usize,
+    /// The directory grows on such a track 18.
+    grown: usize,
+    /// 14 and 15, which such bits must not avert.
+    directory_full: usize,
+    disk_full: usize,
+    /// A format, which clears them.
+    formatted: usize,
+}
+
+impl BesideSpare {
+    fn note(&mut self, call: &Call, before: &[u8], number: u32, after: &[u8]) {
+        let track_18 = &before[map_offset(18)..][..4];
+        let on_track_18 = track_18[3] & spare_mask(18) != 0;
+        match (call, number) {
+            (Call::Store { .. }, 0) => {
+                self.stored += usize::from(written_beside_spare(before, after));
+                let grows = directory_sectors(after) > directory_sectors(before);
+                self.grown += usize::from(grows && on_track_18);
+            }
+            (Call::Store { .. }, 14) => self.directory_full += usize::from(on_track_18),
+            (Call::Store { .. }, 15) => self.disk_full += usize::from(has_spare(before)),
+            (Call::Scratch { .. }, 0) => {
+                self.scratched += usize::from(written_beside_spare(before, after));
+            }
+            (Call::Format { .. }, 0) => self.formatted += usize::from(has_spare(before)),
+            _ => {}
+        }
+    }
+}
+
+#[test]
+fn calls_come_upon_spare_bits() {
+    let mut met = BesideSpare::default();
+    each_call(|call, before, number, after| met.note(call, before, number, after));
+    println!("{met:?}");
+    let counts = [
+        met.stored,
+        met.scratched,
+        met.grown,
+        met.directory_full,
+        met.disk_full,
+        met.formatted,
+    ];
+    assert!(counts.iter().all(|count| *count > 20), "{met:?}");
+}
+
+/// But for a formatted disk, every kind of start image has them set on some.
+#[test]
+fn start_images_have_spare_bits() {
+    let mut kinds = BTreeMap::new();
+    for list in (0..210).map(List::new) {
+        *kinds.entry(list.kind).or_insert(0) += usize::from(has_spare(&list.start));
+    }
+    assert_eq!(kinds.remove("formatted"), Some(0));
+    assert_eq!(kinds.len(), 4 + SOUND.len());
+    assert!(kinds.values().all(|images| *images >= 3), "{kinds:?}");
 }

@@ -9,17 +9,18 @@ use boundary::lists::{compare_list, demand3_over, List, OWN_CHECK};
 use boundary::rounds::run_round;
 use boundary::tally::{Failure, Tally};
 use independent::plain::{
-    ACCEPTED, CLAUSES, GIVEN_BACK, PLAIN_LIST, READ_BYTES, READ_SECTORS, REFUSED,
+    ACCEPTED, CLAUSES, GIVEN_BACK, PLAIN_LIST, READ_BYTES, READ_SECTORS, REFUSED, SPARE_BITS,
 };
 use wrong::changes::{ScratchEdited, StoreEdited};
 use wrong::formatting::FormatEdited;
-use wrong::{formatting, reading, scratching, stored, storing, usr, Row};
+use wrong::spare::CheckSees;
+use wrong::{formatting, reading, scratching, spare, stored, storing, usr, Row};
 
 /// Rounds within which each wrong library is to be found.
-const ROUNDS: u64 = 12;
+const ROUNDS: u64 = 24;
 
 /// Lists within which a cheat is to be found by demand 3.
-const LISTS: u64 = 40;
+const LISTS: u64 = 63;
 
 /// The first difference within the rounds, and the images up to it.
 fn run(library: &dyn EntryPoints) -> (usize, Result<(), Failure>) {
@@ -71,6 +72,11 @@ fn each_wrong_about_usr_files_is_found() {
     each_is_found(usr::WRONG);
 }
 
+#[test]
+fn each_wrong_about_spare_bits_is_found() {
+    each_is_found(spare::WRONG);
+}
+
 /// What demand 3 finds by itself, with no independent program beside the
 /// library: the clauses that each breaks, and no others.
 const CHEATS: &[(&str, &dyn EntryPoints, &[&str])] = &[
@@ -93,7 +99,7 @@ const CHEATS: &[(&str, &dyn EntryPoints, &[&str])] = &[
     (
         "a refused format clears",
         &formatting::RefusedYetCleared,
-        &[ACCEPTED, REFUSED],
+        &[ACCEPTED, REFUSED, SPARE_BITS],
     ),
     (
         "store stores nothing",
@@ -187,24 +193,147 @@ const CHEATS: &[(&str, &dyn EntryPoints, &[&str])] = &[
         &ScratchEdited(usr::usr_codes_left),
         &[GIVEN_BACK],
     ),
+    (
+        "check still refuses spare bits",
+        &CheckSees(spare::refused_as_before),
+        &[OWN_CHECK],
+    ),
+    (
+        "check counts spare bits",
+        &CheckSees(spare::counted_in),
+        &[OWN_CHECK],
+    ),
+    (
+        "check looks at 21 bits of every track",
+        &CheckSees(spare::twenty_one_bits),
+        &[OWN_CHECK],
+    ),
+    (
+        "store clears spare bits where it writes",
+        &StoreEdited(spare::cleared_where_written),
+        &[SPARE_BITS],
+    ),
+    (
+        "store clears spare bits",
+        &StoreEdited(spare::cleared),
+        &[SPARE_BITS],
+    ),
+    (
+        "store sets spare bits where it writes",
+        &StoreEdited(spare::set_where_written),
+        &[SPARE_BITS],
+    ),
+    (
+        "store sets spare bits",
+        &StoreEdited(spare::set),
+        &[SPARE_BITS],
+    ),
+    (
+        "store counts spare bits",
+        &StoreEdited(spare::counted),
+        &[ACCEPTED],
+    ),
+    (
+        "store writes the map anew",
+        &StoreEdited(spare::written_anew),
+        &[SPARE_BITS],
+    ),
+    (
+        "a growing directory clears spare bits",
+        &StoreEdited(spare::cleared_by_growth),
+        &[SPARE_BITS],
+    ),
+    (
+        "store goes on past a track's end",
+        &StoreEdited(spare::past_the_end),
+        &[ACCEPTED, SPARE_BITS],
+    ),
+    (
+        "a spare bit is room",
+        &spare::TakenAsRoom,
+        &[ACCEPTED, SPARE_BITS],
+    ),
+    (
+        "the directory grows into 18/19",
+        &spare::TakenByDirectory,
+        &[ACCEPTED, SPARE_BITS],
+    ),
+    (
+        "a refused store clears spare bits",
+        &spare::RefusedStoreClears,
+        &[REFUSED, SPARE_BITS],
+    ),
+    (
+        "scratch clears spare bits where it writes",
+        &ScratchEdited(spare::cleared_where_written),
+        &[SPARE_BITS],
+    ),
+    (
+        "scratch clears spare bits",
+        &ScratchEdited(spare::cleared),
+        &[SPARE_BITS],
+    ),
+    (
+        "scratch sets spare bits where it writes",
+        &ScratchEdited(spare::set_where_written),
+        &[SPARE_BITS],
+    ),
+    (
+        "scratch sets spare bits",
+        &ScratchEdited(spare::set),
+        &[SPARE_BITS],
+    ),
+    (
+        "scratch counts spare bits",
+        &ScratchEdited(spare::counted),
+        &[ACCEPTED],
+    ),
+    (
+        "scratch writes the map anew",
+        &ScratchEdited(spare::written_anew),
+        &[SPARE_BITS],
+    ),
+    (
+        "a refused scratch clears spare bits",
+        &spare::RefusedScratchClears,
+        &[REFUSED, SPARE_BITS],
+    ),
+    (
+        "format keeps spare bits",
+        &FormatEdited(spare::kept),
+        &[SPARE_BITS],
+    ),
+    (
+        "format sets spare bits",
+        &FormatEdited(spare::set_by_format),
+        &[SPARE_BITS],
+    ),
 ];
 
-/// The first list on which demand 3 is broken.
-fn broken_by(library: &dyn EntryPoints) -> Option<String> {
-    let mut lists = (0..LISTS).map(List::new);
-    lists.find_map(|list| Some(demand3_over(library, &list).err()?.to_string()))
+/// The lists on which demand 3 is broken, each with its clauses.
+fn broken_by(library: &dyn EntryPoints) -> impl Iterator<Item = (Vec<&'static str>, String)> + '_ {
+    let broken = |list| Some(demand3_over(library, &list).err()?.to_string());
+    let lists = (0..LISTS).map(List::new).filter_map(broken);
+    lists.map(|broken| {
+        let all = CLAUSES.iter().chain([&OWN_CHECK]).copied();
+        (
+            all.filter(|clause| broken.contains(clause)).collect(),
+            broken,
+        )
+    })
 }
 
+/// One list shows all the clauses of a cheat; none shows another.
 #[test]
 fn demand_3_alone_finds_cheats() {
     for (what, library, clauses) in CHEATS {
-        let broken = broken_by(*library).unwrap_or_else(|| panic!("not found: {what}"));
-        let all = CLAUSES.iter().chain([&OWN_CHECK]);
-        let named: Vec<&str> = all
-            .copied()
-            .filter(|clause| broken.contains(clause))
-            .collect();
-        assert_eq!(named, *clauses, "{what}: {broken}");
+        let shows_all = |(named, broken): (Vec<&str>, String)| {
+            let known = named.iter().all(|clause| clauses.contains(clause));
+            assert!(known, "{what}: {broken}");
+            named == *clauses
+        };
+        let found = broken_by(*library).any(shows_all);
+        assert!(found, "not found by {clauses:?}: {what}");
     }
 }
 

@@ -37,7 +37,8 @@ fn main() {
 
 /// The cases of so many images, each of a kind and a seed drawn anew. The
 /// first two have no file and one file, so that a store and a scratch are
-/// among the cases. The kinds that a store takes or refuses come last.
+/// among the cases, and change map entries with bits past the track's last
+/// sector. The kinds that a store takes or refuses come last.
 fn draw_rows(seed: u64, images: usize) -> Vec<Row> {
     let rng = &mut Rng::new(seed);
     let kinds = kinds();
@@ -54,8 +55,11 @@ fn draw_rows(seed: u64, images: usize) -> Vec<Row> {
             continue;
         };
         if made.image.len() == IMAGE_BYTES && rows::occupied(&made.image) <= most {
-            rows.extend(rows::of_image(&kind, at, &made.image));
-            taken += 1;
+            let drawn = rows::of_image(&kind, at, &made.image);
+            if taken > 1 || drawn.iter().any(|row| row.beside_spare) {
+                rows.extend(drawn);
+                taken += 1;
+            }
         }
     }
     let drawn: Vec<u32> = (0..DRAWN_KINDS).map(|_| kind(rng)).collect();

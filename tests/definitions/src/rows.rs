@@ -5,6 +5,7 @@ use independent::calls::{format, scratch, store, tell};
 use independent::check::check;
 use independent::geometry::{IMAGE_BYTES, TRACK_18_BYTES, TRACK_18_OFFSET};
 use independent::listing::sleeve_output;
+use independent::sound::{map_offset, spare_mask};
 
 /// What the generated modules cite: the definitions that run a case.
 pub const DEFINITIONS: &str = include_str!("rows.antt.txt");
@@ -26,12 +27,15 @@ pub const MOST_FILES: usize = 8;
 pub struct Row {
     what: String,
     term: String,
+    /// Whether it is a store or a scratch that changes a map entry in which a
+    /// bit past the track's last sector is set.
+    pub beside_spare: bool,
 }
 
 impl Row {
     /// The module that states it.
     pub fn module(&self) -> String {
-        let Row { what, term } = self;
+        let Row { what, term, .. } = self;
         format!(
             "{MODULE_HEAD}\n-- {what}\nhere : Case\nhere = {term}\n\nagrees : holds here ≡ true\nunfolding here {UNFOLDED}\nagrees = refl\n"
         )
@@ -57,26 +61,21 @@ pub fn occupied(image: &[u8]) -> usize {
 }
 
 /// The cases of one image: its check and its listing, and where it is
-/// accepted a store if it has no file, and a scratch if it has one.
+/// accepted a store if it has no file, and a scratch if it has one. An empty
+/// disk is checked once more with a count that is wrong.
 pub fn of_image(kind: &str, seed: u64, image: &[u8]) -> Vec<Row> {
     let answer = check(image);
+    let listed = format!("{} {}", sectors(image), numbers(&sleeve_output(image)));
     let mut rows = vec![
-        row(
-            kind,
-            seed,
-            "checks",
-            format!("{} {}", disk(image), numbers(&answer_of(&answer))),
-        ),
-        row(
-            kind,
-            seed,
-            "lists",
-            format!("{} {}", sectors(image), numbers(&sleeve_output(image))),
-        ),
+        check_row(kind, seed, image),
+        row(kind, seed, "lists", listed),
     ];
     // with more files a write takes the prover more steps than it has
     match occupied(image) {
-        0 if answer.number == 0 => rows.extend(store_row(kind, seed, image)),
+        0 if answer.number == 0 => {
+            rows.extend(store_row(kind, seed, image));
+            rows.extend(counted_row(kind, seed, image));
+        }
         1 if answer.number == 0 => rows.extend(scratch_row(kind, seed, image)),
         _ => {}
     }
@@ -87,7 +86,37 @@ fn row(kind: &str, seed: u64, head: &str, rest: String) -> Row {
     Row {
         what: format!("{kind} {seed}: {head}"),
         term: format!("{head} {rest}"),
+        beside_spare: false,
     }
+}
+
+/// A case with the disk after a call.
+fn row_of_change(kind: &str, seed: u64, head: &str, rest: String, disks: [&[u8]; 2]) -> Row {
+    let [before, after] = disks;
+    let beside_spare = |track| {
+        let at = map_offset(track);
+        before[at + 3] & spare_mask(track) != 0 && before[at..at + 4] != after[at..at + 4]
+    };
+    Row {
+        beside_spare: (1..=35).any(beside_spare),
+        ..row(kind, seed, head, rest)
+    }
+}
+
+fn check_row(kind: &str, seed: u64, image: &[u8]) -> Row {
+    let answer = answer_of(&check(image));
+    let rest = format!("{} {}", disk(image), numbers(&answer));
+    row(kind, seed, "checks", rest)
+}
+
+/// The check where the last track with bits past its last sector counts them.
+fn counted_row(kind: &str, seed: u64, image: &[u8]) -> Option<Row> {
+    let spare = |track: u8| image[map_offset(track) + 3] & spare_mask(track);
+    let track = (1..=35).rfind(|&track| spare(track) != 0)?;
+    let mut counted = image.to_vec();
+    counted[map_offset(track)] += spare(track).count_ones() as u8;
+    let kind = format!("{kind}, track {track} counted,");
+    Some(check_row(&kind, seed, &counted))
 }
 
 fn answer_of(answer: &Answer) -> [u8; 4] {
@@ -116,7 +145,7 @@ fn store_row(kind: &str, seed: u64, image: &[u8]) -> Option<Row> {
         disk(&after),
         changed(image, &after)
     );
-    Some(row(kind, seed, "stores", rest))
+    Some(row_of_change(kind, seed, "stores", rest, [image, &after]))
 }
 
 /// The number that a store of a kind gives on a formatted disk.
@@ -127,6 +156,7 @@ pub fn of_kind(kind: u32) -> Row {
     Row {
         what: format!("kind {kind}: takes"),
         term: format!("takes {kind} {number}"),
+        beside_spare: false,
     }
 }
 
@@ -137,18 +167,15 @@ fn scratch_row(kind: &str, seed: u64, image: &[u8]) -> Option<Row> {
     if scratch(&mut after, &name).number != 0 {
         return None;
     }
-    Some(row(
-        kind,
-        seed,
-        "scratches",
-        format!(
-            "{} {} {} {}",
-            disk(image),
-            numbers(&name),
-            disk(&after),
-            changed(image, &after)
-        ),
-    ))
+    let rest = format!(
+        "{} {} {} {}",
+        disk(image),
+        numbers(&name),
+        disk(&after),
+        changed(image, &after)
+    );
+    let disks = [image, &after[..]];
+    Some(row_of_change(kind, seed, "scratches", rest, disks))
 }
 
 /// The name of the file at position 0.

@@ -1,7 +1,7 @@
 /*
  * Writes the seed corpus to the folder given: for each start image the calls in turn, then damage of every sort, with
- * the map made right again and not, then full disks, USR files, the edges of names, amounts and sizes, and bytes as
- * they stand.
+ * the map made right again and not, then full disks, USR files, bits past the last sectors, the edges of names,
+ * amounts and sizes, and bytes as they stand.
  */
 #include <stdio.h>
 #include <stdlib.h>
@@ -196,6 +196,25 @@ static void seeds_of_usr(void)
     }
 }
 
+/* Bits past the last sector of tracks of each length: right, then counted. They stay through stores and scratches. */
+static void seeds_of_spare(void)
+{
+    static const unsigned char tracks[] = {2, 17, 18, 24, 25, 30, 31, 35};
+    for (unsigned char counted = 0; counted < 2; counted++) {
+        begin(0, 0, 0);
+        for (size_t i = 0; i < sizeof tracks; i++)
+            PUT(OP_MAP_ENTRY, tracks[i], 3, 0xFF);
+        if (counted)
+            PUT(OP_MAP_ENTRY, 2, 0, 0x18);
+        put_looks();
+        put_store(FROM_POOL, 0, AS_IS, 44, 1);
+        put_store(FROM_POOL, 1, AROUND_NEED, 128, 0);
+        put_scratch(FROM_POOL, 1);
+        put_scratch(FROM_POOL, 0);
+        PUT(OP_FORMAT, 0, 0, FROM_POOL, 7, 0, '3', '0');
+    }
+}
+
 /* Names, kinds, answer blocks, positions, outputs and images of sizes at the edges. */
 static void seeds_of_edges(void)
 {
@@ -242,6 +261,7 @@ int main(int argc, char **argv)
     seeds_of_filling();
     seeds_of_orders();
     seeds_of_usr();
+    seeds_of_spare();
     seeds_of_edges();
     seeds_of_images();
     finish();

@@ -31,14 +31,30 @@ static uint32_t scratch_leaves_a_byte(uint8_t *image, size_t len, const uint8_t 
     return number;
 }
 
-/* 2: on tracks 25 to 35 the bits past the last sector are not looked at. */
-static uint32_t check_misses_bits(const uint8_t *image, size_t len, uint8_t *answer, size_t answer_len)
+static uint8_t *map_entry(uint8_t *image, size_t track)
 {
-    if (len != D64_IMAGE_BYTES)
-        return d64_check(image, len, answer, answer_len);
+    return image + D64_TRACK18_OFFSET + 4 * track;
+}
+
+/* The bits past the last sector of a track from 25 on, in the last byte of its entry. */
+static uint8_t spare_mask(size_t track)
+{
+    return track < 31 ? 0xFC : 0xFE;
+}
+
+/* 2: on tracks 31 to 35 a count is taken too that counts the bits past the last sector. */
+static uint32_t check_takes_counted(const uint8_t *image, size_t len, uint8_t *answer, size_t answer_len)
+{
+    uint32_t number = d64_check(image, len, answer, answer_len);
+    if (number != D64_WRONG_MAP || answer[0] < 31)
+        return number;
     memcpy(copy, image, len);
-    for (size_t track = 25; track <= 35; track++)
-        copy[D64_TRACK18_OFFSET + 4 * track + 3] &= track < 31 ? 3 : 1;
+    for (size_t track = 31; track <= 35; track++) {
+        uint8_t *entry = map_entry(copy, track);
+        int own = __builtin_popcount(entry[1]) + __builtin_popcount(entry[2]) + (entry[3] & 1);
+        if (entry[0] == own + __builtin_popcount(entry[3] & spare_mask(track)))
+            entry[0] = (uint8_t)own;
+    }
     return d64_check(copy, len, answer, answer_len);
 }
 
@@ -141,6 +157,19 @@ static uint32_t scratch_leaves_usr(uint8_t *image, size_t len, const uint8_t *na
     return number;
 }
 
+/* 11: on tracks 25 to 35 a store clears the bits past the last sector where it takes sectors. */
+static uint32_t store_clears_bits(uint8_t *image, size_t len, const uint8_t *name, size_t name_len, uint32_t kind,
+                                  const uint8_t *data, size_t data_len, uint8_t *answer, size_t answer_len)
+{
+    if (len == D64_IMAGE_BYTES)
+        memcpy(copy, image, len);
+    uint32_t number = d64_store(image, len, name, name_len, kind, data, data_len, answer, answer_len);
+    for (size_t track = 25; number == 0 && track <= 35; track++)
+        if (map_entry(copy, track)[0] != map_entry(image, track)[0])
+            map_entry(image, track)[3] &= (uint8_t)~spare_mask(track);
+    return number;
+}
+
 const struct library *tested_library(void)
 {
     static struct library wrong;
@@ -150,7 +179,7 @@ const struct library *tested_library(void)
     const char *which = getenv("WRONG");
     switch (which != NULL ? atoi(which) : 0) {
     case 1: wrong.scratch = scratch_leaves_a_byte; break;
-    case 2: wrong.check = check_misses_bits; break;
+    case 2: wrong.check = check_takes_counted; break;
     case 3: wrong.read = read_writes_more; break;
     case 4: wrong.store = store_marks_first; break;
     case 5: wrong.tell = tell_cuts_position; break;
@@ -159,6 +188,7 @@ const struct library *tested_library(void)
     case 8: wrong.store = store_leaves_junk; break;
     case 9: wrong.store = store_of_full_sectors; break;
     case 10: wrong.scratch = scratch_leaves_usr; break;
+    case 11: wrong.store = store_clears_bits; break;
     default: break;
     }
     return &wrong;

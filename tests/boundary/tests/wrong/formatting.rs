@@ -40,11 +40,6 @@ pub const WRONG: &[Row] = &[
         &FormatEdited(directory_without_its_end),
         "image:",
     ),
-    (
-        "format sets bits past a track's end",
-        &FormatEdited(bits_past_the_track),
-        "image:",
-    ),
     ("format refuses a damaged image", &DamagedRefused, "number:"),
     ("format takes an empty name", &EmptyNameTaken, "number:"),
     ("format takes a longer image", &LongImageTaken, "number:"),
@@ -121,11 +116,6 @@ pub fn directory_marked_free(image: &mut [u8], _before: &[u8]) {
 
 pub fn directory_without_its_end(image: &mut [u8], _before: &[u8]) {
     image[offset(18, 1) + 1] = 0;
-}
-
-/// Bits past the last sector of a track of 17 are set.
-pub fn bits_past_the_track(image: &mut [u8], _before: &[u8]) {
-    map(image)[4 * 35 + 3] = 0x1F;
 }
 
 wrong!(DamagedRefused: format(image, name, id1, id2, answer) {

@@ -5,6 +5,7 @@ pub mod changes;
 pub mod formatting;
 pub mod reading;
 pub mod scratching;
+pub mod spare;
 pub mod stored;
 pub mod storing;
 pub mod usr;

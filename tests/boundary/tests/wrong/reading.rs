@@ -6,7 +6,7 @@ use independent::answer::Answer;
 use independent::geometry::{number, IMAGE_BYTES, TRACK_18_OFFSET};
 use independent::host::{block_of, BLOCK_BYTES, ENTRY_BYTES};
 use independent::listing::LONGEST;
-use independent::naive::{contents, track_length, File};
+use independent::naive::{contents, File};
 use independent::request::track_18_of;
 
 pub const WRONG: &[Row] = &[
@@ -66,11 +66,6 @@ pub const WRONG: &[Row] = &[
         "answer:",
     ),
     ("the count is not checked", &CountUnchecked, "number:"),
-    (
-        "bits past a track's end are not checked",
-        &PastTrackUnchecked,
-        "number:",
-    ),
     (
         "the length has its high byte first",
         &LengthHighFirst,
@@ -300,17 +295,6 @@ wrong!(CountUnchecked: check(image, answer) {
         7 => give(answer, Answer::done(0, 0)),
         number => number,
     }
-});
-
-wrong!(PastTrackUnchecked: check(image, answer) {
-    let mut repaired = image.bytes().to_vec();
-    if repaired.len() == IMAGE_BYTES {
-        for track in 1..=35 {
-            let at = TRACK_18_OFFSET + 4 * usize::from(track);
-            repaired[at + 3] &= (1 << (track_length(track) - 16)) - 1;
-        }
-    }
-    Faithful.check(slice_of(&mut repaired), answer)
 });
 
 // --- Arguments and their order --------------------------------------------

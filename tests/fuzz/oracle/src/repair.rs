@@ -4,7 +4,9 @@
 //! its map.
 
 use crate::calls::bytes_mut;
-use independent::disk::{disk_mut, track_18, walk_directory, Chain, Disk, Slot};
+use independent::disk::{
+    bitmap, disk_mut, map_entry, own_bits, track_18, walk_directory, Chain, Disk, Slot,
+};
 use independent::geometry::{
     number, on_track_18, sectors_on, MAP_NUMBER, SECTORS, TRACKS, TRACK_18_SECTORS,
 };
@@ -62,12 +64,15 @@ fn claim(disk: &Disk, slot: &Slot, owned: &mut [bool; SECTORS]) -> u16 {
     claimed
 }
 
+/// Bits past a track's last sector stay: a sound image may have them set.
 fn write_map(disk: &mut Disk, owned: &[bool; SECTORS]) {
     for track in 1..=TRACKS {
         let free = |&sector: &u8| number(track, sector).is_some_and(|at| !owned[at]);
         let bits = (0..sectors_on(track)).filter(free);
         let bits: u32 = bits.map(|sector| 1 << sector).sum();
-        let entry = bits << 8 | bits.count_ones();
+        let old = bitmap(map_entry(&disk[MAP_NUMBER], track));
+        let spare = old & !own_bits(sectors_on(track));
+        let entry = (spare | bits) << 8 | bits.count_ones();
         disk[MAP_NUMBER][4 * usize::from(track)..][..4].copy_from_slice(&entry.to_le_bytes());
     }
 }
