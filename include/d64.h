@@ -24,6 +24,9 @@
  * Old bytes. Sectors that d64_scratch() or d64_format() gives back are all zeros for as long as they are free. An
  * image from elsewhere may hold old bytes in its free sectors and behind a file's end; it is accepted all the same,
  * and only d64_format() clears all of them.
+ *
+ * Spare bits. A track's map entry has 24 bits, and no track has more than 21 sectors. The bits past a track's last
+ * sector are ignored and not counted, and no call but d64_format(), which writes 0, changes them.
  */
 #ifndef D64_H
 #define D64_H
@@ -55,7 +58,7 @@ enum d64_answer {
     D64_WRONG_NAME = 5,      /* a name on disk breaks the rule; place: directory sector, slot */
     D64_SAME_NAME = 6,       /* a name is on disk in an earlier slot; place: directory sector, slot */
     D64_WRONG_COUNT = 7,     /* a file's sector count is wrong; place: directory sector, slot */
-    D64_WRONG_MAP = 8,       /* a map entry is wrong; place: track, 255, 255 */
+    D64_WRONG_MAP = 8,       /* a map entry is wrong: its count, or the bit of a sector; place: track, 255, 255 */
     D64_BAD_NAME = 9,        /* the name asked for is empty, over 16 bytes, or holds $A0 */
     D64_BAD_KIND = 10,       /* the kind asked for is not 1 or 2 */
     D64_READ_ONLY = 11,      /* the DOS version forbids writing */
@@ -67,7 +70,8 @@ enum d64_answer {
 };
 
 /*
- * d64_check() checks an image: its size, the directory, each file's entry, chain and count, and the map.
+ * d64_check() checks an image: its size, the directory, each file's entry, chain and count, and the map, whose
+ * spare bits may be 0 or 1.
  * Reads:   image.  Writes: answer.  No written buffer may overlap another buffer.
  * Returns: D64_DONE, or the first fault met: D64_WRONG_SIZE (1); D64_BAD_LINK (2) or D64_OWNED (3) along the
  *          directory; for one slot after the other D64_WRONG_KIND (4), D64_WRONG_NAME (5), D64_SAME_NAME (6),
@@ -83,8 +87,8 @@ uint32_t d64_check(const uint8_t *image, size_t image_len, uint8_t *answer, size
  * its id is two bytes of any value. No check is run.
  * Reads:   name.  Writes: image, answer.  No written buffer may overlap another buffer.
  * Returns: D64_DONE, or the first that applies of D64_WRONG_SIZE (1), D64_BAD_NAME (9).
- * Done:    image is a fresh disk: 18/0 has the map, DOS version $41, name and id, 18/1 is an empty directory, every
- *          other sector is zero; answer has length 0 and 0 sectors.
+ * Done:    image is a fresh disk: 18/0 has the map, its spare bits 0, DOS version $41, name and id, 18/1 is an
+ *          empty directory, every other sector is zero; answer has length 0 and 0 sectors.
  * Refused: no byte of image changes; answer has the place of the fault, length 0 and 0 sectors.
  * An answer_len other than 9 returns D64_SHORT before all else and writes nothing.
  */
@@ -115,8 +119,8 @@ uint32_t d64_read(const uint8_t *image, size_t image_len, const uint8_t *name, s
  *          that d64_check() finds (2 to 8), D64_READ_ONLY (11), D64_NAME_TAKEN (12), D64_DIRECTORY_FULL (14),
  *          D64_DISK_FULL (15).
  * Done:    the file's sectors, its slot, the map and, where the directory grew, the new directory sector and the
- *          link to it are written, no other byte of image changes; answer has the file's length and its number of
- *          sectors.
+ *          link to it are written, no other byte of image and no spare bit of the map changes; answer has the
+ *          file's length and its number of sectors.
  * Refused: no byte of image changes; answer has the place of the fault, length 0 and 0 sectors.
  * An answer_len other than 9 returns D64_SHORT before all else and writes nothing.
  */
@@ -130,7 +134,8 @@ uint32_t d64_store(uint8_t *image, size_t image_len, const uint8_t *name, size_t
  * Returns: D64_DONE, or the first that applies of D64_WRONG_SIZE (1), D64_BAD_NAME (9), a fault that d64_check()
  *          finds (2 to 8), D64_READ_ONLY (11), D64_NOT_FOUND (13).
  * Done:    the file's sectors and bytes 2 to 31 of its slot are zero, the map has the sectors as free, no other
- *          byte of image changes; answer has the length that the file had and its number of sectors.
+ *          byte of image and no spare bit of the map changes; answer has the length that the file had and its
+ *          number of sectors.
  * Refused: no byte of image changes; answer has the place of the fault, length 0 and 0 sectors.
  * An answer_len other than 9 returns D64_SHORT before all else and writes nothing.
  */
