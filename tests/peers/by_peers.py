@@ -105,8 +105,8 @@ def given(shape, held):
 
 
 def written_on(d64, image, held, require, title):
-    """d64 stores a file on the peer's disk and scratches one: the others stay as they are."""
-    path = os.path.join(d64.work, "new")
+    """d64 stores a file on the peer's disk and scratches one: the others, and the map's spare bits, stay as they are."""
+    path, bits = os.path.join(d64.work, "new"), disks.spare_bits(read_file(image))
     write_file(path, pattern(600, 222))
     answer = d64.answer("store", "--quiet", image, NEW.decode(), path)
     if answer != "done":
@@ -117,6 +117,7 @@ def written_on(d64, image, held, require, title):
     wanted = sorted(held[1:] + [(PRG, NEW, pattern(600, 222))])
     sound = d64.answer("check", "--quiet", image) == "done"
     require(after == wanted and sound, f"{title}: the disk is not as it must be after d64's store and scratch")
+    require(disks.spare_bits(read_file(image)) == bits, f"{title}: d64's store and scratch changed the map's spare bits")
     return "; d64 stores and scratches on it"
 
 

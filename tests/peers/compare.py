@@ -10,10 +10,11 @@ import tempfile
 import by_d64
 import by_peers
 import damaged
+import spare
 import tools
 import zero
 
-DIRECTIONS = {"by-d64": by_d64, "by-peers": by_peers, "zero": zero, "damaged": damaged}
+DIRECTIONS = {"by-d64": by_d64, "by-peers": by_peers, "zero": zero, "spare": spare, "damaged": damaged}
 
 
 def require(holds, text):

@@ -53,6 +53,20 @@ def mark(image, track, sector, free):
         image[base + 4 * track] = (image[base + 4 * track] + (1 if free else -1)) & 0xFF
 
 
+def spare_bits(image):
+    """The map's bits past the last sectors, 3, 5, 6 or 7 a track, by track and number: is it set?"""
+    table = sector_bytes(image, 18, 0)
+    bits = [(track, bit) for track in range(1, 36) for bit in range(sectors_on(track), 24)]
+    return {(track, bit): bool(table[map_bit(track, bit)[0]] & map_bit(track, bit)[1]) for track, bit in bits}
+
+
+def put_spare_bits(image, bits):
+    base = offset(18, 0)
+    for (track, bit), value in bits.items():
+        at, mask = map_bit(track, bit)
+        image[base + at] = image[base + at] | mask if value else image[base + at] & ~mask
+
+
 def fresh(name=b"PEERS", disk_id=b"01"):
     image = bytearray(IMAGE_BYTES)
     base = offset(18, 0)

@@ -1,4 +1,7 @@
-"""The order of the check in the scope document, once more and as naively as it can be written: what d64 must answer for any image."""
+"""The order of the check in the scope document, once more and as naively as it can be written: what d64 must answer for any image.
+
+The map's bits past a track's last sector are not looked at: document 02, request 5.
+"""
 
 from disks import IMAGE_BYTES, PAD, map_bit, offset, on_disk, sector_bytes, sectors_on
 
@@ -53,13 +56,13 @@ def check_slot(image, entry, place, slot, names, owned):
 def check_map(image, owned):
     table = sector_bytes(image, 18, 0)
     for track in range(1, 36):
-        wanted = bytearray(4)
+        free = 0
         for sector in range(sectors_on(track)):
-            if (track, sector) not in owned:
-                at, mask = map_bit(track, sector)
-                wanted[at - 4 * track] |= mask
-                wanted[0] += 1
-        if bytes(table[4 * track:4 * track + 4]) != bytes(wanted):
+            at, mask = map_bit(track, sector)
+            free += (track, sector) not in owned
+            if bool(table[at] & mask) == ((track, sector) in owned):
+                raise Fault(8, track)
+        if table[4 * track] != free:
             raise Fault(8, track)
 
 

@@ -132,7 +132,7 @@ class D64:
 
 
 class Peer:
-    """What a peer can do is what its class defines of list, extract, add, replace and validate."""
+    """What a peer can do is what its class defines of list, blocks_free, extract, make, add, replace and validate."""
 
     def __init__(self, command):
         self.command = command
@@ -170,6 +170,10 @@ class Cc1541(Peer):
                 found.append((kind, self.bytes_of(next(words)), blocks))
                 kind = disks.PRG
         return outcome, found
+
+    def blocks_free(self, image, folder):
+        """Without a file to write it prints the directory and leaves the image as it is."""
+        return int(re.search(rb"(\d+) blocks free", run([self.command, "-m", image], folder).out)[1])
 
     @staticmethod
     def bytes_of(text):
@@ -293,6 +297,9 @@ class C1541(Peer):
         kinds = {word.encode(): kind for kind, word in disks.KIND_WORD.items()}
         pattern = re.compile(rb"^(\d+) +\"(.*)\" +(seq|prg|usr) ", re.M)
         return outcome, [(kinds[kind], name, int(blocks)) for blocks, name, kind in pattern.findall(outcome.out)]
+
+    def blocks_free(self, image, folder):
+        return int(re.search(rb"(\d+) blocks free", run([self.command, image, "-list"], folder).out)[1])
 
     def extract(self, image, wanted, folder):
         out = empty_folder(os.path.join(folder, "out"))
