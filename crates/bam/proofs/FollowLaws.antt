@@ -221,7 +221,7 @@ module _ {before : Address → Bool} {m : Bytes} {es : Entries} (v : Bool) (e : 
 
 -- ---- the map stored
 
--- THE MAP FOLLOWS: stored in its sector, where no other call has written, it makes the disk with the map that its owners ask for
+-- THE MAP FOLLOWS: stored in its sector, which is as it was when the map was loaded, it makes the disk with the map that its owners ask for
 pub map-follows : (d : Disk) {m : Bytes} {es : Entries} → Expects (isFree layout35 d) m es → m ≡ d (sectorNumber layout35 mapAddress)
     → length (d (sectorNumber layout35 mapAddress)) ≡ 256
     → put d (sectorNumber layout35 mapAddress) (storedEntries es (d (sectorNumber layout35 mapAddress))) ≡ rewriteMap layout35 d

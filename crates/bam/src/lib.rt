@@ -26,7 +26,7 @@ fn entry_of(count: u32, bits: u32) -> [u8; 4]
 }
 
 // The entry with a sector marked free and counted in, or else marked used and counted out, where it was the other way before: the bitmap is one
-// number, of which bit s is sector s. A sector from 24 on has no mark and changes nothing.
+// number, of which bit s is sector s, and no other bit of it changes. A sector from 24 on has no mark and changes nothing.
 fn moved_entry(entry: [u8; 4], sector: u8, free: bool) -> [u8; 4]
     ensures { λ r. ⌜ r ≡ movedEntry entry sector free ⌝ }
 {

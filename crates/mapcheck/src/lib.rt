@@ -1,6 +1,6 @@
 // Step 4 of the check: the block availability map (document 01's map) against the owner table, track by track (01, Order of the check, 4).
-// A track's free sectors are gathered from the table as one number, bit s for sector s, and compared with the entry's three bitmap bytes
-// at once: bits past the track's last sector are 0 in it, as they must be in the map.
+// A track's free sectors are gathered from the table as one number, bit s for sector s, and compared at once with as many bits of the entry's
+// three bitmap bytes as the track has sectors: the bits past its last sector are ignored (02, §5).
 ghost use mathlib.Core.Path.{_≡_};
 ghost use Prim.Native.Nat.{_+_, _≤_};
 ghost use Rattle.answers.specs.Faults.{verdictOf};
