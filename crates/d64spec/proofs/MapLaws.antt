@@ -10,13 +10,14 @@ use lib.ListN.{length}
 use lib.Dec.{eqb}
 use borrow.Author.Tests.{eqb-true, eq-eqb, not-false}
 use Rattle.d64spec.specs.Lists.{All, Bytes, byte, filter, indicator, range}
-use Rattle.d64spec.specs.Answers.{address, done, wrongMapEntry}
+use Rattle.d64spec.specs.Answers.{Address, address, done, wrongMapEntry}
 use Rattle.d64spec.specs.Geometry.{Geometry, Valid, mapAddress, sectorNumber, sectorsOn}
 use Rattle.d64spec.specs.Image.{Disk}
 use Rattle.d64spec.specs.Owner.{Free, claimCount, isFree}
 use Rattle.d64spec.specs.Map.{entryCorrect, mapBit, mapOnes, wrongBit, wrongBits}
 use Rattle.d64spec.specs.Check.{checkMap}
 use Rattle.d64spec.specs.Accepted.{MarksFree}
+use Rattle.d64spec.proofs.SumLaws.{sum-same}
 use Rattle.d64spec.proofs.BitLaws.{bit-le}
 use Rattle.d64spec.proofs.ResultLaws.{need-done}
 
@@ -71,6 +72,39 @@ pub map-bit-le : (g : Geometry) (m : Bytes) (t s : ℕ) → mapBit g m t s ≤ 1
 unfolding mapBit
 map-bit-le g m t s = bit-le (byte m (g .mapAt t + 1 + s / 8)) (s % 8)
 
+-- each bit of the track's own sectors is the one that its sector asks for
+abbrev pub OwnRight : Geometry → (Address → Bool) → Bytes → ℕ → Type 0
+OwnRight g free m t = (s : ℕ) → s < sectorsOn g t → mapBit g m t s ≡ indicator (free (address t s))
+
+-- no bit is wrong exactly there
+module _ (g : Geometry) (free : Address → Bool) (m : Bytes) (t : ℕ) where
+  pub bits-of-none : length (wrongBits g free m t) ≡ 0 → OwnRight g free m t
+  unfolding wrongBits
+  bits-of-none e s h =
+      let all = filter-none (wrongBit g free m t) (range 0 (sectorsOn g t)) e in
+      eqb-true _ _ (not-false _ (range-at (λ i. wrongBit g free m t i ≡ false) 0 (sectorsOn g t) all s (omega arith) (omega arith)))
+
+  pub none-of-bits : OwnRight g free m t → length (wrongBits g free m t) ≡ 0
+  unfolding wrongBits
+  none-of-bits bit =
+      none-filter (wrongBit g free m t) (range 0 (sectorsOn g t))
+      (range-all (λ i. wrongBit g free m t i ≡ false) 0 (sectorsOn g t) (λ s l h. ap not (eq-eqb _ _ (bit s (omega arith)))))
+
+-- what a track's test depends on: its count, its own bits, and which of its own sectors are free
+module _ (g : Geometry) (m n : Bytes) (t : ℕ) (own : (s : ℕ) → s < sectorsOn g t → mapBit g m t s ≡ mapBit g n t s) where
+  pub ones-same : mapOnes g m t ≡ mapOnes g n t
+  unfolding mapOnes
+  ones-same = sum-same (mapBit g m t) (mapBit g n t) 0 (sectorsOn g t) (λ s l u. own s (omega arith))
+
+  pub correct-same : (f h : Address → Bool) → byte m (g .mapAt t) ≡ byte n (g .mapAt t) → ((s : ℕ) → s < sectorsOn g t → f (address t s) ≡ h (address t s))
+      → entryCorrect g f m t ≡ entryCorrect g h n t
+  unfolding entryCorrect wrongBits
+  correct-same f h count free =
+      ap₂ (λ (x : List ℕ) (y : Bool). eqb (length x) 0 && y)
+      (filter-same (wrongBit g f m t) (wrongBit g h n t) 0 (sectorsOn g t) (λ s l u.
+      ap₂ (λ (x : ℕ) (b : Bool). not (eqb x (indicator b))) (own s (omega arith)) (free s (omega arith))))
+      (ap₂ eqb count ones-same)
+
 module _ (g : Geometry) (v : Valid g) (d : Disk) (u : (n : ℕ) → claimCount g d n ≤ 1) where
   -- the map sector
   abbrev m : Bytes
@@ -92,33 +126,21 @@ module _ (g : Geometry) (v : Valid g) (d : Disk) (u : (n : ℕ) → claimCount g
     | no k ↦ let f : claimCount g d (sectorNumber g (address t s)) ≡ 0 = omega arith in omega (arith, h .1 f)
   ]
 
-  -- whether the bit of sector s is wrong
-  abbrev wrong : ℕ → ℕ → Bool
-  wrong = wrongBit g (isFree g d) m
-
   pub track-sound : (t : ℕ) → entryCorrect g (isFree g d) m t ≡ true → MarksFree g d t
-  unfolding entryCorrect wrongBits
+  unfolding entryCorrect
   track-sound t e =
       let h = and-true (eqb (length (wrongBits g (isFree g d) m t)) 0) (eqb (byte m (g .mapAt t)) (mapOnes g m t)) e in
-      let all = filter-none (wrong t) (range 0 (sectorsOn g t)) (eqb-true (length (wrongBits g (isFree g d) m t)) 0 (h .0)) in
-      let bit : (s : ℕ) → s < sectorsOn g t → mapBit g m t s ≡ indicator (isFree g d (address t s))
-      = λ s l. eqb-true (mapBit g m t s) (indicator (isFree g d (address t s)))
-      (not-false _ (range-at (λ s. wrong t s ≡ false) 0 (sectorsOn g t) all s (omega arith) (omega arith))) in
+      let bit = bits-of-none g (isFree g d) m t (eqb-true _ 0 (h .0)) in
       record {
         freeCount = eqb-true _ _ (h .1);
         free = λ s l. mark-of-sum t s (rw (bit s l) (right-bit t s));
       }
 
   pub track-complete : (t : ℕ) → MarksFree g d t → entryCorrect g (isFree g d) m t ≡ true
-  unfolding entryCorrect wrongBits
+  unfolding entryCorrect
   track-complete t r =
-      let bit : (s : ℕ) → s < sectorsOn g t → mapBit g m t s ≡ indicator (isFree g d (address t s))
-      = λ s l. omega (arith, sum-of-mark t s (r .free s l), right-bit t s) in
-      let none : length (wrongBits g (isFree g d) m t) ≡ 0
-      = none-filter (wrong t) (range 0 (sectorsOn g t))
-      (range-all (λ s. wrong t s ≡ false) 0 (sectorsOn g t)
-      (λ s l l′. ap not (eq-eqb (mapBit g m t s) (indicator (isFree g d (address t s))) (bit s (omega arith))))) in
-      both-true (eq-eqb (length (wrongBits g (isFree g d) m t)) 0 none) (eq-eqb (byte m (g .mapAt t)) (mapOnes g m t) (r .freeCount))
+      let none = none-of-bits g (isFree g d) m t (λ s l. omega (arith, sum-of-mark t s (r .free s l), right-bit t s)) in
+      both-true (eq-eqb _ 0 none) (eq-eqb (byte m (g .mapAt t)) (mapOnes g m t) (r .freeCount))
 
   -- ---- all tracks
 

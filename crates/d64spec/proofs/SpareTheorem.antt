@@ -3,19 +3,19 @@
 use Prim.Native.Nat.{ℕ, zero, suc, _+_, _*_, _≤_, _<_}
 use native.Mathlib.Omega.{arith}
 use mathlib.Core.Path.{_≡_, refl, sym, ap, ap₂, _∙_, fun-ext}
-use mathlib.Core.Bool.{Bool, true, false, _&&_, not}
+use mathlib.Core.Bool.{Bool, true, false, not}
 use mathlib.Core.List.{List, [], _∷_, _++_, map}
 use lib.ListN.{length}
 use lib.Dec.{eqb}
 use borrow.Author.Tests.{eq-eqb, ltb-false}
 use Rattle.d64spec.specs.Lists.{Bytes, count, filter, indicator, member, range}
-use Rattle.d64spec.specs.Answers.{Address, Answer, Result, _>>=_, _>>_, address, alreadyOwned, done, need, refused, wrongCount, wrongMapEntry, wrongSize}
+use Rattle.d64spec.specs.Answers.{Address, Answer, Result, _>>=_, _>>_, alreadyOwned, done, need, refused, wrongCount, wrongMapEntry, wrongSize}
 use Rattle.d64spec.specs.Geometry.{Geometry, Valid, directoryStart, mapAddress, sectorNumber, sectorsOn, total, tracks}
 use Rattle.d64spec.specs.Image.{Disk, disk}
 use Rattle.d64spec.specs.Chain.{Link, bad, directoryLink, ends, fileLink, steps, to, walk}
 use Rattle.d64spec.specs.Directory.{File, Slot, countOf, firstLink, isEmpty, nameOf, occupiedIn}
 use Rattle.d64spec.specs.Owner.{claimsOf}
-use Rattle.d64spec.specs.Map.{entryCorrect, mapBit, mapOnes, wrongBit, wrongBits}
+use Rattle.d64spec.specs.Map.{entryCorrect, mapOnes}
 use Rattle.d64spec.specs.Check.{DirectoryContents, checkDirectory, checkDisk, checkEntry, checkImage, checkMap, checkSlot, checkSlots, rightSize}
 use Rattle.d64spec.specs.Accepted.{Accepted}
 use Rattle.d64spec.specs.Reply.{Change, reply}
@@ -25,9 +25,8 @@ use Rattle.d64spec.specs.SpareBits.{AlikeButSpare, Spare, SpareKept, bit
 use Rattle.d64spec.proofs.ListLaws.{count-append}
 use Rattle.d64spec.proofs.ResultLaws.{done-inj, then-done}
 use Rattle.d64spec.proofs.CallLaws.{read-done, scratch-done, store-done}
-use Rattle.d64spec.proofs.SumLaws.{sum-same}
 use Rattle.d64spec.proofs.WalkLaws.{walk-sound}
-use Rattle.d64spec.proofs.MapLaws.{filter-same}
+use Rattle.d64spec.proofs.MapLaws.{correct-same, ones-same}
 use Rattle.d64spec.proofs.FrameLaws.{all-of-count, same-slots}
 use Rattle.d64spec.proofs.FormatTheorem.{format-bytes}
 use Rattle.d64spec.proofs.ChangesTheorem.{scratched-bits, scratched-file, stored-bits, store-takes}
@@ -96,16 +95,10 @@ module _ (g : Geometry) (d e : Disk) (alike : AlikeButSpare g d e) where
 
   -- they are not counted
   pub ones-alike : (t : ℕ) → 1 ≤ t → t ≤ tracks g → mapOnes g m t ≡ mapOnes g n t
-  unfolding mapOnes
-  ones-alike t l h = sum-same (mapBit g m t) (mapBit g n t) 0 (sectorsOn g t) (λ s p q. alike .own t s l h (omega arith))
+  ones-alike t l h = ones-same g m n t (λ s b. alike .own t s l h b)
 
   entry-alike : (free : Address → Bool) (t : ℕ) → 1 ≤ t → t ≤ tracks g → entryCorrect g free m t ≡ entryCorrect g free n t
-  unfolding entryCorrect wrongBits
-  entry-alike free t l h =
-      ap₂ (λ (x : List ℕ) (y : Bool). eqb (length x) 0 && y)
-      (filter-same (wrongBit g free m t) (wrongBit g free n t) 0 (sectorsOn g t) (λ s p q.
-      ap (λ (b : ℕ). not (eqb b (indicator (free (address t s))))) (alike .own t s l h (omega arith))))
-      (ap₂ eqb (alike .counts t l h) (ones-alike t l h))
+  entry-alike free t l h = correct-same g m n t (λ s b. alike .own t s l h b) free free (alike .counts t l h) (λ s b. refl)
 
   -- STEP 4 GIVES THE SAME on both, whatever is free
   pub step-alike : (free : Address → Bool) (a k : ℕ) → 1 ≤ a → a + k ≤ tracks g + 1 → checkMap g d free (range a k) ≡ checkMap g e free (range a k)

@@ -57,8 +57,8 @@ SpareKept g img l = (t s : ℕ) → Spare g t s → bitOn g (run g img l) t s �
 -- ---- entries of each zone
 
 -- a map sector with these four bytes for track t, of 35
-abbrev pub withEntry : ℕ → Bytes → Bytes
-withEntry t e = zeros (4 * t) ++ e
+abbrev pub entryAlone : ℕ → Bytes → Bytes
+entryAlone t e = zeros (4 * t) ++ e
 
 -- an entry of track t, right or wrong where all of the track's sectors are free; or what is written there where all but sector 0 are
 pub data EntryRow : Type 0 where
@@ -66,9 +66,9 @@ pub data EntryRow : Type 0 where
   written : ℕ → Bytes → Bytes → EntryRow
 
 unfoldable pub entryHolds : EntryRow → Bool
-entryHolds (right t e) = entryCorrect layout35 (λ r. true) (withEntry t e) t
-entryHolds (wrong t e) = not (entryCorrect layout35 (λ r. true) (withEntry t e) t)
-entryHolds (written t e new) = equal (expectedEntry layout35 (λ r. not (eqb (r .sector) 0)) (withEntry t e) t) new
+entryHolds (right t e) = entryCorrect layout35 (λ r. true) (entryAlone t e) t
+entryHolds (wrong t e) = not (entryCorrect layout35 (λ r. true) (entryAlone t e) t)
+entryHolds (written t e new) = equal (expectedEntry layout35 (λ r. not (eqb (r .sector) 0)) (entryAlone t e) t) new
 
 -- the rows that fail
 abbrev pub brokenEntries : List EntryRow → List EntryRow

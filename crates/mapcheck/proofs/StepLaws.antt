@@ -3,18 +3,17 @@
 use Prim.Native.Nat.{ℕ, suc, _+_, _-_, _≤_, _<_}
 use native.Mathlib.Omega.{arith}
 use mathlib.Core.Path.{_≡_, refl, sym, ap, _∙_}
-use mathlib.Core.Bool.{Bool, true, false, _&&_, not}
+use mathlib.Core.Bool.{Bool, true, false}
 use mathlib.Core.List.{List, [], _∷_}
-use lib.ListN.{length, getD}
-use lib.Dec.{eqb}
+use lib.ListN.{getD}
 use borrow.Author.Tests.{lt-ltb}
-use Rattle.d64spec.specs.Lists.{Bytes, byte, indicator, range}
+use Rattle.d64spec.specs.Lists.{Bytes, range}
 use Rattle.d64spec.specs.Answers.{Address, address, Result, done, refused, need, _>>_, wrongMapEntry}
 use Rattle.d64spec.specs.Geometry.{Geometry, layout35, tracks, sectorsOn, sectorNumber, mapAddress, onDisk}
 use Rattle.d64spec.specs.Image.{Disk}
-use Rattle.d64spec.specs.Map.{mapBit, mapOnes, wrongBit, wrongBits, entryCorrect}
+use Rattle.d64spec.specs.Map.{entryCorrect}
 use Rattle.d64spec.specs.Check.{checkMap}
-use Rattle.d64spec.proofs.MapLaws.{filter-same}
+use Rattle.d64spec.proofs.MapLaws.{correct-same}
 use Rattle.owners.specs.OwnerTable.{freeBy}
 use Rattle.bam.specs.MapEntry.{Entries}
 use Rattle.bam.proofs.ShapeLaws.{EntryShape}
@@ -35,11 +34,8 @@ module _ (g : Geometry) where
 
   module _ {f h : Address → Bool} (same : (r : Address) → onDisk g r ≡ true → f r ≡ h r) where
     entry-same : (m : Bytes) (t : ℕ) → entryCorrect g f m t ≡ entryCorrect g h m t
-    unfolding entryCorrect wrongBits onDisk
-    entry-same m t =
-        ap (λ (l : List ℕ). eqb (length l) 0 && eqb (byte m (g .mapAt t)) (mapOnes g m t))
-        (filter-same (wrongBit g f m t) (wrongBit g h m t) 0 (sectorsOn g t) (λ s l u.
-        ap (λ (b : Bool). not (eqb (mapBit g m t s) (indicator b))) (same (address t s) (lt-ltb s (sectorsOn g t) (omega arith)))))
+    unfolding onDisk
+    entry-same m t = correct-same g m m t (λ s b. refl) f h refl (λ s b. same (address t s) (lt-ltb s (sectorsOn g t) b))
 
     -- of what is free, on the sectors of the disk alone
     pub map-free-same : (d : Disk) (l : List ℕ) → checkMap g d f l ≡ checkMap g d h l

@@ -1,19 +1,19 @@
 -- A track's test as the code makes it is d64spec's `entryCorrect`. In order: its bits; the bitmap's lowest bits as a number; the count; the track.
 -- Stated once over the track's number of sectors. Assumes nothing.
-use Prim.Native.Nat.{ℕ, _%_, _^_, _<_, zero-le}
+use Prim.Native.Nat.{ℕ, _%_, _^_, _<_}
 use native.Mathlib.Omega.{arith}
 use mathlib.Core.Path.{_≡_, refl, sym, ap, ap₂, _∙_}
-use mathlib.Core.Bool.{Bool, true, false, _&&_, not}
+use mathlib.Core.Bool.{Bool, true, false, _&&_}
 use mathlib.Core.List.{List}
 use lib.ListN.{length}
 use lib.Dec.{eqb}
-use borrow.Author.Tests.{eqb-true, eq-eqb, ne-eqb, not-false}
-use Rattle.d64spec.specs.Lists.{Bytes, byte, indicator, range}
+use borrow.Author.Tests.{eqb-true, eq-eqb, ne-eqb}
+use Rattle.d64spec.specs.Lists.{Bytes, byte, indicator}
 use Rattle.d64spec.specs.Bits.{bitOf, binary}
 use Rattle.d64spec.specs.Answers.{Address, address}
-use Rattle.d64spec.specs.Geometry.{Geometry, layout35, firstOn, sectorsOn, sectorNumber}
-use Rattle.d64spec.specs.Map.{mapBit, mapOnes, wrongBit, wrongBits, entryCorrect}
-use Rattle.d64spec.proofs.MapLaws.{map-bit-le, filter-none, none-filter, range-at, range-all}
+use Rattle.d64spec.specs.Geometry.{layout35, firstOn, sectorsOn, sectorNumber}
+use Rattle.d64spec.specs.Map.{mapBit, mapOnes, wrongBits, entryCorrect}
+use Rattle.d64spec.proofs.MapLaws.{OwnRight, bits-of-none, map-bit-le, none-of-bits}
 use Rattle.d64spec.proofs.SumLaws.{sum-same}
 use Rattle.d64spec.proofs.BitLaws.{binary-same, binary-bit, binary-remainder, bits-same}
 use Rattle.d64spec.proofs.RunTheorem.{valid35}
@@ -39,24 +39,6 @@ test-same false false there back = refl
 and-same : (a b c d : Bool) → a ≡ c → (a ≡ true → b ≡ d) → (a && b) ≡ (c && d)
 and-same true b c d e next = ap₂ (λ (x y : Bool). x && y) e (next refl)
 and-same false b c d e next = ap (λ (x : Bool). x && d) e
-
--- no bit is wrong exactly where each of the track's own is the one that its sector asks for
-module _ (g : Geometry) (free : Address → Bool) (m : Bytes) (t : ℕ) where
-  abbrev wrong : ℕ → Bool
-  wrong = wrongBit g free m t
-
-  Right : Type 0
-  Right = (s : ℕ) → s < sectorsOn g t → mapBit g m t s ≡ indicator (free (address t s))
-
-  bits-of-none : length (wrongBits g free m t) ≡ 0 → Right
-  unfolding wrongBits Right
-  bits-of-none e s h =
-      eqb-true _ _ (not-false _ (range-at (λ s. wrong s ≡ false) 0 (sectorsOn g t) (filter-none wrong (range 0 (sectorsOn g t)) e) s zero-le (omega arith)))
-
-  none-of-bits : Right → length (wrongBits g free m t) ≡ 0
-  unfolding wrongBits Right
-  none-of-bits bit =
-      none-filter wrong (range 0 (sectorsOn g t)) (range-all (λ s. wrong s ≡ false) 0 (sectorsOn g t) (λ s l h. ap not (eq-eqb _ _ (bit s (omega arith)))))
 
 module _ (m : Bytes) (own : List ℕ) (t : ℕ) where
   -- what the definitions ask, and the track's sectors
@@ -89,13 +71,13 @@ module _ (m : Bytes) (own : List ℕ) (t : ℕ) where
         ap (λ (x : ℕ). bitOf x s) (bitmap-binary entry shape) ∙ binary-bit (entryBit entry) (entry-bit-le entry) 24 s below
         ∙ bit-map-entry layout35 m t s below)
 
-    bits-of-mask : bitmapOf entry % 2 ^ sectors ≡ freeMask own first sectors → Right layout35 free m t
-    unfolding Right freeMask
+    bits-of-mask : bitmapOf entry % 2 ^ sectors ≡ freeMask own first sectors → OwnRight layout35 free m t
+    unfolding freeMask
     bits-of-mask e s h =
         bits-same (mapBit layout35 m t) (freeBit own first) (map-bit-le layout35 m t) (free-bit-le own first) sectors (sym bitmap-low ∙ e) s h ∙ free-bit s
 
-    mask-of-bits : Right layout35 free m t → bitmapOf entry % 2 ^ sectors ≡ freeMask own first sectors
-    unfolding Right freeMask
+    mask-of-bits : OwnRight layout35 free m t → bitmapOf entry % 2 ^ sectors ≡ freeMask own first sectors
+    unfolding freeMask
     mask-of-bits bit = bitmap-low ∙ binary-same (mapBit layout35 m t) (freeBit own first) sectors (λ s h. bit s h ∙ sym (free-bit s))
 
     bitmap-test : eqb (bitmapOf entry % 2 ^ sectors) (freeMask own first sectors) ≡ eqb (length (wrongBits layout35 free m t)) 0
@@ -106,8 +88,8 @@ module _ (m : Bytes) (own : List ℕ) (t : ℕ) where
 
     -- ---- the count
 
-    count-of-bits : Right layout35 free m t → freeCount own first sectors ≡ mapOnes layout35 m t
-    unfolding freeCount mapOnes Right
+    count-of-bits : OwnRight layout35 free m t → freeCount own first sectors ≡ mapOnes layout35 m t
+    unfolding freeCount mapOnes
     count-of-bits bit = sum-same (freeBit own first) (mapBit layout35 m t) 0 sectors (λ s l h. free-bit s ∙ sym (bit s (omega arith)))
 
     count-test : eqb (bitmapOf entry % 2 ^ sectors) (freeMask own first sectors) ≡ true
