@@ -20,7 +20,7 @@ pub enum Fault {
     BadName(Place),
     DuplicateName(Place),
     WrongCount(Place),
-    WrongMapEntry(u8),
+    WrongMapEntry { track: u8, sector: u8 },
     BadNameArgument,
     BadKindArgument,
     WriteForbidden,
@@ -106,11 +106,11 @@ pub fn answer_of(fault: Fault) -> Answer
         Fault::BadName(at) => placed(5, at),
         Fault::DuplicateName(at) => placed(6, at),
         Fault::WrongCount(at) => placed(7, at),
-        Fault::WrongMapEntry(track) => placed(
+        Fault::WrongMapEntry { track, sector } => placed(
             8,
             Place {
                 track,
-                sector: 255,
+                sector,
                 slot: 255,
             },
         ),

@@ -56,10 +56,10 @@ binary-first f n = omega (arith, rest 0 n)
     rest a zero = refl
     rest a (suc n) = omega (arith, doubled (f (suc a)) a, rest (suc a) n)
 
-halved : (b n : ℕ) → b ≤ 1 → (x : ℕ) → (b + 2 * x) / 2 ^ suc n ≡ x / 2 ^ n
-halved b n h x =
-    let half : (b + 2 * x) / 2 ≡ x = omega arith in
-    ap (λ (p : ℕ). (b + 2 * x) / p) (pow-succ' 2 n) ∙ sym (div-div-eq-div-mul (b + 2 * x) 2 (2 ^ n)) ∙ ap (λ (y : ℕ). y / 2 ^ n) half
+-- half of a number has its bits but the lowest
+pub bit-half : (b k : ℕ) → bitOf b (suc k) ≡ bitOf (b / 2) k
+unfolding bitOf
+bit-half b k = ap (λ (x : ℕ). x % 2) (ap (λ (p : ℕ). b / p) (pow-succ' 2 k) ∙ sym (div-div-eq-div-mul b 2 (2 ^ k)))
 
 -- THE BITS OF A NUMBER MADE OF BITS are these
 pub binary-bit : (f : ℕ → ℕ) → ((s : ℕ) → f s ≤ 1) → (n s : ℕ) → s < n → bitOf (binary f n) s ≡ f s
@@ -67,8 +67,8 @@ unfolding bitOf
 binary-bit f bit zero s h = absurd (omega arith)
 binary-bit f bit (suc n) zero h = omega (arith, binary-first f n, bit 0)
 binary-bit f bit (suc n) (suc s) h =
-    ap (λ (x : ℕ). x % 2) (ap (λ (x : ℕ). x / 2 ^ suc s) (binary-first f n) ∙ halved (f 0) s (bit 0) (binary (λ i. f (suc i)) n))
-    ∙ binary-bit (λ i. f (suc i)) (λ i. bit (suc i)) n s (omega arith)
+    let half : binary f (suc n) / 2 ≡ binary (λ i. f (suc i)) n = omega (arith, binary-first f n, bit 0) in
+    bit-half (binary f (suc n)) s ∙ ap (λ (x : ℕ). bitOf x s) half ∙ binary-bit (λ i. f (suc i)) (λ i. bit (suc i)) n s (omega arith)
 
 -- alike as numbers, alike in all bits
 pub bits-same : (f h : ℕ → ℕ) → ((s : ℕ) → f s ≤ 1) → ((s : ℕ) → h s ≤ 1) → (n : ℕ) → binary f n ≡ binary h n → (s : ℕ) → s < n → f s ≡ h s

@@ -1,7 +1,7 @@
 -- What a `do` block is decided by: it is done exactly when all of its conditions hold, and refused exactly with the fault of the first that does not.
 -- In order: lists of conditions joined; `Decided`; one law for each step that a `do` block can have.
 -- A block's list is built from the back: `decided-then (decided-need ..) (λ h. ..)` has `asks .. ∷ m`, where m is the rest's.
-use mathlib.Core.Path.{_≡_, refl, sym, _∙_}
+use mathlib.Core.Path.{_≡_, refl, sym, ap, _∙_}
 use Prim.Native.Nat.{ℕ, _≤_}
 use native.Mathlib.Omega.{arith}
 use mathlib.Core.Bool.{Bool, true, false}
@@ -75,6 +75,15 @@ pub decided-need : (b : Bool) (fault : Fault) (P : Type 0) → ((b ≡ true) ↔
 decided-need true fault P p = decided-one (asks P fault) ((λ w. p .0 refl), (λ h. (tt, refl))) (λ f e. done≢refused tt f e) (λ f no-p e. absurd (no-p (p .0 refl)))
 decided-need false fault P p =
     decided-one (asks P fault) ((λ w. refused≢done fault (w .0) (w .1)), (λ h. absurd (false≢true (p .1 h)))) (λ f e. cc) (λ f no-p e. cc)
+
+-- the same where the fault has a place, x: where P fails it is the only one that Q is true of
+pub decided-placed : {X : Type 0} (b : Bool) (fault : X → Fault) (x : X) (P : Type 0) (Q : X → Type 0) → ((b ≡ true) ↔ P) → ((P → ⊥) → Q x) → ((y : X) → Q y → x ≡ y)
+    → Decided (need b (fault x)) (record { holds = P; answers = λ f. (y : X) × Q y × (f ≡ fault y) } ∷ [])
+decided-placed true fault x P Q p q only =
+    decided-one _ ((λ w. p .0 refl), (λ h. (tt, refl))) (λ f e. done≢refused tt f e) (λ f no-p e. absurd (no-p (p .0 refl)))
+decided-placed false fault x P Q p q only =
+    decided-one _ ((λ w. refused≢done (fault x) (w .0) (w .1)), (λ h. absurd (false≢true (p .1 h)))) (λ f e. (x, q (λ h. false≢true (p .1 h)), cc))
+    (λ f no-p e. ap refused (ap fault (only (e .0) (e .1)) ∙ sym (e .2)))
 
 -- what a test of two numbers says, for `decided-need`
 pub eqb-exact : (a b : ℕ) → (eqb a b ≡ true) ↔ (a ≡ b)

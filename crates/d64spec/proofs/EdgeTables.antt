@@ -25,6 +25,7 @@ use Rattle.d64spec.specs.Run.{run}
 use Rattle.d64spec.specs.Trial.{afterCall, answerBytes, entryOn19, fieldsOf, freshImage, headOfD, imageWithA, imageWithAB, imageWithEight, lent, lentBlock, nameA, nameB, requests, sent, smallLayout, withEnds}
 use Rattle.d64spec.specs.Edges.{answersAt, bitmaps, dirtyHole, faultsAt, filledHole, firstAndLast, formatted180, holeFilled, houseNumbers, longerNumbers, manyFree, name16, onTrack18, sameBitmaps, sent600, shownFaults, writtenPart, wrongTracks}
 use Rattle.d64spec.specs.SpareBits.{brokenEntries, entriesAfter, entryHolds, spareDisk, spareEight, spareFull, zoneRows}
+use Rattle.d64spec.specs.MapPlace.{brokenPlaces, eachNamed, namedAlone, placeHolds, placeRows}
 use Rattle.d64spec.specs.Retired.{numbers, prgC, retiring, sparing, usrA, usrB, usrDisk, usrLines}
 
 -- DOCUMENT 01'S TABLE OF ANSWERS, for every place
@@ -61,6 +62,16 @@ ones-are = refl
 pub zones-are : brokenEntries zoneRows ≡ []
 unfolding zoneRows entryHolds entryCorrect wrongBits mapOnes mapBit bitOf expectedEntry expectedBit bitmapByte binary sectorsOn layout35
 zones-are = refl
+
+-- THE SECTOR THAT ANSWER 8 NAMES, in each zone (02, §3)
+pub places-are : brokenPlaces placeRows ≡ []
+unfolding placeRows placeHolds wrongBits mapBit bitOf sectorsOn layout35
+places-are = refl
+
+-- each sector's bit alone, and the bits past the last sector
+pub alone-are : map namedAlone (1 ∷ 18 ∷ 25 ∷ 31 ∷ []) ≡ map eachNamed (21 ∷ 19 ∷ 18 ∷ 17 ∷ [])
+unfolding namedAlone wrongBits mapBit bitOf sectorsOn layout35
+alone-are = refl
 
 -- EVERY BYTE OF 18/0 after a format
 pub formatted-180 : formattedDisk layout35 name16 0xFF 0x80 357 ≡ formatted180

@@ -8,23 +8,23 @@ use mathlib.Core.List.{List, [], _∷_, _++_, map}
 use lib.ListN.{length}
 use lib.Dec.{eqb}
 use Rattle.d64spec.specs.Lists.{All, Bytes, count, nameCount, range}
-use Rattle.d64spec.specs.Answers.{Address, badName, badType, done, duplicateName, wrongCount, wrongMapEntry}
+use Rattle.d64spec.specs.Answers.{Address, address, badName, badType, done, duplicateName, wrongCount, wrongMapEntry}
 use Rattle.d64spec.specs.Geometry.{Geometry, Valid, directoryStart, mapAddress, sectorNumber, total, tracks}
 use Rattle.d64spec.specs.Image.{Disk}
 use Rattle.d64spec.specs.Chain.{directoryLink, fileLink, steps, to}
 use Rattle.d64spec.specs.Directory.{File, Slot, countOf, directorySectors, entryByte, fileOf, files, firstLink, nameOf, occupied, validName, validType}
 use Rattle.d64spec.specs.Owner.{claimCount, claimList, fileClaims, isFree}
-use Rattle.d64spec.specs.Map.{entryCorrect}
-use Rattle.d64spec.specs.Check.{checkDirectory, checkDisk, checkEntry, checkMap, checkSlot, checkSlots}
+use Rattle.d64spec.specs.Map.{entryCorrect, lowestWrong}
+use Rattle.d64spec.specs.Check.{checkDirectory, checkDisk, checkEntry, checkMap, checkSlot, checkSlots, checkTrack}
 use Rattle.d64spec.specs.Accepted.{AcceptedDisk, MarksFree}
 use Rattle.d64spec.specs.Listing.{listSlots}
-use Rattle.d64spec.specs.Order.{AllHold, ClaimsOnce, asksDirectory, diskConditions, entryConditions, listingSlots, mapConditions, slotConditions, slotsConditions}
+use Rattle.d64spec.specs.Order.{AllHold, ClaimsOnce, NamesWrong, asksDirectory, asksTrack, diskConditions, entryConditions, listingSlots, mapConditions, slotConditions, slotsConditions}
 use Rattle.d64spec.proofs.SumLaws.{indicator-le}
 use Rattle.d64spec.proofs.ListLaws.{count-append}
 use Rattle.d64spec.proofs.BoundLaws.{all-append, directoryLink-on, fileLink-on, follow-on, map-on, sectorNumber-lt}
-use Rattle.d64spec.proofs.MapLaws.{track-complete, track-sound}
+use Rattle.d64spec.proofs.MapLaws.{lowest-names, names-lowest, track-complete, track-sound}
 use Rattle.d64spec.proofs.CheckLaws.{claims-are, contents, disk-complete, disk-sound, firstLink-on, slot-met, slots-sound}
-use Rattle.d64spec.proofs.ConditionLaws.{Decided, decided-bind, decided-bind-done, decided-done, decided-need, decided-then, decided-then-done, eqb-exact}
+use Rattle.d64spec.proofs.ConditionLaws.{Decided, decided-bind, decided-bind-done, decided-done, decided-need, decided-placed, decided-then, decided-then-done, eqb-exact}
 use Rattle.d64spec.proofs.ChainFaultLaws.{decided-walk, walk-met}
 
 pub decided-entry : (names : List Bytes) (s : Slot) → Decided (checkEntry names s) (entryConditions names s)
@@ -101,11 +101,17 @@ module _ (g : Geometry) (v : Valid g) (d : Disk) where
     once = λ m. omega (arith, h .0 .once m);
   }
 
+  -- one track, with the sector that its place names
+  decided-track : ((n : ℕ) → claimCount g d n ≤ 1) → (t : ℕ) → Decided (checkTrack g (isFree g d) (d (sectorNumber g mapAddress)) t) (asksTrack g d t ∷ [])
+  decided-track u t =
+      decided-placed (entryCorrect g (isFree g d) (d (sectorNumber g mapAddress)) t) (λ s. wrongMapEntry (address t s))
+      (lowestWrong g (isFree g d) (d (sectorNumber g mapAddress)) t) (MarksFree g d t) (NamesWrong g d t)
+      (track-sound g v d u t, track-complete g v d u t) (lowest-names g v d u t) (names-lowest g v d u t)
+
   decided-map : ((n : ℕ) → claimCount g d n ≤ 1) → (l : List ℕ) → Decided (checkMap g d (isFree g d) l) (mapConditions g d l)
   decided-map u [] = decided-done
   decided-map u (t ∷ l) =
-      decided-then (decided-need (entryCorrect g (isFree g d) (d (sectorNumber g mapAddress)) t) (wrongMapEntry t) (MarksFree g d t) (track-sound g v d u t, track-complete g v d u t))
-      (λ h. decided-map u l)
+      decided-then (decided-track u t) (λ h. decided-map u l)
 
   -- the files that the slots' check gives are the disk's, and then each sector has one claim on it at most
   files-checked : (fs : List File) → Owned g ownedFirst

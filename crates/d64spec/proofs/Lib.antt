@@ -66,6 +66,7 @@ pub mod LinkTheorem
 pub mod GivenBack
 pub mod RetiredTheorem
 pub mod SpareTheorem
+pub mod MapPlaceTheorem
 pub mod RoomLaws
 pub mod PlaceTheorem
 pub mod ListingTheorem

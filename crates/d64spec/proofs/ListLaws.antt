@@ -1,6 +1,7 @@
--- Laws of `filter`, `count` and `equal`, and of a function along a range.
-use Prim.Native.Nat.{ℕ, zero, suc, _+_, _<_}
+-- Laws of `filter`, `count` and `equal`, of a function along a range, and of the lowest number of a range that passes a test.
+use Prim.Native.Nat.{ℕ, zero, suc, _+_, _≤_, _<_}
 use native.Mathlib.Omega.{arith}
+use native.Mathlib.Decide.{decLe}
 use mathlib.Core.Path.{_≡_, refl, ap, _∙_, ap₂}
 use mathlib.Core.Bool.{Bool, true, false, cond, _&&_}
 use mathlib.Core.Logic.{∥∥₁-map}
@@ -63,3 +64,40 @@ pub getD-map-range : {A : Type 0} (f : ℕ → A) (a n i : ℕ) (z : A) → i < 
 getD-map-range f a zero i z h = absurd (omega arith)
 getD-map-range f a (suc n) zero z h = ap f (omega arith)
 getD-map-range f a (suc n) (suc i) z h = getD-map-range f (suc a) n i z (omega arith) ∙ ap f (omega arith)
+
+-- ---- the lowest that passes a test
+
+-- x is the element of the lowest of n numbers from a on whose element passes the test
+pub record Lowest {A : Type 0} (p : A → Bool) (f : ℕ → A) (a n : ℕ) (x : A) : Type 0 where
+  pub number : ℕ
+  pub low : a ≤ number
+  pub high : number < a + n
+  pub element : x ≡ f number
+  pub passes : p (f number) ≡ true
+  pub lower : (i : ℕ) → a ≤ i → i < number → p (f i) ≡ false
+
+module _ {A : Type 0} (p : A → Bool) where
+  pub lowest : (f : ℕ → A) (a n : ℕ) (x : A) (m : List A) → filter p (map f (range a n)) ≡ x ∷ m → Lowest p f a n x
+  lowest f a zero x m e = absurd (let z : _≡_ {A = ℕ} 0 1 = cc in omega arith)
+  lowest f a (suc n) x m e = go (p (f a)) refl (λ e′. lowest f (suc a) n x m e′) e
+    where
+      go : (b : Bool) → p (f a) ≡ b → (filter p (map f (range (suc a) n)) ≡ x ∷ m → Lowest p f (suc a) n x)
+          → cond b (f a ∷ filter p (map f (range (suc a) n))) (filter p (map f (range (suc a) n))) ≡ x ∷ m → Lowest p f a (suc n) x
+      go true t rest e′ = record { number = a; low = omega arith; high = omega arith; element = cc; passes = t; lower = λ i l u. absurd (omega arith) }
+      go false t rest e′ =
+          let r = rest e′ in
+          record {
+            number = r .number;
+            low = omega (arith, r .low);
+            high = omega (arith, r .high);
+            element = r .element;
+            passes = r .passes;
+            lower = λ i l u. elim (decLe (suc a) i) [
+              | yes k ↦ r .lower i k u
+              | no k ↦ let z : a ≡ i = omega arith in rw (← z) t
+            ];
+          }
+
+pub map-self : {A : Type 0} (l : List A) → map (λ x. x) l ≡ l
+map-self [] = refl
+map-self {A} (x ∷ l) = ap (λ (z : List A). x ∷ z) (map-self l)

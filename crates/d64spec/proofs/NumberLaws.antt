@@ -69,7 +69,7 @@ module _ (g : Geometry) (d : Disk) where
   after-entry : (own : List ℕ) (s : Slot) → Answers (Between 2 7) (chainConditions own s)
   after-entry own s = ((λ f w. let h = chain-answers g (fileLink g) d own (s .holder) (s .number) (firstLink g d s) f w in omega arith), ((λ f e. rw e (omega arith)), tt))
 
-  slots-answers : (own : List ℕ) (names : List Bytes) (l : List Slot) → Answers (Between 2 7) (slotsConditions g d own names l)
+  pub slots-answers : (own : List ℕ) (names : List Bytes) (l : List Slot) → Answers (Between 2 7) (slotsConditions g d own names l)
   slots-answers own names [] = tt
   slots-answers own names (s ∷ l) =
       answers-append (Between 2 7) (slotConditions g d own names s) (slotsConditions g d (map (sectorNumber g) (fileOf g d s .sectors) ++ own) (nameOf (s .bytes) ∷ names) l)
@@ -78,7 +78,7 @@ module _ (g : Geometry) (d : Disk) where
 
   map-answers : (l : List ℕ) → Answers (Between 8 8) (mapConditions g d l)
   map-answers [] = tt
-  map-answers (t ∷ l) = ((λ f e. rw e (omega arith)), map-answers l)
+  map-answers (t ∷ l) = ((λ f e. rw (e .2) (omega arith)), map-answers l)
 
   pub directory-answers : (f : Fault) → asksDirectory g d .answers f → Between 2 3 f
   directory-answers f w = chain-answers g (directoryLink g) d (sectorNumber g mapAddress ∷ []) mapAddress 255 (to directoryStart) f w

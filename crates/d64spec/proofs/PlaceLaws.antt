@@ -9,15 +9,16 @@ use lib.ListN.{length, getD, List·getD-eq-default}
 use lib.Dec.{eqb}
 use borrow.Author.Tests.{ltb-true, lt-ltb}
 use Rattle.d64spec.specs.Lists.{All, Bytes, count, range}
-use Rattle.d64spec.specs.Answers.{Address, Fault, answerOf, done, placed, unplaced, wrongCount, wrongMapEntry}
+use Rattle.d64spec.specs.Answers.{Address, Fault, answerOf, done, placed, unplaced, wrongCount}
 use Rattle.d64spec.specs.Geometry.{Geometry, Valid, directoryStart, mapAddress, onDisk, sectorNumber, sectorsOn, tracks}
 use Rattle.d64spec.specs.Image.{Disk}
 use Rattle.d64spec.specs.Chain.{directoryLink, fileLink, steps, to, walk}
 use Rattle.d64spec.specs.Directory.{Slot, countOf, firstLink, isEmpty, nameOf, occupiedIn, slotsFrom}
 use Rattle.d64spec.specs.Owner.{claimsOf}
-use Rattle.d64spec.specs.Map.{entryCorrect}
+use Rattle.d64spec.specs.Map.{entryCorrect, lowestWrong, wrongBits}
 use Rattle.d64spec.specs.Check.{checkDirectory, checkDisk, checkEntry, checkMap, checkSlot, checkSlots}
 use Rattle.d64spec.specs.Facts.{AnswerFits}
+use Rattle.d64spec.proofs.MapLaws.{wrong-first}
 use Rattle.d64spec.proofs.BoundLaws.{directoryLink-on, fileLink-on, map-on}
 use Rattle.d64spec.proofs.WalkLaws.{Walked, walk-sound}
 use Rattle.d64spec.proofs.MapLaws.{range-all}
@@ -62,6 +63,14 @@ track-le g r h =
 sector-lt : (g : Geometry) → Valid g → (r : Address) → onDisk g r ≡ true → r .sector < 24
 unfolding onDisk
 sector-lt g v r h = omega (arith, v .small (r .track), ltb-true (r .sector) (sectorsOn g (r .track)) h)
+
+-- so does what the place of a wrong map entry names: one of the track's sectors, or 255
+lowest-small : (g : Geometry) → Valid g → (free : Address → Bool) (m : Bytes) (t : ℕ) → lowestWrong g free m t < 256
+lowest-small g v free m t = go (wrongBits g free m t) refl
+  where
+    go : (l : List ℕ) → wrongBits g free m t ≡ l → getD l 0 255 < 256
+    go [] e = omega arith
+    go (s ∷ l) e = let low = wrong-first g free m t s l e in omega (arith, low .high, low .element, v .small t)
 
 on-of-18 : (g : Geometry) (r : Address) → On18 g (to r) → onDisk g r ≡ true
 unfolding onDisk
@@ -129,8 +138,9 @@ module _ (g : Geometry) (v : Valid g) (few : tracks g < 256) where
     checkMap-fits : (free : Address → Bool) (l : List ℕ) → All (λ t. t ≤ tracks g) l → Refusals FaultFits (checkMap g d free l)
     checkMap-fits free [] a = tt
     checkMap-fits free (t ∷ l) a =
-        need-outcome FaultFits (λ x. Unit {0}) (entryCorrect g free (d (sectorNumber g mapAddress)) t) (wrongMapEntry t) _
-        (record { number = omega arith; track = omega (arith, a .0); sector = omega arith; slot = omega arith }) (λ e. checkMap-fits free l (a .1))
+        need-outcome FaultFits (λ x. Unit {0}) (entryCorrect g free (d (sectorNumber g mapAddress)) t) _ _
+        (record { number = omega arith; track = omega (arith, a .0); sector = lowest-small g v free (d (sectorNumber g mapAddress)) t; slot = omega arith })
+        (λ e. checkMap-fits free l (a .1))
 
     -- steps 2 to 4
     pub checkDisk-fits : Refusals FaultFits (checkDisk g d)

@@ -1,13 +1,12 @@
 -- Where a store puts its entry and its bytes: the first empty slot, else the lowest free sector of track 18, and the first free sectors in house order (01, Store).
 use Prim.Native.Nat.{ℕ, zero, suc, _+_, _≤_, _<_}
 use native.Mathlib.Omega.{arith}
-use native.Mathlib.Decide.{decLe}
 use mathlib.Core.Path.{_≡_, refl, ap, _∙_}
 use mathlib.Core.Bool.{Bool, true, false, cond}
-use mathlib.Core.List.{List, [], _∷_, _++_, map}
+use mathlib.Core.List.{List, [], _∷_, _++_}
 use lib.ListN.{length, take}
 use borrow.Author.Tests.{eqb-false, eqb-true}
-use Rattle.d64spec.specs.Lists.{All, filter, range}
+use Rattle.d64spec.specs.Lists.{All, filter}
 use Rattle.d64spec.specs.Answers.{Address, Result, _>>=_, address, directoryFull, done, first}
 use Rattle.d64spec.specs.Geometry.{Geometry, allocationOrder, sectorNumber, sectorsOfTrack, sectorsOn}
 use Rattle.d64spec.specs.Image.{Disk}
@@ -16,6 +15,7 @@ use Rattle.d64spec.specs.Owner.{claimCount, freeForDirectory, freeForFil
 use Rattle.d64spec.specs.Store.{SlotPlace, emptySlots, inEmptySlot, inNewSector, placement, slotPlaceFor}
 use Rattle.d64spec.specs.Facts.{FirstEmptySlot, FirstFree, LowestFree}
 use Rattle.d64spec.proofs.ResultLaws.{refused≢done}
+use Rattle.d64spec.proofs.ListLaws.{lowest}
 use Rattle.d64spec.proofs.MapLaws.{filter-none}
 use Rattle.d64spec.proofs.SplitLaws.{all-mem}
 
@@ -36,15 +36,6 @@ record Front {A : Type 0} (p : A → Bool) (k : ℕ) (l : List A) : Type 0 where
   whole : l ≡ front ++ back
   taken : take k (filter p l) ≡ filter p front
   many : length (filter p front) ≡ k
-
--- x is the element of the lowest of n numbers from a on whose element passes the test
-record Lowest {A : Type 0} (p : A → Bool) (f : ℕ → A) (a n : ℕ) (x : A) : Type 0 where
-  number : ℕ
-  low : a ≤ number
-  high : number < a + n
-  element : x ≡ f number
-  passes : p (f number) ≡ true
-  lower : (i : ℕ) → a ≤ i → i < number → p (f i) ≡ false
 
 module _ {A : Type 0} (p : A → Bool) where
   filter-first : (l : List A) (x : A) (m : List A) → filter p l ≡ x ∷ m → FirstOf p x l
@@ -78,27 +69,6 @@ module _ {A : Type 0} (p : A → Bool) where
       go : (b : Bool) → p x ≡ b → ((n : ℕ) → n ≤ length (filter p l) → Front p n l) → suc k ≤ length (cond b (x ∷ filter p l) (filter p l)) → Front p (suc k) (x ∷ l)
       go true t rest h′ = front-with x l k t (rest k (omega arith))
       go false t rest h′ = front-past x l (suc k) t (rest (suc k) h′)
-
-  lowest : (f : ℕ → A) (a n : ℕ) (x : A) (m : List A) → filter p (map f (range a n)) ≡ x ∷ m → Lowest p f a n x
-  lowest f a zero x m e = absurd (let z : _≡_ {A = ℕ} 0 1 = cc in omega arith)
-  lowest f a (suc n) x m e = go (p (f a)) refl (λ e′. lowest f (suc a) n x m e′) e
-    where
-      go : (b : Bool) → p (f a) ≡ b → (filter p (map f (range (suc a) n)) ≡ x ∷ m → Lowest p f (suc a) n x)
-          → cond b (f a ∷ filter p (map f (range (suc a) n))) (filter p (map f (range (suc a) n))) ≡ x ∷ m → Lowest p f a (suc n) x
-      go true t rest e′ = record { number = a; low = omega arith; high = omega arith; element = cc; passes = t; lower = λ i l u. absurd (omega arith) }
-      go false t rest e′ =
-          let r = rest e′ in
-          record {
-            number = r .number;
-            low = omega (arith, r .low);
-            high = omega (arith, r .high);
-            element = r .element;
-            passes = r .passes;
-            lower = λ i l u. elim (decLe (suc a) i) [
-              | yes k ↦ r .lower i k u
-              | no k ↦ let z : a ≡ i = omega arith in rw (← z) t
-            ];
-          }
 
 module _ (g : Geometry) (d : Disk) where
   -- the place that these empty slots and these free sectors give

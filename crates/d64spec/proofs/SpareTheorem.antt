@@ -9,14 +9,14 @@ use lib.ListN.{length}
 use lib.Dec.{eqb}
 use borrow.Author.Tests.{eq-eqb, ltb-false}
 use Rattle.d64spec.specs.Lists.{Bytes, count, filter, indicator, member, range}
-use Rattle.d64spec.specs.Answers.{Address, Answer, Result, _>>=_, _>>_, alreadyOwned, done, need, refused, wrongCount, wrongMapEntry, wrongSize}
+use Rattle.d64spec.specs.Answers.{Address, Answer, Result, _>>=_, _>>_, alreadyOwned, done, need, refused, wrongCount, wrongSize}
 use Rattle.d64spec.specs.Geometry.{Geometry, Valid, directoryStart, mapAddress, sectorNumber, sectorsOn, total, tracks}
 use Rattle.d64spec.specs.Image.{Disk, disk}
 use Rattle.d64spec.specs.Chain.{Link, bad, directoryLink, ends, fileLink, steps, to, walk}
 use Rattle.d64spec.specs.Directory.{File, Slot, countOf, firstLink, isEmpty, nameOf, occupiedIn}
 use Rattle.d64spec.specs.Owner.{claimsOf}
-use Rattle.d64spec.specs.Map.{entryCorrect, mapOnes}
-use Rattle.d64spec.specs.Check.{DirectoryContents, checkDirectory, checkDisk, checkEntry, checkImage, checkMap, checkSlot, checkSlots, rightSize}
+use Rattle.d64spec.specs.Map.{mapOnes}
+use Rattle.d64spec.specs.Check.{DirectoryContents, checkDirectory, checkDisk, checkEntry, checkImage, checkMap, checkSlot, checkSlots, rightSize, checkTrack}
 use Rattle.d64spec.specs.Accepted.{Accepted}
 use Rattle.d64spec.specs.Reply.{Change, reply}
 use Rattle.d64spec.specs.Call.{Call, attempt, callCheck, check, format, perform, read, scratch, store}
@@ -26,7 +26,7 @@ use Rattle.d64spec.proofs.ListLaws.{count-append}
 use Rattle.d64spec.proofs.ResultLaws.{done-inj, then-done}
 use Rattle.d64spec.proofs.CallLaws.{read-done, scratch-done, store-done}
 use Rattle.d64spec.proofs.WalkLaws.{walk-sound}
-use Rattle.d64spec.proofs.MapLaws.{correct-same, ones-same}
+use Rattle.d64spec.proofs.MapLaws.{checkTrack-same, ones-same}
 use Rattle.d64spec.proofs.FrameLaws.{all-of-count, same-slots}
 use Rattle.d64spec.proofs.FormatTheorem.{format-bytes}
 use Rattle.d64spec.proofs.ChangesTheorem.{scratched-bits, scratched-file, stored-bits, store-takes}
@@ -97,14 +97,14 @@ module _ (g : Geometry) (d e : Disk) (alike : AlikeButSpare g d e) where
   pub ones-alike : (t : ℕ) → 1 ≤ t → t ≤ tracks g → mapOnes g m t ≡ mapOnes g n t
   ones-alike t l h = ones-same g m n t (λ s b. alike .own t s l h b)
 
-  entry-alike : (free : Address → Bool) (t : ℕ) → 1 ≤ t → t ≤ tracks g → entryCorrect g free m t ≡ entryCorrect g free n t
-  entry-alike free t l h = correct-same g m n t (λ s b. alike .own t s l h b) free free (alike .counts t l h) (λ s b. refl)
+  track-alike : (free : Address → Bool) (t : ℕ) → 1 ≤ t → t ≤ tracks g → checkTrack g free m t ≡ checkTrack g free n t
+  track-alike free t l h = checkTrack-same g m n t (λ s b. alike .own t s l h b) free free (alike .counts t l h) (λ s b. refl)
 
   -- STEP 4 GIVES THE SAME on both, whatever is free
   pub step-alike : (free : Address → Bool) (a k : ℕ) → 1 ≤ a → a + k ≤ tracks g + 1 → checkMap g d free (range a k) ≡ checkMap g e free (range a k)
   step-alike free a zero p q = refl
   step-alike free a (suc k) p q =
-      ap₂ (λ (b : Bool) (r : Result (Unit {0})). need b (wrongMapEntry a) >> r) (entry-alike free a p (omega arith))
+      ap₂ (λ (x r : Result (Unit {0})). x >> r) (track-alike free a p (omega arith))
       (step-alike free (suc a) k (omega arith) (omega arith))
 
   -- ---- the steps before: no walk reads 18/0, which has its owner

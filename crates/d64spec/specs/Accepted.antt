@@ -22,10 +22,14 @@ pub record ValidEntry (g : Geometry) (d : Disk) (f : File) : Type 0 where
   pub chain : Chain g (fileLink g) d (firstLink g d (f .slot)) (f .sectors)
   pub sectorCount : countOf (f .slot .bytes) ≡ length (f .sectors)
 
+-- the map's bit of sector s of track t is right: it is 1 exactly where nobody owns the sector (01, The map)
+abbrev pub RightBit : Geometry → Disk → ℕ → ℕ → Type 0
+RightBit g d t s = (mapBit g (d (sectorNumber g mapAddress)) t s ≡ 1) ↔ Free g d (sectorNumber g (address t s))
+
 -- a track's map entry marks exactly nobody's sectors free: its count, and the bits of its own sectors (01, The map; 02, §5)
 pub record MarksFree (g : Geometry) (d : Disk) (t : ℕ) : Type 0 where
   pub freeCount : byte (d (sectorNumber g mapAddress)) (g .mapAt t) ≡ mapOnes g (d (sectorNumber g mapAddress)) t
-  pub free : (s : ℕ) → s < sectorsOn g t → (mapBit g (d (sectorNumber g mapAddress)) t s ≡ 1) ↔ Free g d (sectorNumber g (address t s))
+  pub free : (s : ℕ) → s < sectorsOn g t → RightBit g d t s
 
 -- what steps 2 to 4 find no fault in
 pub record AcceptedDisk (g : Geometry) (d : Disk) : Type 0 where

@@ -20,7 +20,7 @@ pub data Fault : Type 0 where
   wrongSize : Fault
   badLink alreadyOwned : Address → ℕ → Fault
   badType badName duplicateName wrongCount : Address → ℕ → Fault
-  wrongMapEntry : ℕ → Fault
+  wrongMapEntry : Address → Fault
   badNameArgument badKindArgument : Fault
   writeForbidden nameExists notFound : Fault
   directoryFull diskFull : Fault
@@ -50,7 +50,7 @@ answerOf (badType r s) = placed 4 r s
 answerOf (badName r s) = placed 5 r s
 answerOf (duplicateName r s) = placed 6 r s
 answerOf (wrongCount r s) = placed 7 r s
-answerOf (wrongMapEntry t) = placed 8 (address t 255) 255
+answerOf (wrongMapEntry r) = placed 8 r 255
 answerOf badNameArgument = unplaced 9
 answerOf badKindArgument = unplaced 10
 answerOf writeForbidden = unplaced 11

@@ -1,5 +1,5 @@
 -- The check in document 01's order, with the place of the first fault (01, Order of the check).
--- In order: one occupied slot; the slots; the map; steps 2 to 4 on the sectors; steps 1 to 4 on an image.
+-- In order: one map entry; one occupied slot; the slots; the map; steps 2 to 4 on the sectors; steps 1 to 4 on an image.
 -- What it accepts is said again with no order in specs/Accepted; that the two agree: proofs/ExactTheorem, `check-exact`.
 use Prim.Native.Nat.{ℕ, _*_}
 use mathlib.Core.Bool.{Bool}
@@ -7,13 +7,13 @@ use mathlib.Core.List.{List, [], _∷_, _++_, map}
 use lib.ListN.{length}
 use lib.Dec.{eqb}
 use Rattle.d64spec.specs.Lists.{Bytes, range, count, nameCount}
-use Rattle.d64spec.specs.Answers.{Address, wrongSize, badType, badName, duplicateName, wrongCount, wrongMapEntry, Result, done, _>>=_, _>>_, need}
+use Rattle.d64spec.specs.Answers.{Address, address, wrongSize, badType, badName, duplicateName, wrongCount, wrongMapEntry, Result, done, _>>=_, _>>_, need}
 use Rattle.d64spec.specs.Geometry.{Geometry, sectorNumber, total, tracks, mapAddress, directoryStart}
 use Rattle.d64spec.specs.Image.{Disk, disk}
 use Rattle.d64spec.specs.Chain.{to, fileLink, directoryLink, steps, walk}
 use Rattle.d64spec.specs.Directory.{Slot, File, entryByte, validType, validName, nameOf, countOf, occupiedIn, firstLink}
 use Rattle.d64spec.specs.Owner.{claimsOf}
-use Rattle.d64spec.specs.Map.{entryCorrect}
+use Rattle.d64spec.specs.Map.{entryCorrect, lowestWrong}
 
 -- kind and flags, name, name used by an earlier slot: what the check and the sleeve listing both ask of an occupied slot
 unfoldable pub checkEntry : List Bytes → Slot → Result (Unit {0})
@@ -21,6 +21,10 @@ checkEntry names s = do
   need (validType (entryByte (s .bytes) 0x02)) (badType (s .holder) (s .number))
   need (validName (s .bytes)) (badName (s .holder) (s .number))
   need (eqb (nameCount (nameOf (s .bytes)) names) 0) (duplicateName (s .holder) (s .number))
+
+-- one track's entry in the map sector m, where `free` says which sectors are free; the place of a wrong one names its lowest wrong sector (02, §3)
+abbrev pub checkTrack : Geometry → (Address → Bool) → Bytes → ℕ → Result (Unit {0})
+checkTrack g free m t = need (entryCorrect g free m t) (wrongMapEntry (address t (lowestWrong g free m t)))
 
 module _ (g : Geometry) (d : Disk) where
   -- one occupied slot: the entry, the chain link by link from the link that the directory sector holds, then the count
@@ -43,7 +47,7 @@ module _ (g : Geometry) (d : Disk) where
   abbrev pub checkMap : (Address → Bool) → List ℕ → Result (Unit {0})
   checkMap free [] = done tt
   checkMap free (t ∷ l) = do
-    need (entryCorrect g free (d (sectorNumber g mapAddress)) t) (wrongMapEntry t)
+    checkTrack g free (d (sectorNumber g mapAddress)) t
     checkMap free l
 
 -- what a check that is done has met: the directory's sectors and the files

@@ -24,14 +24,14 @@ use Rattle.d64spec.specs.Trial.{afterCall, imageWithA, imageWithAB, lent
 abbrev pub faultsAt : ℕ → ℕ → ℕ → List Fault
 faultsAt t s n =
     wrongSize ∷ badLink (address t s) n ∷ alreadyOwned (address t s) n ∷ badType (address t s) n ∷ badName (address t s) n ∷ duplicateName (address t s) n
-    ∷ wrongCount (address t s) n ∷ wrongMapEntry t ∷ badNameArgument ∷ badKindArgument ∷ writeForbidden ∷ nameExists ∷ notFound ∷ directoryFull ∷ diskFull
+    ∷ wrongCount (address t s) n ∷ wrongMapEntry (address t s) ∷ badNameArgument ∷ badKindArgument ∷ writeForbidden ∷ nameExists ∷ notFound ∷ directoryFull ∷ diskFull
     ∷ wrongBuffer ∷ []
 
 -- what the table gives for each
 abbrev pub answersAt : ℕ → ℕ → ℕ → List (List ℕ)
 answersAt t s n =
     (1 ∷ 0 ∷ 0 ∷ 255 ∷ []) ∷ (2 ∷ t ∷ s ∷ n ∷ []) ∷ (3 ∷ t ∷ s ∷ n ∷ []) ∷ (4 ∷ t ∷ s ∷ n ∷ []) ∷ (5 ∷ t ∷ s ∷ n ∷ []) ∷ (6 ∷ t ∷ s ∷ n ∷ [])
-    ∷ (7 ∷ t ∷ s ∷ n ∷ []) ∷ (8 ∷ t ∷ 255 ∷ 255 ∷ []) ∷ (9 ∷ 0 ∷ 0 ∷ 255 ∷ []) ∷ (10 ∷ 0 ∷ 0 ∷ 255 ∷ []) ∷ (11 ∷ 0 ∷ 0 ∷ 255 ∷ []) ∷ (12 ∷ 0 ∷ 0 ∷ 255 ∷ [])
+    ∷ (7 ∷ t ∷ s ∷ n ∷ []) ∷ (8 ∷ t ∷ s ∷ 255 ∷ []) ∷ (9 ∷ 0 ∷ 0 ∷ 255 ∷ []) ∷ (10 ∷ 0 ∷ 0 ∷ 255 ∷ []) ∷ (11 ∷ 0 ∷ 0 ∷ 255 ∷ []) ∷ (12 ∷ 0 ∷ 0 ∷ 255 ∷ [])
     ∷ (13 ∷ 0 ∷ 0 ∷ 255 ∷ []) ∷ (14 ∷ 0 ∷ 0 ∷ 255 ∷ []) ∷ (15 ∷ 0 ∷ 0 ∷ 255 ∷ []) ∷ (16 ∷ 0 ∷ 0 ∷ 255 ∷ []) ∷ []
 
 -- ---- house order (01, Store)

@@ -29,3 +29,4 @@ pub mod TwoFaults
 pub mod Edges
 pub mod Retired
 pub mod SpareBits
+pub mod MapPlace

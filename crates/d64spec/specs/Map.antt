@@ -4,7 +4,7 @@
 use Prim.Native.Nat.{ℕ, _+_, _*_, _/_, _%_}
 use mathlib.Core.Bool.{Bool, _&&_, cond, not}
 use mathlib.Core.List.{List, [], _∷_, map}
-use lib.ListN.{length}
+use lib.ListN.{length, getD}
 use lib.Dec.{eqb, ltb}
 use Rattle.d64spec.specs.Lists.{Bytes, byte, sum, range, splice, indicator, filter}
 use Rattle.d64spec.specs.Bits.{bitOf, binary}
@@ -30,6 +30,10 @@ module _ (g : Geometry) (free : Address → Bool) (m : Bytes) where
   -- those of the track's own sectors whose bit is wrong; bits past its last sector are not looked at (02, §5)
   unfoldable pub wrongBits : ℕ → List ℕ
   wrongBits t = filter (wrongBit t) (range 0 (sectorsOn g t))
+
+  -- the lowest of them, and 255 where there is none (02, §3)
+  abbrev pub lowestWrong : ℕ → ℕ
+  lowestWrong t = getD (wrongBits t) 0 255
 
   -- whether a track's entry is correct: its own bits, and the count
   unfoldable pub entryCorrect : ℕ → Bool

@@ -7,14 +7,15 @@ use mathlib.Core.Bool.{true}
 use mathlib.Core.Logic.{_⊎_}
 use mathlib.Core.List.{List, [], _∷_, _++_, map}
 use lib.ListN.{length}
-use Rattle.d64spec.specs.Lists.{Bytes, count, nameCount, range}
-use Rattle.d64spec.specs.Answers.{Address, Fault, wrongSize, badLink, alreadyOwned, badType, badName, duplicateName, wrongCount, wrongMapEntry, badNameArgument, badKindArgument, writeForbidden, nameExists, notFound, directoryFull, diskFull, wrongBuffer}
+use Rattle.d64spec.specs.Lists.{Bytes, byte, count, nameCount, range}
+use Rattle.d64spec.specs.Answers.{Address, Fault, address, wrongSize, badLink, alreadyOwned, badType, badName, duplicateName, wrongCount, wrongMapEntry, badNameArgument, badKindArgument, writeForbidden, nameExists, notFound, directoryFull, diskFull, wrongBuffer}
 use Rattle.d64spec.specs.Geometry.{Geometry, sectorNumber, sectorsOn, total, tracks, mapAddress, directoryStart}
 use Rattle.d64spec.specs.Image.{Disk, disk}
 use Rattle.d64spec.specs.Chain.{Link, to, bad, fileLink, directoryLink, steps, Chain, follow, chainData}
 use Rattle.d64spec.specs.Directory.{Slot, File, entryByte, validType, validName, nameOf, countOf, firstLink, fileOf, directorySectors, occupied, files}
 use Rattle.d64spec.specs.Owner.{freeForFiles, freeForDirectory}
-use Rattle.d64spec.specs.Accepted.{MarksFree}
+use Rattle.d64spec.specs.Map.{mapOnes}
+use Rattle.d64spec.specs.Accepted.{MarksFree, RightBit}
 use Rattle.d64spec.specs.Rules.{IsName, IsStorableKind, MayWrite}
 use Rattle.d64spec.specs.Reply.{filesNamed}
 use Rattle.d64spec.specs.Store.{sectorsNeeded, emptySlots, lastOf}
@@ -109,10 +110,29 @@ module _ (g : Geometry) (d : Disk) where
       slotConditions own names s
       ++ slotsConditions (map (sectorNumber g) (fileOf g d s .sectors) ++ own) (nameOf (s .bytes) ∷ names) l
 
+  -- s is the lowest sector of track t whose bit is wrong (02, §3)
+  pub record LowestWrong (t s : ℕ) : Type 0 where
+    pub onTrack : s < sectorsOn g t
+    pub wrong : RightBit g d t s → ⊥
+    pub lower : (i : ℕ) → i < s → RightBit g d t i
+
+  -- all bits of track t are right, and its count is wrong
+  pub record CountWrong (t : ℕ) : Type 0 where
+    pub bits : (s : ℕ) → s < sectorsOn g t → RightBit g d t s
+    pub count : byte (d (sectorNumber g mapAddress)) (g .mapAt t) ≡ mapOnes g (d (sectorNumber g mapAddress)) t → ⊥
+
+  -- what the place of a wrong entry names: that sector, and 255 only if all bits are right
+  abbrev pub NamesWrong : ℕ → ℕ → Type 0
+  NamesWrong t s = LowestWrong t s ⊎ ((s ≡ 255) × CountWrong t)
+
+  -- step 4, one track
+  abbrev pub asksTrack : ℕ → Condition
+  asksTrack t = record { holds = MarksFree g d t; answers = λ f. (s : ℕ) × NamesWrong t s × (f ≡ wrongMapEntry (address t s)) }
+
   -- step 4: the map, track 1 to the last
   abbrev pub mapConditions : List ℕ → List Condition
   mapConditions [] = []
-  mapConditions (t ∷ l) = asks (MarksFree g d t) (wrongMapEntry t) ∷ mapConditions l
+  mapConditions (t ∷ l) = asksTrack t ∷ mapConditions l
 
   -- steps 2 to 4
   unfoldable pub diskConditions : List Condition

@@ -204,7 +204,7 @@ brokenCalls l = filter (λ e. not (callHolds e)) l
 -- the check: numbers 0 to 8 with their places, in the first directory sector and in the second
 unfoldable pub checkRows : List CallRow
 checkRows =
-    quiet zeroBytes check 8 (faultAt 18 255 255) []
+    quiet zeroBytes check 8 (faultAt 18 2 255) []
     ∷ quiet freshDisk check 0 (report 0 0) []
     ∷ quiet oneFile check 0 (report 0 0) []
     ∷ quiet oneByteShort check 1 (report 0 0) []
@@ -222,7 +222,7 @@ checkRows =
     ∷ quiet sharedName check 6 (faultAt 18 1 1) []
     ∷ quiet countOfThree check 7 (faultAt 18 1 0) []
     ∷ quiet mapCountWrong check 8 (faultAt 19 255 255) []
-    ∷ quiet mapBitWrong check 8 (faultAt 19 255 255) []
+    ∷ quiet mapBitWrong check 8 (faultAt 19 1 255) []
     ∷ quiet bitPastTheLast check 0 (report 0 0) []
     ∷ quiet bitPastCounted check 8 (faultAt 18 255 255) []
     ∷ quiet farLinkTwice check 3 (faultAt 18 2 255) []

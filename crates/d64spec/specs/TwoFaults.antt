@@ -43,6 +43,7 @@ pub data Flaw : Type 0 where
   linkTo : ℕ → ℕ → ℕ → Flaw  -- 2 or 3: 19/s links to this track and sector
   countOf9 : ℕ → Flaw  -- 7: the count of this slot is 9
   mapOf255 : ℕ → Flaw  -- 8: the map counts 255 free sectors on this track
+  marks : ℕ → ℕ → Flaw  -- 8: the first bitmap byte of this track; right are 00 on track 18 and F8 on track 19
   version42 : Flaw  -- 11: the DOS version is $42
   noSlotLeft : Flaw  -- 14: six more files fill 18/1, which ends the directory; one of them has 18/2, and 19/8 and 19/9 are all that is free
 
@@ -58,6 +59,7 @@ spoil (firstTo t u) img = patch18 1 0x23 (t ∷ u ∷ []) img
 spoil (linkTo s t u) img = relink s t u img
 spoil (countOf9 j) img = patch18 1 (32 * j + 0x1E) (9 ∷ []) img
 spoil (mapOf255 t) img = patch18 0 (4 * t) (255 ∷ []) img
+spoil (marks t b) img = patch18 0 (4 * t + 1) (b ∷ []) img
 spoil version42 img = patch18 0 0x02 (0x42 ∷ []) img
 spoil noSlotLeft img =
     patch18 0 0x4C (2 ∷ 0x00 ∷ 0x03 ∷ []) (patch18 1 0x00 (0 ∷ 255 ∷ [])
@@ -128,6 +130,12 @@ aloneRows =
     ∷ meets (mapOf255 17 ∷ []) check 8 (faultAt 17 255 255) []
     ∷ meets (mapOf255 18 ∷ []) check 8 (faultAt 18 255 255) []
     ∷ meets (mapOf255 19 ∷ []) check 8 (faultAt 19 255 255) []
+    ∷ meets (marks 18 0x01 ∷ []) check 8 (faultAt 18 0 255) []
+    ∷ meets (marks 18 0x04 ∷ []) check 8 (faultAt 18 2 255) []
+    ∷ meets (marks 18 0x08 ∷ []) check 0 (report 0 0) []  -- track 18 has three sectors here
+    ∷ meets (marks 19 0xFA ∷ []) check 8 (faultAt 19 1 255) []
+    ∷ meets (marks 19 0xF0 ∷ []) check 8 (faultAt 19 3 255) []
+    ∷ meets (marks 19 0x78 ∷ []) check 8 (faultAt 19 7 255) []
     ∷ meets [] (format [] 0x30 0x31) 9 (report 0 0) []
     ∷ meets [] (read longName (lent 4)) 9 (report 0 0) (lent 4)
     ∷ meets [] (scratch paddedName) 9 (report 0 0) []
@@ -182,6 +190,17 @@ checkPairs =
     ∷ meets (linkTo 1 19 0 ∷ firstTo 20 0 ∷ []) check 3 (faultAt 19 1 0) []
     -- the last slot's 7 and track 1's 8
     ∷ meets (countOf9 1 ∷ mapOf255 1 ∷ []) check 7 (faultAt 18 1 1) []
+    -- the last slot's 7 and a wrong bit
+    ∷ meets (countOf9 1 ∷ marks 18 0x04 ∷ []) check 7 (faultAt 18 1 1) []
+    -- 8 for two bits of one track: the lower one (02, §3), be it marked or not
+    ∷ meets (marks 19 0xD9 ∷ []) check 8 (faultAt 19 0 255) []
+    ∷ meets (marks 19 0xB0 ∷ []) check 8 (faultAt 19 3 255) []
+    ∷ meets (marks 18 0x0C ∷ []) check 8 (faultAt 18 2 255) []
+    -- 8 for a bit and the count of one track: the bit
+    ∷ meets (marks 19 0xF0 ∷ mapOf255 19 ∷ []) check 8 (faultAt 19 3 255) []
+    -- 8 for a bit and a count on two tracks: the lower track
+    ∷ meets (mapOf255 18 ∷ marks 19 0xF9 ∷ []) check 8 (faultAt 18 255 255) []
+    ∷ meets (marks 18 0x04 ∷ mapOf255 19 ∷ []) check 8 (faultAt 18 2 255) []
     -- 8 on two tracks: the lower one
     ∷ meets (mapOf255 1 ∷ mapOf255 17 ∷ []) check 8 (faultAt 1 255 255) []
     ∷ meets (mapOf255 17 ∷ mapOf255 18 ∷ []) check 8 (faultAt 17 255 255) []
@@ -205,6 +224,8 @@ readPairs =
     ∷ meets (directoryTo 1 19 5 ∷ []) (read longName (lent 4)) 9 (report 0 0) (lent 4)  -- 9 and the directory's 2
     ∷ meets (mapOf255 19 ∷ []) (read nameC (lent 4)) 8 (faultAt 19 255 255) (lent 4)  -- 8 and 13
     ∷ meets (mapOf255 19 ∷ []) (read nameA (lent 4)) 8 (faultAt 19 255 255) (lent 4)  -- 8 and 16
+    ∷ meets (marks 19 0xF0 ∷ []) (read nameC (lent 4)) 8 (faultAt 19 3 255) (lent 4)  -- a bit's 8 and 13
+    ∷ meets (marks 19 0xF0 ∷ []) (read nameA (lent 4)) 8 (faultAt 19 3 255) (lent 4)  -- a bit's 8 and 16
     ∷ []
 
 -- store: 16, 1, 9, 10, 2 to 8, 11, 12, 14, 15
@@ -215,6 +236,7 @@ storePairs =
     ∷ meets [] (store [] 3 []) 9 (report 0 0) []  -- 9 and 10
     ∷ meets (directoryTo 1 19 5 ∷ []) (store nameC 3 []) 10 (report 0 0) []  -- 10 and the directory's 2
     ∷ meets (mapOf255 19 ∷ version42 ∷ []) (store nameC 1 []) 8 (faultAt 19 255 255) []  -- 8 and 11
+    ∷ meets (marks 19 0xF0 ∷ version42 ∷ []) (store nameC 1 []) 8 (faultAt 19 3 255) []  -- a bit's 8 and 11
     ∷ meets (version42 ∷ []) (store nameA 1 []) 11 (report 0 0) []  -- 11 and 12
     ∷ meets (noSlotLeft ∷ []) (store nameA 1 []) 12 (report 0 0) []  -- 12 and 14
     ∷ meets (noSlotLeft ∷ []) (store nameC 1 (zeros 509)) 14 (report 0 0) []  -- 14 and 15: three sectors are needed
@@ -227,6 +249,7 @@ scratchPairs =
     ∷ meets (cut ∷ []) (scratch paddedName) 1 (report 0 0) []  -- 1 and 9
     ∷ meets (directoryTo 1 19 5 ∷ []) (scratch paddedName) 9 (report 0 0) []  -- 9 and the directory's 2
     ∷ meets (mapOf255 19 ∷ version42 ∷ []) (scratch nameA) 8 (faultAt 19 255 255) []  -- 8 and 11
+    ∷ meets (marks 19 0xF0 ∷ version42 ∷ []) (scratch nameA) 8 (faultAt 19 3 255) []  -- a bit's 8 and 11
     ∷ meets (version42 ∷ []) (scratch nameC) 11 (report 0 0) []  -- 11 and 13
     ∷ []
 
@@ -235,6 +258,7 @@ unfoldable pub tellPairs : List FaultRow
 tellPairs =
     tells (cut ∷ directoryTo 1 19 5 ∷ []) 0 (1 ∷ 0 ∷ 0 ∷ 255 ∷ [])  -- 1 and the directory's 2
     ∷ tells (mapOf255 19 ∷ []) 2 (8 ∷ 19 ∷ 255 ∷ 255 ∷ [])  -- 8 and 13
+    ∷ tells (marks 19 0xF0 ∷ []) 2 (8 ∷ 19 ∷ 3 ∷ 255 ∷ [])  -- a bit's 8 and 13
     ∷ []
 
 -- listing: 1, the directory's 2 and 3, slot by slot 4, 5, 6, and 16 for its text of 128 bytes; the answer block's 16 is in crate d64

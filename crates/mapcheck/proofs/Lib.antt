@@ -1,3 +1,4 @@
 pub mod SurveyLaws
+pub mod DifferenceLaws
 pub mod TrackLaws
 pub mod StepLaws

@@ -2,25 +2,24 @@
 -- Assumes nothing.
 use Prim.Native.Nat.{ℕ, suc, _+_, _-_, _≤_, _<_}
 use native.Mathlib.Omega.{arith}
-use mathlib.Core.Path.{_≡_, refl, sym, ap, _∙_}
-use mathlib.Core.Bool.{Bool, true, false}
+use mathlib.Core.Path.{_≡_, refl, sym, ap, ap₂, _∙_}
+use mathlib.Core.Bool.{Bool, true}
 use mathlib.Core.List.{List, [], _∷_}
 use lib.ListN.{getD}
 use borrow.Author.Tests.{lt-ltb}
 use Rattle.d64spec.specs.Lists.{Bytes, range}
-use Rattle.d64spec.specs.Answers.{Address, address, Result, done, refused, need, _>>_, wrongMapEntry}
+use Rattle.d64spec.specs.Answers.{Address, address, Fault, Result, done, refused, _>>_}
 use Rattle.d64spec.specs.Geometry.{Geometry, layout35, tracks, sectorsOn, sectorNumber, mapAddress, onDisk}
 use Rattle.d64spec.specs.Image.{Disk}
-use Rattle.d64spec.specs.Map.{entryCorrect}
-use Rattle.d64spec.specs.Check.{checkMap}
-use Rattle.d64spec.proofs.MapLaws.{correct-same}
+use Rattle.d64spec.specs.Check.{checkMap, checkTrack}
+use Rattle.d64spec.proofs.MapLaws.{checkTrack-same}
 use Rattle.owners.specs.OwnerTable.{freeBy}
 use Rattle.bam.specs.MapEntry.{Entries}
 use Rattle.bam.proofs.ShapeLaws.{EntryShape}
 use Rattle.bam.specs.MapSector.{mapEntry, mapEntries}
 use Rattle.bam.proofs.MapShapeLaws.{MapShape}
 use Rattle.bam.proofs.SectorLaws.{entry-at-map-entries}
-use Rattle.mapcheck.specs.MapChecks.{trackCorrect, mapVerdict}
+use Rattle.mapcheck.specs.MapChecks.{trackVerdict, mapVerdict}
 use Rattle.mapcheck.proofs.TrackLaws.{track-same}
 
 -- ---- what the check of the map depends on
@@ -30,19 +29,18 @@ module _ (g : Geometry) where
   pub map-alone : (d : Disk) (free : Address → Bool) (l : List ℕ) → checkMap g d free l ≡ checkMap g (λ n. d (sectorNumber g mapAddress)) free l
   map-alone d free [] = refl
   map-alone d free (t ∷ l) =
-      ap (λ (r : Result (Unit {0})). need (entryCorrect g free (d (sectorNumber g mapAddress)) t) (wrongMapEntry t) >> r) (map-alone d free l)
+      ap (λ (r : Result (Unit {0})). checkTrack g free (d (sectorNumber g mapAddress)) t >> r) (map-alone d free l)
 
   module _ {f h : Address → Bool} (same : (r : Address) → onDisk g r ≡ true → f r ≡ h r) where
-    entry-same : (m : Bytes) (t : ℕ) → entryCorrect g f m t ≡ entryCorrect g h m t
+    track-free-same : (m : Bytes) (t : ℕ) → checkTrack g f m t ≡ checkTrack g h m t
     unfolding onDisk
-    entry-same m t = correct-same g m m t (λ s b. refl) f h refl (λ s b. same (address t s) (lt-ltb s (sectorsOn g t) b))
+    track-free-same m t = checkTrack-same g m m t (λ s b. refl) f h refl (λ s b. same (address t s) (lt-ltb s (sectorsOn g t) b))
 
     -- of what is free, on the sectors of the disk alone
     pub map-free-same : (d : Disk) (l : List ℕ) → checkMap g d f l ≡ checkMap g d h l
     map-free-same d [] = refl
     map-free-same d (t ∷ l) =
-        ap (λ (b : Bool). need b (wrongMapEntry t) >> checkMap g d f l) (entry-same (d (sectorNumber g mapAddress)) t)
-        ∙ ap (λ (r : Result (Unit {0})). need (entryCorrect g h (d (sectorNumber g mapAddress)) t) (wrongMapEntry t) >> r) (map-free-same d l)
+        ap₂ (λ (x r : Result (Unit {0})). x >> r) (track-free-same (d (sectorNumber g mapAddress)) t) (map-free-same d l)
 
 -- THE STEP IS THE CHECK'S: on a disk whose map sector is m, for any test of free sectors that agrees with the table on the disk's sectors
 pub verdict-same : (d : Disk) (own : List ℕ) (free : Address → Bool) → ((r : Address) → onDisk layout35 r ≡ true → freeBy layout35 own r ≡ free r)
@@ -69,34 +67,33 @@ checking-start m own = record { low = omega arith; high = omega arith; rest = re
 
 module _ {m : Bytes} {own : List ℕ} {t : ℕ} (c : Checking m own t) where
   -- the loop's own track, by its entry of the loaded map
-  module _ (h : t ≤ 35) {es : Entries} (loaded : es ≡ mapEntries m) (shape : MapShape es) {r : Bool} (told : r ≡ trackCorrect (getD es (t - 1) []) own t) where
+  module _ (h : t ≤ 35) {es : Entries} (loaded : es ≡ mapEntries m) (shape : MapShape es) {r : Result (Unit {0})} (told : r ≡ trackVerdict (getD es (t - 1) []) own t) where
     entry-told : getD es (t - 1) [] ≡ mapEntry layout35 m t
     entry-told =
         let low : 1 ≤ t = c .low in
         let z : t - 1 + 1 ≡ t = omega arith in
         ap (λ (x : Entries). getD x (t - 1) []) loaded ∙ entry-at-map-entries m (t - 1) (omega arith) ∙ ap (mapEntry layout35 m) z
 
-    track-told : r ≡ entryCorrect layout35 (freeBy layout35 own) m t
+    track-told : r ≡ checkTrack layout35 (freeBy layout35 own) m t
     track-told =
         let low : 1 ≤ t = c .low in
         let own-shape : EntryShape (mapEntry layout35 m t) = rw entry-told at (shape .entry (t - 1) (omega arith)) in
-        told ∙ ap (λ (e : Bytes). trackCorrect e own t) entry-told ∙ track-same m own t own-shape
+        told ∙ ap (λ (e : Bytes). trackVerdict e own t) entry-told ∙ track-same m own t own-shape
 
-    next : need r (wrongMapEntry t) >> verdictFrom m own (t + 1) (36 - (t + 1)) ≡ mapVerdict m own
+    next : r >> verdictFrom m own (t + 1) (36 - (t + 1)) ≡ mapVerdict m own
     unfolding verdictFrom
     next =
         let z : 36 - t ≡ suc (36 - (t + 1)) = omega arith in
         let y : t + 1 ≡ suc t = omega arith in
-        ap (λ (b : Bool). need b (wrongMapEntry t) >> verdictFrom m own (t + 1) (36 - (t + 1))) track-told
-        ∙ ap (λ (k : ℕ). need (entryCorrect layout35 (freeBy layout35 own) m t) (wrongMapEntry t) >> verdictFrom m own k (36 - (t + 1))) y
+        ap₂ (λ (x : Result (Unit {0})) (k : ℕ). x >> verdictFrom m own k (36 - (t + 1))) track-told y
         ∙ ap (verdictFrom m own t) (sym z) ∙ c .rest
 
     -- a correct entry: the next track
-    pub checking-moved : r ≡ true → Checking m own (t + 1)
+    pub checking-moved : r ≡ done tt → Checking m own (t + 1)
     checking-moved e = record { low = omega arith; high = omega arith; rest = rw e at next }
 
     -- a wrong one is refused
-    pub checking-wrong : r ≡ false → refused (wrongMapEntry t) ≡ mapVerdict m own
+    pub checking-wrong : {f : Fault} → r ≡ refused f → refused f ≡ mapVerdict m own
     checking-wrong e = rw e at next
 
   pub checking-finished : 35 < t → done tt ≡ mapVerdict m own

@@ -4,7 +4,7 @@
 ghost use mathlib.Core.Path.{_≡_};
 ghost use Prim.Native.Nat.{_+_, _≤_};
 ghost use Rattle.answers.specs.Faults.{verdictOf};
-ghost use Rattle.mapcheck.specs.MapChecks.{unownedTrack, Surveyed, trackCorrect, mapVerdict};
+ghost use Rattle.mapcheck.specs.MapChecks.{unownedTrack, Surveyed, lowestDifference, trackVerdict, mapVerdict};
 use answers::Fault;
 use answers::Verdict;
 
@@ -73,18 +73,30 @@ fn survey(own: &[u8; 683], first: usize, sectors: u8) -> FreeSectors
     survey_each(own, first, sectors)
 }
 
-// Whether a track's entry marks exactly the sectors that nobody owns, and counts them.
-fn entry_correct(entry: [u8; 4], own: &[u8; 683], track: u8) -> bool
+// The lowest bit in which two numbers differ, and 255 where they are equal.
+fn lowest_difference(a: u32, b: u32) -> u8
+    ensures { λ r. ⌜ r ≡ lowestDifference a b ⌝ }
+{
+    if a == b {
+        return 255;
+    }
+    u32::trailing_zeros(a ^ b) as u8
+}
+
+// A track's entry: right where it marks exactly the sectors that nobody owns, and counts them; else refused at the lowest sector whose bit is wrong.
+fn check_track(entry: [u8; 4], own: &[u8; 683], track: u8) -> Verdict
     requires { ⌜ (1 ≤ track) × (track ≤ 35) ⌝ }
-    ensures { λ r. ⌜ r ≡ trackCorrect entry (now (own .entry)) track ⌝ }
+    ensures { λ r. ⌜ verdictOf r ≡ trackVerdict entry (now (own .entry)) track ⌝ }
 {
     let sectors = geometry::sectors_on(track);
     let free = survey(own, geometry::first_on(track) as usize, sectors);
     let bitmap = entry[1] as u32 + 256 * (entry[2] as u32) + 65536 * (entry[3] as u32);
-    if bitmap % (1 << sectors) != free.mask {
-        return false;
+    let marked = bitmap % (1 << sectors);
+    if marked == free.mask && entry[0] == free.count {
+        return Verdict::Fine;
     }
-    entry[0] == free.count
+    let sector = lowest_difference(marked, free.mask);
+    Verdict::Refused(Fault::WrongMapEntry { track, sector })
 }
 
 // The map, track 1 to 35: the first track whose entry is wrong is refused.
@@ -96,8 +108,9 @@ pub fn check_map(sector: &[u8], own: &[u8; 683]) -> Verdict
     while track <= 35 {
         let i = (track - 1) as usize;
         let entry = map[i];
-        if !entry_correct(entry, own, track) {
-            return Verdict::Refused(Fault::WrongMapEntry(track));
+        match check_track(entry, own, track) {
+            Verdict::Fine => {}
+            Verdict::Refused(fault) => return Verdict::Refused(fault),
         }
         track += 1;
     }

@@ -3,9 +3,8 @@
 use Prim.Native.Nat.{_-_}
 use native.Mathlib.Omega.{arith}
 use borrow.Author.Needs.{needs}
-use borrow.Author.Tests.{not-true, not-false}
 use Rattle.bam.proofs.MapShapeLaws.{MapShape, map-shaped}
-use Rattle.answers.specs.Faults.{faultOf, verdictOf}
+use Rattle.answers.specs.Faults.{verdictOf}
 use Rattle.mapcheck.proofs.StepLaws.{Checking, checking-start, checking-moved, checking-wrong, checking-finished}
 use Rattle.mapcheck.proofs.check_map.Statement.{statement}
 use Rattle.mapcheck.proofs.check_map.Tie as tie
@@ -38,15 +37,22 @@ mul-entry c = search needs
 array-copy-out-entry : tie.Need-array-copy-out-entry Inv-loop μ-loop
 array-copy-out-entry c = search needs
 
-entry-correct-requires : tie.Need-entry-correct-requires Inv-loop μ-loop
-entry-correct-requires c κs = search needs
+check-track-requires : tie.Need-check-track-requires Inv-loop μ-loop
+check-track-requires c κs = search needs
+
+enum-told : tie.Need-enum-told Inv-loop μ-loop
+enum-told c = search needs
+
+enum-known-fault : tie.Need-enum-known-fault Inv-loop μ-loop
+enum-known-fault c = search needs
 
 returns : tie.Need-returns Inv-loop μ-loop
-unfolding verdictOf faultOf
+unfolding verdictOf
 returns c =
-    let told = c .before .entry-correct in
-    let at = c .before .before .before .before in
-    checking-wrong (at .loop .inv) (omega arith) (at .before .load-map .ensures) (shape (at .before)) (told .ensures) (not-true _ (c .if1 .taken))
+    let fault = c .before in
+    let told = fault .before .before in
+    let at = told .before .before .before in
+    checking-wrong (at .loop .inv) (omega arith) (at .before .load-map .ensures) (shape (at .before)) (told .check-track .ensures) (rw (fault .fault .given .1))
 
 add-track : tie.Need-add-track Inv-loop μ-loop
 add-track c = search needs
@@ -55,10 +61,11 @@ loop-less : tie.Need-loop-less Inv-loop μ-loop
 loop-less c = search needs
 
 loop-again : tie.Need-loop-again Inv-loop μ-loop
+unfolding verdictOf
 loop-again c =
-    let told = c .before .entry-correct in
-    let at = c .before .before .before .before in
-    checking-moved (at .loop .inv) (omega arith) (at .before .load-map .ensures) (shape (at .before)) (told .ensures) (not-false _ (c .if1 .left))
+    let told = c .before .before in
+    let at = told .before .before .before in
+    checking-moved (at .loop .inv) (omega arith) (at .before .load-map .ensures) (shape (at .before)) (told .check-track .ensures) (rw (c .enum-told .given .1))
 
 returns-2 : tie.Need-returns-2 Inv-loop μ-loop
 unfolding verdictOf
@@ -76,7 +83,9 @@ check-map-spec =
     cast-i
     mul-entry
     array-copy-out-entry
-    entry-correct-requires
+    check-track-requires
+    enum-told
+    enum-known-fault
     returns
     add-track
     loop-less

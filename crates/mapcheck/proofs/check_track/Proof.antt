@@ -1,15 +1,20 @@
--- `mapcheck::entry_correct`: the bitmap is compared with the surveyed mask, and where they agree the count decides.
+-- `mapcheck::check_track`: the bitmap's lowest bits are compared with the surveyed mask, then the count; a wrong entry is refused at the lowest bit that
+-- differs.
 -- Assumes nothing.
 use native.Mathlib.Omega.{arith}
+use mathlib.Core.Path.{refl}
+use mathlib.Core.Logic.{inl, inr}
 use lib.Pow.{pow-pos}
 use borrow.Author.Needs.{needs}
+use borrow.Author.Tests.{eqb-false, eqb-true}
 use Rattle.geometry.proofs.TableLaws.{track-end-le}
+use Rattle.answers.specs.Faults.{faultOf, verdictOf}
 use Rattle.bam.specs.MapEntry.{bitmapOf}
 use Rattle.bam.proofs.BitmapLaws.{power-le, shifted}
 use Rattle.bam.proofs.ShapeLaws.{EntryShape, entry-shaped}
-use Rattle.mapcheck.proofs.TrackLaws.{track-wrong, track-by-count}
-use Rattle.mapcheck.proofs.entry_correct.Statement.{statement}
-use Rattle.mapcheck.proofs.entry_correct.Tie as tie
+use Rattle.mapcheck.proofs.TrackLaws.{track-right, track-wrong}
+use Rattle.mapcheck.proofs.check_track.Statement.{statement}
+use Rattle.mapcheck.proofs.check_track.Tie as tie
 
 -- the entry's bytes are bytes
 shape : (c : tie.Start) → EntryShape (c .args .t1)
@@ -60,40 +65,47 @@ mul-bitmap-2 c = let e = shape (c .before .before .before) in omega (arith, e .s
 add-bitmap-2 : tie.Need-add-bitmap-2
 add-bitmap-2 c = let e = shape (c .before .before .before) in omega (arith, e .small 1, e .small 2, e .small 3)
 
-cast-if1 : tie.Need-cast-if1
-cast-if1 c = search needs
+cast-marked : tie.Need-cast-marked
+cast-marked c = search needs
 
-shl-if1 : tie.Need-shl-if1
-shl-if1 c = search needs
+shl-marked : tie.Need-shl-marked
+shl-marked c = search needs
 
-rem-if1 : tie.Need-rem-if1
-rem-if1 c =
+rem-marked : tie.Need-rem-marked
+rem-marked c =
     let n = c .before .before .sectors-on in
     omega (arith, power-le (n .result) (omega (arith, n .ensures .small)), pow-pos (n .result))
 
-returns : tie.Need-returns
-unfolding bitmapOf
-returns c =
-    let k = c .before .before in
-    let n = k .before .before .sectors-on in
-    track-wrong _ _ _ (k .before .first-on .ensures) (n .ensures .sectors) (k .survey .ensures)
-    (shifted (n .result) (omega (arith, n .ensures .small)))
-    (λ q. c .if1 .taken (omega (arith, q)))
+array-read-if2 : tie.Need-array-read-if2
+array-read-if2 c = search needs
 
-array-read-result : tie.Need-array-read-result
-array-read-result c = search needs
+returns : tie.Need-returns
+unfolding verdictOf bitmapOf
+returns c =
+    let at = c .before .before .before .before in
+    let n = at .before .before .sectors-on in
+    track-right _ _ _ (at .before .first-on .ensures) (n .ensures .sectors) (at .survey .ensures)
+    (shifted (n .result) (omega (arith, n .ensures .small))) refl
+    (omega (arith, c .before .before .if1 .taken)) (eqb-true _ _ (c .if2 .taken))
+
+lowest-difference-requires : tie.Need-lowest-difference-requires
+lowest-difference-requires c κs = search needs
 
 returns-2 : tie.Need-returns-2
-unfolding bitmapOf
+unfolding verdictOf faultOf bitmapOf
 returns-2 c =
-    let k = c .before .before .before in
-    let n = k .before .before .sectors-on in
-    track-by-count _ _ _ (k .before .first-on .ensures) (n .ensures .sectors) (k .survey .ensures)
-    (shifted (n .result) (omega (arith, n .ensures .small)))
-    (omega (arith, c .before .if1 .left))
+    let at = c .before .before .before in
+    let n = at .before .before .sectors-on in
+    track-wrong _ _ _ (at .before .first-on .ensures) (n .ensures .sectors) (at .survey .ensures)
+    (shifted (n .result) (omega (arith, n .ensures .small))) refl
+    (c .lowest-difference .ensures)
+    (elim (c .before .if1 .came) [
+      | inl w ↦ λ mask count. eqb-false _ _ (w .2 .left) count
+      | inr w ↦ λ mask count. w .left (omega (arith, mask))
+    ])
 
-pub entry-correct-spec : {M : Type 1} → statement M
-entry-correct-spec =
+pub check-track-spec : {M : Type 1} → statement M
+check-track-spec =
     tie.close
     (tie.spec
     sectors-on-requires
@@ -110,9 +122,10 @@ entry-correct-spec =
     cast-bitmap-3
     mul-bitmap-2
     add-bitmap-2
-    cast-if1
-    shl-if1
-    rem-if1
+    cast-marked
+    shl-marked
+    rem-marked
+    array-read-if2
     returns
-    array-read-result
+    lowest-difference-requires
     returns-2)
