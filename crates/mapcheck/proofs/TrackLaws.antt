@@ -167,8 +167,9 @@ module _ (e : Bytes) (own : List ℕ) (t : ℕ) {first n : ℕ} {r : FreeSectors
     pub track-right : n′ ≡ r .mask → byte e 0 ≡ r .count → done tt ≡ trackVerdict e own t
     track-right mask count = rw (eq-eqb _ _ mask, eq-eqb _ _ count) at verdict-found
 
-    -- and refused where one of them does not
-    pub track-wrong : {s : ℕ} → s ≡ lowestDifference n′ (r .mask) → (n′ ≡ r .mask → byte e 0 ≡ r .count → ⊥) → refused (wrongMapEntry (address t s)) ≡ trackVerdict e own t
-    track-wrong {s} named wrong =
-        ap (λ (x : ℕ). refused (wrongMapEntry (address t x))) named
+    -- and refused where one of them does not; a and b are the numbers that the code compares
+    pub track-wrong : {t′ s a b : ℕ} → s ≡ lowestDifference a b → a ≡ n′ → b ≡ r .mask → t′ ≡ t
+        → (n′ ≡ r .mask → byte e 0 ≡ r .count → ⊥) → refused (wrongMapEntry (address t′ s)) ≡ trackVerdict e own t
+    track-wrong named same-a same-b same-t wrong =
+        ap₂ (λ (x y : ℕ). refused (wrongMapEntry (address x y))) same-t (named ∙ ap₂ lowestDifference same-a same-b)
         ∙ rw (both-false (eqb n′ (r .mask)) (eqb (byte e 0) (r .count)) (λ x y. wrong (eqb-true _ _ x) (eqb-true _ _ y))) at verdict-found

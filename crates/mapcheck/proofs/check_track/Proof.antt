@@ -98,7 +98,7 @@ returns-2 c =
     let n = at .before .before .sectors-on in
     track-wrong _ _ _ (at .before .first-on .ensures) (n .ensures .sectors) (at .survey .ensures)
     (shifted (n .result) (omega (arith, n .ensures .small))) refl
-    (c .lowest-difference .ensures)
+    (c .lowest-difference .ensures) (omega arith) refl (omega arith)
     (elim (c .before .if1 .came) [
       | inl w ↦ λ mask count. eqb-false _ _ (w .2 .left) count
       | inr w ↦ λ mask count. w .left (omega (arith, mask))
