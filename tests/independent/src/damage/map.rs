@@ -86,12 +86,12 @@ fn both(one: Entry, two: Entry) -> Fault {
     fault
 }
 
-/// One of a track's sectors. The last one is common: there a mask of the
-/// track's own bits goes wrong. So are those at the ends of the bitmap's bytes.
+/// One of a track's sectors. Half of the time it is the last: there a mask of
+/// the track's own bits goes wrong. The ends of the bitmap's bytes are common.
 fn any_sector(rng: &mut Rng, track: u8) -> u8 {
     let sectors = track_length(track);
     let any = rng.below(usize::from(sectors)) as u8;
-    match rng.one_in(3) {
+    match rng.one_in(2) {
         true => sectors - 1,
         false => rng.pick(&[0, 7, 8, 15, 16, any, any, any]),
     }
