@@ -280,8 +280,8 @@ static void maps_that_go_wrong(void)
 {
     two_files();
     map_entry(image, 35)[3] &= 0xFE; /* sector 16, the last of track 35, which is free */
-    ALL_REFUSE(D64_WRONG_MAP, 35, 255, 255);
-    map_entry(image, 1)[0]--;
+    ALL_REFUSE(D64_WRONG_MAP, 35, 16, 255);
+    map_entry(image, 1)[0]--; /* only the count is wrong */
     ALL_REFUSE(D64_WRONG_MAP, 1, 255, 255);
     EXPECT(list(sizeof out), D64_DONE);
 }
@@ -300,11 +300,11 @@ static const struct ends {
 
 /*
  * With these bits the disk is accepted, read and listed. With a count that counts them, or the last sector's bit wrong,
- * it is refused.
+ * it is refused; that sector is named, and no bit past it.
  */
 static void with_spare(const struct ends *end, int bits, int counted)
 {
-    const int own = end->entry[3], last = own - own / 2;
+    const int own = end->entry[3], last = own - own / 2, sector = sectors_of(end->track) - 1;
     uint8_t *entry = map_entry(image, end->track);
     entry[3] = (uint8_t)(own | bits);
     EXPECT(check(), D64_DONE);
@@ -317,9 +317,9 @@ static void with_spare(const struct ends *end, int bits, int counted)
     ALL_REFUSE(D64_WRONG_MAP, end->track, 255, 255);
     entry[0] = end->entry[0];
     entry[3] = (uint8_t)((own - last) | bits);
-    ALL_REFUSE(D64_WRONG_MAP, end->track, 255, 255);
+    ALL_REFUSE(D64_WRONG_MAP, end->track, sector, 255);
     entry[0]--;
-    ALL_REFUSE(D64_WRONG_MAP, end->track, 255, 255);
+    ALL_REFUSE(D64_WRONG_MAP, end->track, sector, 255);
     memcpy(entry, end->entry, 4);
 }
 

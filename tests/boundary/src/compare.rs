@@ -4,7 +4,7 @@
 use crate::calls::{EntryPoints, Slice};
 use crate::memory::Guarded;
 use independent::geometry::{IMAGE_BYTES, TRACK_18_BYTES, TRACK_18_OFFSET};
-use independent::request::{lent, perform, Call, Independent, Request};
+use independent::request::{lent, perform, Call, Independent, Reply, Request};
 use independent::rng::Rng;
 
 /// The image, or track 18 alone, as lent to the library under test, and as
@@ -103,13 +103,13 @@ fn run(library: &dyn EntryPoints, call: &Call, disk: Slice, memory: &mut Lent) -
     }
 }
 
-/// Runs a request on both sides. Gives the number owed, or all that differs.
+/// Runs a request on both sides. Gives what is owed, or all that differs.
 pub fn compare(
     library: &dyn EntryPoints,
     disk: &mut Disk,
     request: &Request,
     rng: &mut Rng,
-) -> Result<u32, Vec<String>> {
+) -> Result<Reply, Vec<String>> {
     let owed = perform(&Independent, &mut disk.expected, request)
         .expect("the independent program has every call");
     let mut memory = Lent::to(request, rng);
@@ -124,7 +124,7 @@ pub fn compare(
     found.extend(memory.data.differences("data", data_of(&request.call)));
     found.extend(disk.lent.differences("image", &disk.expected));
     match found.is_empty() {
-        true => Ok(owed.number),
+        true => Ok(owed),
         false => Err(found),
     }
 }

@@ -137,7 +137,7 @@ pub fn compare_list(
             eprintln!("{}", list.shown(at));
         }
         match compare(library, &mut disk, request, rng) {
-            Ok(number) => tally.count(&request.call, number),
+            Ok(owed) => tally.count(&request.call, &owed),
             Err(differences) => {
                 return Err(Failure {
                     request: list.shown(at),

@@ -46,7 +46,7 @@ pub fn run_round(
                     eprintln!("SEED={round} {}", shown());
                 }
                 match compare(library, &mut disk, request, rng) {
-                    Ok(number) => tally.count(&request.call, number),
+                    Ok(owed) => tally.count(&request.call, &owed),
                     Err(differences) => {
                         return Err(Failure {
                             request: shown(),

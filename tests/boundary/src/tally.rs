@@ -1,8 +1,8 @@
 //! What a run of the comparison met: how often each call gave each number,
-//! and the first difference.
+//! and 8 with each sector, and the first difference.
 
 use crate::compare::word_of;
-use independent::request::Call;
+use independent::request::{Call, Reply};
 use std::collections::BTreeMap;
 use std::fmt;
 
@@ -29,18 +29,60 @@ pub const ON_ACCEPTED: &[(&str, &[u32])] = &[
     ("scratch", &[0, 9, 11, 13, 16]),
 ];
 
+/// The calls that pass on answer 8.
+pub const CHECKING: [&str; 5] = ["check", "read", "store", "scratch", "tell"];
+
 /// How often each call gave each number, and on how many images.
 #[derive(Default)]
 pub struct Tally {
     pub images: usize,
     pub calls: usize,
     pub numbers: BTreeMap<(&'static str, u32), usize>,
+    /// How often each call gave 8 with each sector, 255 among them (02, §3).
+    pub named: BTreeMap<(&'static str, u8), usize>,
 }
 
 impl Tally {
-    pub fn count(&mut self, call: &Call, number: u32) {
+    /// Counts a call by what is owed for it.
+    pub fn count(&mut self, call: &Call, owed: &Reply) {
         self.calls += 1;
-        *self.numbers.entry((word_of(call), number)).or_default() += 1;
+        let call = word_of(call);
+        *self.numbers.entry((call, owed.number)).or_default() += 1;
+        if owed.number == 8 {
+            *self.named.entry((call, owed.block[1])).or_default() += 1;
+        }
+    }
+
+    /// Which calls gave 8 with a sector, or with 255, fewer than `enough`
+    /// times, or never with one of the sectors 0 to 20.
+    pub fn thin_places(&self, enough: usize) -> Vec<String> {
+        let mut found = Vec::new();
+        for call in CHECKING {
+            let named = |sector| self.named.get(&(call, sector)).copied().unwrap_or(0);
+            let sectors: usize = (0..21).map(named).sum();
+            for (times, what) in [(sectors, "a sector"), (named(255), "255")] {
+                if times < enough {
+                    found.push(format!("{call} gave 8 with {what} only {times} times"));
+                }
+            }
+            let missed = (0..21).filter(|sector| named(*sector) == 0);
+            found.extend(missed.map(|sector| format!("{call} never gave 8 with sector {sector}")));
+        }
+        found
+    }
+
+    /// How often 8 was given with a sector, and with 255, by call.
+    fn shown_places(&self) -> String {
+        let of = |call: &str, with: fn(u8) -> bool| -> usize {
+            let named = self.named.iter();
+            let named = named.filter(|((word, sector), _)| *word == call && with(*sector));
+            named.map(|(_, times)| times).sum()
+        };
+        let shown = CHECKING.map(|call| {
+            let (sectors, counts) = (of(call, |s| s != 255), of(call, |s| s == 255));
+            format!("{call} {sectors} and {counts}")
+        });
+        shown.join(", ")
     }
 
     /// Which of the numbers owed fewer than `enough` calls gave: the
@@ -68,6 +110,13 @@ impl fmt::Display for Tally {
                 word = call;
             }
             write!(to, " {number}:{count}")?;
+        }
+        if !self.named.is_empty() {
+            write!(
+                to,
+                "\n8 with a sector, and with 255: {}",
+                self.shown_places()
+            )?;
         }
         Ok(())
     }

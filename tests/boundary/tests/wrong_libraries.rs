@@ -14,7 +14,7 @@ use independent::plain::{
 use wrong::changes::{ScratchEdited, StoreEdited};
 use wrong::formatting::FormatEdited;
 use wrong::spare::CheckSees;
-use wrong::{formatting, reading, scratching, spare, stored, storing, usr, Row};
+use wrong::{formatting, place, reading, scratching, spare, stored, storing, usr, Row};
 
 /// Rounds within which each wrong library is to be found.
 const ROUNDS: u64 = 24;
@@ -75,6 +75,11 @@ fn each_wrong_about_usr_files_is_found() {
 #[test]
 fn each_wrong_about_spare_bits_is_found() {
     each_is_found(spare::WRONG);
+}
+
+#[test]
+fn each_wrong_about_the_place_of_8_is_found() {
+    each_is_found(place::WRONG);
 }
 
 /// What demand 3 finds by itself, with no independent program beside the

@@ -170,7 +170,7 @@ void request_compare(struct disk *disk, const struct request *request)
     uint32_t number = run(tested_library(), request, &lent), due = run(&oracle, request, &owed);
     if (number != due)
         fprintf(stderr, "  number: %u, not %u\n", number, due);
-    bool named = tally(request->call, due);
+    bool named = tally(request->call, due, owed_answer[1]);
     if (!named)
         fprintf(stderr, "  number: %u, which d64.h does not name for this call\n", due);
     if (all_differences(disk, &owed) + (number != due) + !named != 0) {

@@ -1,7 +1,7 @@
 /*
  * Writes the seed corpus to the folder given: for each start image the calls in turn, then damage of every sort, with
- * the map made right again and not, then full disks, USR files, bits past the last sectors, the edges of names,
- * amounts and sizes, and bytes as they stand.
+ * the map made right again and not, then full disks, USR files, bits past the last sectors, wrong bits of the map, the
+ * edges of names, amounts and sizes, and bytes as they stand.
  */
 #include <stdio.h>
 #include <stdlib.h>
@@ -215,6 +215,31 @@ static void seeds_of_spare(void)
     }
 }
 
+/*
+ * Wrong bits of the map on tracks of each length: the first sector's and the last's alone, then both, then a bit past
+ * the last sector besides; the count is as it was, or follows.
+ */
+static void seeds_of_map_bits(void)
+{
+    static const unsigned char tracks[][2] = {{1, 20}, {17, 20}, {18, 18}, {24, 18}, {25, 17}, {30, 17}, {31, 16},
+                                              {35, 16}};
+    for (unsigned char which = 1; which < 8; which++) {
+        for (size_t i = 0; i < 2 * (sizeof tracks / sizeof *tracks); i++) {
+            unsigned char track = tracks[i / 2][0], last = tracks[i / 2][1], follows = i % 2 ? 128 : 0;
+            begin(FEW_FILES, 0, 0);
+            if (which & 1)
+                PUT(OP_MAP_BIT, track, follows);
+            if (which & 2)
+                PUT(OP_MAP_BIT, track, (unsigned char)(follows + last));
+            if (which & 4)
+                PUT(OP_MAP_BIT, track, (unsigned char)(follows + last + 1));
+            put_looks();
+            put_store(FROM_POOL, 0, AS_IS, 44, 1);
+            put_scratch(OF_FILE, 0);
+        }
+    }
+}
+
 /* Names, kinds, answer blocks, positions, outputs and images of sizes at the edges. */
 static void seeds_of_edges(void)
 {
@@ -262,6 +287,7 @@ int main(int argc, char **argv)
     seeds_of_orders();
     seeds_of_usr();
     seeds_of_spare();
+    seeds_of_map_bits();
     seeds_of_edges();
     seeds_of_images();
     finish();

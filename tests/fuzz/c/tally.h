@@ -1,4 +1,4 @@
-/* How often each call was answered by each number, over all inputs of a run. */
+/* How often each call was answered by each number, and 8 with a sector and with 255, over all inputs of a run. */
 #ifndef TALLY_H
 #define TALLY_H
 
@@ -7,8 +7,8 @@
 
 #include "request.h"
 
-/* Counts an answer; gives whether d64.h names the number for the call. */
-bool tally(enum call call, uint32_t number);
+/* Counts an answer and its place's sector; gives whether d64.h names the number for the call. */
+bool tally(enum call call, uint32_t number, uint8_t sector);
 
 /* The tally is printed when the program ends by itself. */
 void tally_at_exit(void);

@@ -170,6 +170,46 @@ static uint32_t store_clears_bits(uint8_t *image, size_t len, const uint8_t *nam
     return number;
 }
 
+/* 12: the highest of a track's wrong bits is named: those below it are put right in a copy first. */
+static uint32_t check_names_the_highest(const uint8_t *image, size_t len, uint8_t *answer, size_t answer_len)
+{
+    uint32_t number = d64_check(image, len, answer, answer_len);
+    uint8_t next[D64_BLOCK_BYTES];
+    if (number != D64_WRONG_MAP)
+        return number;
+    memcpy(copy, image, len);
+    memcpy(next, answer, sizeof next);
+    while (next[0] == answer[0] && next[1] != 255) {
+        answer[1] = next[1];
+        map_entry(copy, next[0])[1 + next[1] / 8] ^= (uint8_t)(1 << next[1] % 8);
+        d64_check(copy, len, next, sizeof next);
+    }
+    return number;
+}
+
+/* 13: a store gives 255 for a wrong bit, as it did before, on tracks 19 to 35. */
+static uint32_t store_names_no_sector(uint8_t *image, size_t len, const uint8_t *name, size_t name_len, uint32_t kind,
+                                      const uint8_t *data, size_t data_len, uint8_t *answer, size_t answer_len)
+{
+    uint32_t number = d64_store(image, len, name, name_len, kind, data, data_len, answer, answer_len);
+    if (number == D64_WRONG_MAP && answer[0] > 18)
+        answer[1] = 255;
+    return number;
+}
+
+/* 14: beside a wrong count a scratch names a bit past the last sector of a track from 25 on. */
+static uint32_t scratch_names_a_spare_bit(uint8_t *image, size_t len, const uint8_t *name, size_t name_len,
+                                          uint8_t *answer, size_t answer_len)
+{
+    uint32_t number = d64_scratch(image, len, name, name_len, answer, answer_len);
+    if (number != D64_WRONG_MAP || answer[1] != 255 || answer[0] < 25)
+        return number;
+    int spare = map_entry(image, answer[0])[3] & spare_mask(answer[0]);
+    if (spare != 0)
+        answer[1] = (uint8_t)(16 + __builtin_ctz((unsigned)spare));
+    return number;
+}
+
 const struct library *tested_library(void)
 {
     static struct library wrong;
@@ -189,6 +229,9 @@ const struct library *tested_library(void)
     case 9: wrong.store = store_of_full_sectors; break;
     case 10: wrong.scratch = scratch_leaves_usr; break;
     case 11: wrong.store = store_clears_bits; break;
+    case 12: wrong.check = check_names_the_highest; break;
+    case 13: wrong.store = store_names_no_sector; break;
+    case 14: wrong.scratch = scratch_names_a_spare_bit; break;
     default: break;
     }
     return &wrong;

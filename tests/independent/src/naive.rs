@@ -88,6 +88,13 @@ pub fn accepted(image: &[u8]) -> bool {
 
 /// What the image holds, or `None` if it isn't accepted.
 pub fn contents(image: &[u8]) -> Option<Contents> {
+    let map = sector_bytes(image, (18, 0))?;
+    contents_but_map(image).filter(|held| map_agrees(map, &held.owners))
+}
+
+/// What the image holds, whatever its map says, or `None` if it would be
+/// refused with a right map too.
+fn contents_but_map(image: &[u8]) -> Option<Contents> {
     if image.len() != 174_848 {
         return None;
     }
@@ -95,13 +102,30 @@ pub fn contents(image: &[u8]) -> Option<Contents> {
     let files = files(image, &directory)?;
     let owners = owners(&directory, &files)?;
     let names: HashSet<&[u8]> = files.iter().map(|file| file.name.as_slice()).collect();
-    let map = sector_bytes(image, (18, 0))?;
-    let sound = names.len() == files.len() && map_agrees(map, &owners);
+    let sound = names.len() == files.len();
     sound.then_some(Contents {
         owners,
         directory,
         files,
     })
+}
+
+/// The place that answer 8 names, on an image of which only the map is wrong
+/// (02, §3). Each wrong bit stands at its sector, and each wrong count at
+/// sector 255 of its track; the first of them all is the place.
+pub fn wrong_entry(image: &[u8]) -> Option<Place> {
+    let map = sector_bytes(image, (18, 0))?;
+    let owners = contents_but_map(image)?.owners;
+    let free: HashSet<Place> = places()
+        .zip(owners)
+        .filter(|(_, owner)| *owner == Owner::Nobody)
+        .map(|(place, _)| place)
+        .collect();
+    let bits = places().filter(|place| map_bit(map, *place) != free.contains(place));
+    let right = |track: u8| free.iter().filter(|place| place.0 == track).count();
+    let counts =
+        (1..=35u8).filter(|&track| usize::from(map[4 * usize::from(track)]) != right(track));
+    bits.chain(counts.map(|track| (track, 255))).min()
 }
 
 /// Follows the directory for at most as many steps as a disk has sectors; a

@@ -57,7 +57,7 @@ fn compare_block(image: &[u8], request: &Request, reply: &Reply, shown: &str) {
             block_of(&fault).to_vec()
         }
         number @ 2..=8 => {
-            let fault = check(image);
+            let fault = model::fault(image);
             assert_eq!(u32::from(fault.number), number, "{shown}");
             block_of(&fault).to_vec()
         }

@@ -7,10 +7,11 @@ use boundary::tally::{Tally, EVERY_NUMBER};
 use independent::rng::seeds;
 use std::process::ExitCode;
 
-/// 67 images each.
+/// 74 images each.
 const ROUNDS: u64 = 1000;
 
-/// Each number that a call may give is to be met so often.
+/// Each number that a call may give is to be met so often, and 8 so often with
+/// a sector and with 255.
 const ENOUGH: usize = 100;
 
 fn main() -> ExitCode {
@@ -26,7 +27,8 @@ fn main() -> ExitCode {
     }
     println!("{tally}");
     // Fewer rounds than usual may well be thin.
-    let thin = tally.thin(EVERY_NUMBER, ENOUGH);
+    let mut thin = tally.thin(EVERY_NUMBER, ENOUGH);
+    thin.extend(tally.thin_places(ENOUGH));
     if rounds.len() as u64 >= ROUNDS && !thin.is_empty() {
         println!("{}", thin.join("\n"));
         return ExitCode::FAILURE;

@@ -3,6 +3,7 @@
 
 pub mod changes;
 pub mod formatting;
+pub mod place;
 pub mod reading;
 pub mod scratching;
 pub mod spare;

@@ -8,7 +8,7 @@ mod wrong;
 
 use boundary::calls::{EntryPoints, Slice};
 use std::sync::atomic::{AtomicUsize, Ordering};
-use wrong::{formatting, reading, scratching, spare, stored, storing, usr, Row};
+use wrong::{formatting, place, reading, scratching, spare, stored, storing, usr, Row};
 
 static CHOSEN: AtomicUsize = AtomicUsize::new(0);
 
@@ -21,6 +21,7 @@ fn rows() -> impl Iterator<Item = &'static Row> {
         scratching::WRONG,
         usr::WRONG,
         spare::WRONG,
+        place::WRONG,
     ]
     .into_iter()
     .flatten()

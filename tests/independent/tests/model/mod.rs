@@ -1,7 +1,7 @@
 //! The calls said again as plainly as possible (01, What the calls do; Sleeve
 //! listing), over what the naive test finds on an image: the number each call
 //! owes, what it gives, and the image after it. The library is compared with
-//! this, byte for byte. Only which of 2 to 8 a refused image gives is taken
+//! this, byte for byte. Only which of 2 to 7 a refused image gives is taken
 //! from the check; tests/damaged_images.rs holds that against planted faults.
 
 // Each test file uses a part of this.
@@ -10,7 +10,9 @@
 use independent::answer::Answer;
 use independent::calls::Told;
 use independent::check::check;
-use independent::naive::{contents, places, position, track_length, Contents, File, Owner};
+use independent::naive::{
+    contents, places, position, track_length, wrong_entry, Contents, File, Owner,
+};
 use independent::request::{perform, Call, Library, Request};
 use std::collections::HashSet;
 
@@ -51,8 +53,17 @@ pub fn number(image: &[u8], request: &Request) -> u32 {
         return 0;
     }
     match contents(image) {
-        None => u32::from(check(image).number),
+        None => u32::from(fault(image).number),
         Some(held) => number_when_accepted(image, &held, call),
+    }
+}
+
+/// What the check owes an image that is not accepted: 8 if only its map is
+/// wrong, with the place that `naive` finds (02, §3).
+pub fn fault(image: &[u8]) -> Answer {
+    match wrong_entry(image) {
+        Some((track, sector)) => Answer::fault(8, track, sector, 255),
+        None => check(image),
     }
 }
 
