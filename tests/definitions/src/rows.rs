@@ -3,8 +3,9 @@
 use independent::answer::Answer;
 use independent::calls::{format, scratch, store, tell};
 use independent::check::check;
-use independent::geometry::{IMAGE_BYTES, TRACK_18_BYTES, TRACK_18_OFFSET};
+use independent::geometry::{sectors_on, IMAGE_BYTES, TRACK_18_BYTES, TRACK_18_OFFSET};
 use independent::listing::sleeve_output;
+use independent::rng::Rng;
 use independent::sound::{map_offset, spare_mask};
 
 /// What the generated modules cite: the definitions that run a case.
@@ -61,8 +62,9 @@ pub fn occupied(image: &[u8]) -> usize {
 }
 
 /// The cases of one image: its check and its listing, and where it is
-/// accepted a store if it has no file, and a scratch if it has one. An empty
-/// disk is checked once more with a count that is wrong.
+/// accepted a store if it has no file, and a scratch if it has one. These two
+/// are checked once more with wrong bits of the map, and an empty disk with a
+/// count that is wrong.
 pub fn of_image(kind: &str, seed: u64, image: &[u8]) -> Vec<Row> {
     let answer = check(image);
     let listed = format!("{} {}", sectors(image), numbers(&sleeve_output(image)));
@@ -75,8 +77,12 @@ pub fn of_image(kind: &str, seed: u64, image: &[u8]) -> Vec<Row> {
         0 if answer.number == 0 => {
             rows.extend(store_row(kind, seed, image));
             rows.extend(counted_row(kind, seed, image));
+            rows.push(wrong_bits_row(kind, seed, image));
         }
-        1 if answer.number == 0 => rows.extend(scratch_row(kind, seed, image)),
+        1 if answer.number == 0 => {
+            rows.extend(scratch_row(kind, seed, image));
+            rows.push(wrong_bits_row(kind, seed, image));
+        }
         _ => {}
     }
     rows
@@ -117,6 +123,21 @@ fn counted_row(kind: &str, seed: u64, image: &[u8]) -> Option<Row> {
     counted[map_offset(track)] += spare(track).count_ones() as u8;
     let kind = format!("{kind}, track {track} counted,");
     Some(check_row(&kind, seed, &counted))
+}
+
+/// The check where one bit or two of a track are wrong, of sectors with an
+/// owner or without: the lower one is named (02, §3).
+fn wrong_bits_row(kind: &str, seed: u64, image: &[u8]) -> Row {
+    let rng = &mut Rng::new(seed);
+    let track = rng.range(1, 35) as u8;
+    let bits = [(); 2].map(|()| rng.below(sectors_on(track).into()) as u8);
+    let mut spoilt = image.to_vec();
+    for byte in 0..3 {
+        let mask = |bit: u8| if bit / 8 == byte { 1 << (bit % 8) } else { 0 };
+        spoilt[map_offset(track) + 1 + usize::from(byte)] ^= mask(bits[0]) | mask(bits[1]);
+    }
+    let kind = format!("{kind}, bits {bits:?} of track {track} wrong,");
+    check_row(&kind, seed, &spoilt)
 }
 
 fn answer_of(answer: &Answer) -> [u8; 4] {
