@@ -18,7 +18,8 @@ pub const DIRECTORY_FULL: u8 = 14;
 pub const DISK_FULL: u8 = 15;
 pub const NO_ROOM: u8 = 16;
 
-/// The value that stands for "no slot" and, in answer 8, "no sector".
+/// The value that stands for "no slot" and, in answer 8, for "no sector": only
+/// the track's count is wrong (02, §3).
 pub const NONE: u8 = 255;
 
 /// Track, sector, slot.

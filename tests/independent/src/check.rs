@@ -139,7 +139,8 @@ fn claim_chain(
 
 /// Step 4: each entry's bits are those of the owner table, and its count is
 /// the number of ones among them. Bits past the track's last sector are
-/// ignored (02, §5).
+/// ignored (02, §5). The place names the lowest sector whose bit is wrong
+/// (02, §3).
 fn check_map(disk: &Disk, owners: &[u16; SECTORS]) -> Result<(), Answer> {
     let mut first = 0;
     for track in 1..=TRACKS {
@@ -151,11 +152,21 @@ fn check_map(disk: &Disk, owners: &[u16; SECTORS]) -> Result<(), Answer> {
         }
         first += sectors;
         let entry = map_entry(map(disk), track);
-        if bitmap(entry) & own != free || u32::from(entry[0]) != free.count_ones() {
-            return Err(Answer::fault(MAP_WRONG, track, NONE, NONE));
+        let wrong = (bitmap(entry) ^ free) & own;
+        if wrong != 0 || u32::from(entry[0]) != free.count_ones() {
+            return Err(Answer::fault(MAP_WRONG, track, lowest(wrong), NONE));
         }
     }
     Ok(())
+}
+
+/// The lowest of a track's sectors, bit s standing for sector s; `NONE` if
+/// there is none.
+fn lowest(sectors: u32) -> u8 {
+    match sectors {
+        0 => NONE,
+        _ => sectors.trailing_zeros() as u8,
+    }
 }
 
 /// The names met so far. Sound names are alike exactly if their 16 bytes

@@ -7,9 +7,9 @@
 use crate::answer::Answer;
 use crate::naive::track_length;
 use crate::rng::Rng;
-use crate::sound::{
-    map_offset, not_pad, offset, slot_offset, spare_bit, spare_mask, Plan, Planned,
-};
+use crate::sound::{not_pad, offset, slot_offset, Plan, Planned};
+
+mod map;
 
 /// Step, then directory sector, slot or track, then the part of the slot,
 /// then the link.
@@ -78,13 +78,20 @@ pub const FAULTS: &[(&str, Planter)] = &[
     ("7-count", count),
     ("7-chain-cut", chain_cut),
     ("7-chain-longer", chain_longer),
-    ("8-count", map_count),
-    ("8-bit", map_bit),
-    ("8-bit-and-count", map_bit_and_count),
-    ("8-bit-among-spare", bit_among_spare),
-    ("8-bit-for-spare", bit_for_spare),
-    ("8-spare-bit-counted", spare_bit_counted),
-    ("8-spare-bits-counted", spare_bits_counted),
+    ("8-count", map::count),
+    ("8-bit", map::bit),
+    ("8-marked-free", map::marked_free),
+    ("8-marked-used", map::marked_used),
+    ("8-bit-and-count", map::bit_and_count),
+    ("8-bits", map::bits),
+    ("8-bits-swapped", map::bits_swapped),
+    ("8-two-tracks", map::two_tracks),
+    ("8-count-then-bit", map::count_then_bit),
+    ("8-bit-among-spare", map::bit_among_spare),
+    ("8-bit-for-spare", map::bit_for_spare),
+    ("8-bit-after-spare", map::bit_after_spare),
+    ("8-spare-bit-counted", map::spare_bit_counted),
+    ("8-spare-bits-counted", map::spare_bits_counted),
     ("8-lost-file", lost_file),
     ("8-directory-cut", directory_cut),
     ("later-file", link_to_later),
@@ -176,18 +183,23 @@ fn directory_cut(rng: &mut Rng, plan: &Plan) -> Option<Fault> {
     }
     let index = rng.below(plan.directory.len() - 1);
     let mut fault = directory_fault(plan, index, (0, rng.byte()), 8);
-    let lost = plan.files.iter().filter(|file| file.slot / 8 > index);
-    let track = lowest_track(lost).min(18);
-    fault.answer = Answer::fault(8, track, 255, 255);
+    let mut lost: Vec<(u8, u8)> = plan.directory[index + 1..]
+        .iter()
+        .map(|&sector| (18, sector))
+        .collect();
+    for file in plan.files.iter().filter(|file| file.slot / 8 > index) {
+        lost.extend(&file.chain);
+    }
+    fault.answer = lost_sectors(&lost)?;
     fault.immediate = false;
     Some(fault)
 }
 
-fn lowest_track<'a>(files: impl Iterator<Item = &'a Planned>) -> u8 {
-    files
-        .flat_map(|file| file.chain.iter().map(|&(track, _)| track))
-        .min()
-        .unwrap_or(255)
+/// The answer for sectors that are marked used and have no owner: the place is
+/// the first of them, by track and then by sector (02, §3).
+fn lost_sectors(lost: &[(u8, u8)]) -> Option<Answer> {
+    let &(track, sector) = lost.iter().min()?;
+    Some(Answer::fault(8, track, sector, 255))
 }
 
 // --- A file's links -------------------------------------------------------
@@ -413,7 +425,7 @@ fn chain_longer(rng: &mut Rng, plan: &Plan) -> Option<Fault> {
     let file = any_file(rng, plan)?;
     let track = rng.range(1, 35) as u8;
     let sector = rng.below(usize::from(track_length(track))) as u8;
-    if !map_says_free(plan, track, sector) {
+    if !map::says_free(plan, track, sector) {
         return None;
     }
     let mut fault = link_fault(file, file.chain.len() - 1, (track, sector), 7);
@@ -430,135 +442,7 @@ fn chain_longer(rng: &mut Rng, plan: &Plan) -> Option<Fault> {
 fn lost_file(rng: &mut Rng, plan: &Plan) -> Option<Fault> {
     let file = any_file(rng, plan)?;
     let mut fault = slot_fault(plan, file, 8, 0, &[(2, 0)]);
-    fault.answer = Answer::fault(8, lowest_track(std::iter::once(file)), 255, 255);
+    fault.answer = lost_sectors(&file.chain)?;
     fault.immediate = false;
     Some(fault)
-}
-
-// --- The map --------------------------------------------------------------
-
-fn map_says_free(plan: &Plan, track: u8, sector: u8) -> bool {
-    let byte = plan.image[map_offset(track) + 1 + usize::from(sector / 8)];
-    byte & (1 << (sector % 8)) != 0
-}
-
-/// A track and its map entry.
-fn any_entry(rng: &mut Rng, plan: &Plan) -> (u8, [u8; 4]) {
-    let track = rng.range(1, 35) as u8;
-    let at = map_offset(track);
-    (track, std::array::from_fn(|byte| plan.image[at + byte]))
-}
-
-fn map_fault(track: u8, writes: Vec<(usize, u8)>) -> Fault {
-    Fault {
-        writes,
-        answer: Answer::fault(8, track, 255, 255),
-        rank: (4, usize::from(track), 0, 0),
-        immediate: true,
-    }
-}
-
-/// A wrong entry in the place of a track's own.
-fn entry_fault(track: u8, entry: [u8; 4]) -> Fault {
-    map_fault(track, (map_offset(track)..).zip(entry).collect())
-}
-
-fn map_count(rng: &mut Rng, plan: &Plan) -> Option<Fault> {
-    let track = rng.range(1, 35) as u8;
-    let right = plan.image[map_offset(track)];
-    let off = rng.range(1, 255) as u8;
-    let wrong = right.wrapping_add(rng.pick(&[1, 255, off]));
-    Some(map_fault(track, vec![(map_offset(track), wrong)]))
-}
-
-/// One of a track's sectors, half of the time its last: there a mask of the
-/// track's own bits goes wrong.
-fn any_sector(rng: &mut Rng, track: u8) -> u8 {
-    let sector = rng.below(usize::from(track_length(track))) as u8;
-    match rng.one_in(2) {
-        true => track_length(track) - 1,
-        false => sector,
-    }
-}
-
-/// The write that flips the bit of one of a track's sectors; also whether it
-/// was 1.
-fn flip(rng: &mut Rng, plan: &Plan, track: u8) -> ((usize, u8), bool) {
-    let sector = any_sector(rng, track);
-    let at = map_offset(track) + 1 + usize::from(sector / 8);
-    let mask = 1 << (sector % 8);
-    ((at, plan.image[at] ^ mask), plan.image[at] & mask != 0)
-}
-
-fn map_bit(rng: &mut Rng, plan: &Plan) -> Option<Fault> {
-    let track = rng.range(1, 35) as u8;
-    let (write, _) = flip(rng, plan, track);
-    Some(map_fault(track, vec![write]))
-}
-
-fn map_bit_and_count(rng: &mut Rng, plan: &Plan) -> Option<Fault> {
-    let track = rng.range(1, 35) as u8;
-    let (write, was_free) = flip(rng, plan, track);
-    let right = plan.image[map_offset(track)];
-    let count = if was_free { right - 1 } else { right + 1 };
-    Some(map_fault(track, vec![write, (map_offset(track), count)]))
-}
-
-// --- Bits past a track's last sector (02, §5) -----------------------------
-//
-// Such a bit is no fault; a count or a sector's bit that is wrong beside it is.
-
-/// Flips a bit of an entry; gives whether it was 1.
-fn flip_in(entry: &mut [u8; 4], sector: u8) -> bool {
-    let (byte, mask) = (1 + usize::from(sector / 8), 1 << (sector % 8));
-    entry[byte] ^= mask;
-    entry[byte] & mask == 0
-}
-
-/// All spare bits are set, and a sector's bit is wrong. The count follows it,
-/// or doesn't.
-fn bit_among_spare(rng: &mut Rng, plan: &Plan) -> Option<Fault> {
-    let (track, mut entry) = any_entry(rng, plan);
-    entry[3] |= spare_mask(track);
-    let was_free = flip_in(&mut entry, any_sector(rng, track));
-    match (rng.one_in(2), was_free) {
-        (true, true) => entry[0] -= 1,
-        (true, false) => entry[0] += 1,
-        _ => {}
-    }
-    Some(entry_fault(track, entry))
-}
-
-/// A sector's bit is wrong, and a spare one goes the other way: the 24 bits
-/// hold as many ones as before.
-fn bit_for_spare(rng: &mut Rng, plan: &Plan) -> Option<Fault> {
-    let (track, mut entry) = any_entry(rng, plan);
-    let past = rng.range(usize::from(track_length(track)), 23) as u8;
-    let was_free = flip_in(&mut entry, any_sector(rng, track));
-    let spare_was_set = flip_in(&mut entry, past);
-    (was_free != spare_was_set).then(|| entry_fault(track, entry))
-}
-
-/// One spare bit is set, and the count counts it. The others are 0 or as they
-/// were.
-fn spare_bit_counted(rng: &mut Rng, plan: &Plan) -> Option<Fault> {
-    let (track, mut entry) = any_entry(rng, plan);
-    if rng.one_in(2) {
-        entry[3] &= !spare_mask(track);
-    }
-    entry[3] |= spare_bit(rng, track);
-    entry[0] += 1;
-    Some(entry_fault(track, entry))
-}
-
-/// The count is that of the ones of all 24 bits. All spare bits are set, or
-/// those that were.
-fn spare_bits_counted(rng: &mut Rng, plan: &Plan) -> Option<Fault> {
-    let (track, mut entry) = any_entry(rng, plan);
-    if rng.one_in(2) {
-        entry[3] |= spare_mask(track);
-    }
-    let counted = (entry[3] & spare_mask(track)).count_ones() as u8;
-    entry[0] += counted;
-    (counted > 0).then(|| entry_fault(track, entry))
 }

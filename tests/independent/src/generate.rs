@@ -196,10 +196,11 @@ fn broken(kind: &str, rng: &mut Rng) -> Option<Generated> {
         "flips-links" => unknown(flipped_links(rng)),
         "random-18" => unknown(random_track_18(rng)),
         "random" => unknown(rng.bytes(IMAGE_BYTES)),
-        // No directory link, no slot; track 1 should be free and isn't.
+        // No directory link, no slot; track 1 should be free and isn't, from
+        // its first sector on.
         "zeros" => Generated {
             image: vec![0; IMAGE_BYTES],
-            expected: Some(Answer::fault(MAP_WRONG, 1, NONE, NONE)),
+            expected: Some(Answer::fault(MAP_WRONG, 1, 0, NONE)),
         },
         // The first directory link names track 255.
         "ones" => Generated {

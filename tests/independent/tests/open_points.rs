@@ -174,20 +174,20 @@ fn point_06_track_0_in_links() {
 }
 
 /// "The map, track 1 to 35": a wrong count, a wrong bit and a count of bits
-/// past the last sector all give 8.
+/// past the last sector all give 8. A wrong bit's sector is named (02, §3).
 #[test]
 fn point_07_the_lowest_track_of_the_map() {
     let mut image = with_files(&[10]);
-    for (track, entry) in [
-        (35u8, [18, 0xFF, 0xFF, 0x03]),
-        (20, [18, 0xFF, 0xFF, 0x07]),
-        (18, [0x12, 0xFC, 0xFF, 0x0F]),
-        (17, [0x15, 0xFF, 0xFF, 0x1F]),
-        (2, [0x14, 0xFE, 0xFF, 0x1F]),
-        (1, [0x18, 0xFF, 0xFF, 0xFF]),
+    for (track, entry, sector) in [
+        (35u8, [18, 0xFF, 0xFF, 0x03], 255),
+        (20, [18, 0xFF, 0xFF, 0x07], 255),
+        (18, [0x12, 0xFC, 0xFF, 0x0F], 255),
+        (17, [0x15, 0xFF, 0xFF, 0x1F], 0),
+        (2, [0x14, 0xFD, 0xFF, 0x1F], 1),
+        (1, [0x18, 0xFF, 0xFF, 0xFF], 255),
     ] {
         set(&mut image, 18, 0, 4 * usize::from(track), &entry);
-        assert_eq!(verdict(&image), (8, track, 255, 255));
+        assert_eq!(verdict(&image), (8, track, sector, 255));
     }
 }
 
@@ -200,7 +200,7 @@ fn point_08_all_type_bytes() {
         set(&mut image, 18, 1, 2, &[byte]);
         match byte {
             // The file is gone, and its sector is used by nobody.
-            0 => assert_eq!(verdict(&image), (8, 17, 255, 255)),
+            0 => assert_eq!(verdict(&image), (8, 17, 0, 255)),
             0x81..=0x83 | 0xC1..=0xC3 => {
                 assert_eq!(verdict(&image).0, 0);
                 assert_eq!(read(&image, b"A0", &mut [0; 10]).length, 10);

@@ -90,9 +90,15 @@ impl Case {
     }
 }
 
+/// What is owed for a track and its sectors.
+type Owed = dyn Fn(u8, u8) -> Answer;
+
+const ACCEPTED: &Owed = &|_, _| Answer::done(0, 0);
+const WRONG_COUNT: &Owed = &|track, _| Answer::fault(8, track, 255, 255);
+
 /// A case for each row of two disks: `change` is given the entry, the track's
 /// sectors and its spare bits.
-fn for_rows(what: &str, number: u8, change: impl Fn(&mut [u8; 4], u8, u8)) -> Vec<Case> {
+fn for_rows(what: &str, owed: &Owed, change: impl Fn(&mut [u8; 4], u8, u8)) -> Vec<Case> {
     let mut cases = Vec::new();
     for (disk, mut image) in [("fresh", fresh()), ("half used", half_used())] {
         let sound = Rc::new(image.clone());
@@ -104,10 +110,7 @@ fn for_rows(what: &str, number: u8, change: impl Fn(&mut [u8; 4], u8, u8)) -> Ve
                 sound: sound.clone(),
                 track,
                 entry,
-                owed: match number {
-                    0 => Answer::done(0, 0),
-                    number => Answer::fault(number, track, 255, 255),
-                },
+                owed: owed(track, sectors),
             });
         }
     }
@@ -121,26 +124,26 @@ fn ends(spare: u8) -> [u8; 2] {
 
 /// Spare bits beside a right count.
 fn set_cases() -> Vec<Case> {
-    let mut cases = for_rows("all set", 0, |entry, _, spare| entry[3] |= spare);
+    let mut cases = for_rows("all set", ACCEPTED, |entry, _, spare| entry[3] |= spare);
     for bit in 0..8 {
         let one = |entry: &mut [u8; 4], _, spare| entry[3] |= spare & (1 << bit);
-        cases.extend(for_rows(&format!("bit {bit} alone"), 0, one));
+        cases.extend(for_rows(&format!("bit {bit} alone"), ACCEPTED, one));
     }
     cases
 }
 
 /// Spare bits that are counted.
 fn counted_cases() -> Vec<Case> {
-    let all = for_rows("all counted", 8, |entry, _, spare| {
+    let all = for_rows("all counted", WRONG_COUNT, |entry, _, spare| {
         entry[3] |= spare;
         entry[0] += spare.count_ones() as u8;
     });
-    let one_of_all = for_rows("one of all counted", 8, |entry, _, spare| {
+    let one_of_all = for_rows("one of all counted", WRONG_COUNT, |entry, _, spare| {
         entry[3] |= spare;
         entry[0] += 1;
     });
     let one = [0, 1].map(|end| {
-        for_rows("one set and counted", 8, |entry, _, spare| {
+        for_rows("one set and counted", WRONG_COUNT, |entry, _, spare| {
             entry[3] |= ends(spare)[end];
             entry[0] += 1;
         })
@@ -151,24 +154,30 @@ fn counted_cases() -> Vec<Case> {
         .collect()
 }
 
-/// Flips the bit of the first sector, of one of the second byte, or of the
-/// last; gives whether it is 1 now.
+/// The first sector of a track, one of the second byte, or the last.
+fn sector_of(part: usize, sectors: u8) -> u8 {
+    [0, 9, sectors - 1][part]
+}
+
+/// Flips that sector's bit; gives whether it is 1 now.
 fn flip(part: usize, entry: &mut [u8; 4], sectors: u8) -> bool {
-    let sector = [0, 9, sectors - 1][part];
+    let sector = sector_of(part, sectors);
     let (byte, bit) = (1 + usize::from(sector / 8), 1 << (sector % 8));
     entry[byte] ^= bit;
     entry[byte] & bit != 0
 }
 
-/// A sector's bit that is wrong beside spare bits.
+/// A sector's bit that is wrong beside spare bits: it alone is named (02, §3).
 fn wrong_bit_cases() -> Vec<Case> {
     let mut cases = Vec::new();
     for part in 0..3 {
-        cases.extend(for_rows("a wrong bit", 8, |entry, sectors, spare| {
+        let owed: &Owed =
+            &move |track, sectors| Answer::fault(8, track, sector_of(part, sectors), 255);
+        cases.extend(for_rows("a wrong bit", owed, |entry, sectors, spare| {
             entry[3] |= spare;
             flip(part, entry, sectors);
         }));
-        cases.extend(for_rows("and count", 8, |entry, sectors, spare| {
+        cases.extend(for_rows("and count", owed, |entry, sectors, spare| {
             entry[3] |= spare;
             match flip(part, entry, sectors) {
                 true => entry[0] += 1,
@@ -177,7 +186,7 @@ fn wrong_bit_cases() -> Vec<Case> {
         }));
         // As many ones as before: a spare one is set for the one that is gone,
         // or all are set but one for the one too many.
-        cases.extend(for_rows("for a spare", 8, |entry, sectors, spare| {
+        cases.extend(for_rows("for a spare", owed, |entry, sectors, spare| {
             let one = ends(spare)[part % 2];
             entry[3] |= match flip(part, entry, sectors) {
                 true => spare & !one,

@@ -1,0 +1,280 @@
+//! Faults of the map (01, The map, 18/0). The place names the lowest of the
+//! track's own sectors whose bit is wrong, and 255 where only the count is
+//! (02, §3). It is known here because each wrong bit is noted when it is made.
+
+use super::Fault;
+use crate::answer::Answer;
+use crate::naive::track_length;
+use crate::rng::Rng;
+use crate::sound::{map_offset, spare_bit, spare_mask, Plan};
+
+/// Whether the map of a sound image says that a sector is free.
+pub(super) fn says_free(plan: &Plan, track: u8, sector: u8) -> bool {
+    let byte = plan.image[map_offset(track) + 1 + usize::from(sector / 8)];
+    byte & (1 << (sector % 8)) != 0
+}
+
+/// A track's map entry in the making, and the sectors whose bits are wrong.
+struct Entry {
+    track: u8,
+    bytes: [u8; 4],
+    wrong: Vec<u8>,
+}
+
+impl Entry {
+    /// The right entry of a track.
+    fn of(plan: &Plan, track: u8) -> Entry {
+        let at = map_offset(track);
+        Entry {
+            track,
+            bytes: std::array::from_fn(|byte| plan.image[at + byte]),
+            wrong: Vec::new(),
+        }
+    }
+
+    /// The right entry of any track.
+    fn any(rng: &mut Rng, plan: &Plan) -> Entry {
+        Entry::of(plan, rng.range(1, 35) as u8)
+    }
+
+    /// Flips a bit, that of a sector or a spare one; gives whether it was 1.
+    fn flip_bit(&mut self, bit: u8) -> bool {
+        let (byte, mask) = (1 + usize::from(bit / 8), 1 << (bit % 8));
+        self.bytes[byte] ^= mask;
+        self.bytes[byte] & mask == 0
+    }
+
+    /// Makes the bit of a sector wrong; gives whether it was 1.
+    fn spoil(&mut self, sector: u8) -> bool {
+        self.wrong.push(sector);
+        self.flip_bit(sector)
+    }
+
+    /// Makes some bits wrong. The count stays, follows them, or is any.
+    fn spoil_all(&mut self, rng: &mut Rng, sectors: &[u8]) {
+        let mut count = self.bytes[0];
+        for &sector in sectors {
+            count = match self.spoil(sector) {
+                true => count.wrapping_sub(1),
+                false => count.wrapping_add(1),
+            };
+        }
+        let any = rng.byte();
+        self.bytes[0] = rng.pick(&[self.bytes[0], count, count, any]);
+    }
+
+    /// The fault of this entry in the place of the track's own.
+    fn fault(self) -> Fault {
+        let sector = self.wrong.iter().copied().min().unwrap_or(255);
+        Fault {
+            writes: (map_offset(self.track)..).zip(self.bytes).collect(),
+            answer: Answer::fault(8, self.track, sector, 255),
+            rank: (4, usize::from(self.track), 0, 0),
+            immediate: true,
+        }
+    }
+}
+
+/// A fault of two entries: the answer is that of the lower track.
+fn both(one: Entry, two: Entry) -> Fault {
+    let (lower, higher) = match one.track < two.track {
+        true => (one, two),
+        false => (two, one),
+    };
+    let mut fault = lower.fault();
+    fault.writes.extend(higher.fault().writes);
+    fault
+}
+
+/// One of a track's sectors. The last one is common: there a mask of the
+/// track's own bits goes wrong. So are those at the ends of the bitmap's bytes.
+fn any_sector(rng: &mut Rng, track: u8) -> u8 {
+    let sectors = track_length(track);
+    let any = rng.below(usize::from(sectors)) as u8;
+    match rng.one_in(3) {
+        true => sectors - 1,
+        false => rng.pick(&[0, 7, 8, 15, 16, any, any, any]),
+    }
+}
+
+/// The sectors of a track that the map says are free, or used.
+fn marked(plan: &Plan, track: u8, free: bool) -> Vec<u8> {
+    (0..track_length(track))
+        .filter(|&sector| says_free(plan, track, sector) == free)
+        .collect()
+}
+
+/// One of these sectors, the first and the last of them often.
+fn any_of(rng: &mut Rng, sectors: &[u8]) -> Option<u8> {
+    let any = *sectors.get(rng.below(sectors.len()))?;
+    Some(rng.pick(&[any, any, *sectors.first()?, *sectors.last()?]))
+}
+
+// --- Counts and bits ------------------------------------------------------
+
+/// Only the count is wrong.
+pub(super) fn count(rng: &mut Rng, plan: &Plan) -> Option<Fault> {
+    let mut entry = Entry::any(rng, plan);
+    spoil_count(rng, &mut entry);
+    Some(entry.fault())
+}
+
+/// Makes a right count wrong.
+fn spoil_count(rng: &mut Rng, entry: &mut Entry) {
+    let off = rng.range(1, 255) as u8;
+    entry.bytes[0] = entry.bytes[0].wrapping_add(rng.pick(&[1, 255, off]));
+}
+
+/// One wrong bit; the count is that of the owners.
+pub(super) fn bit(rng: &mut Rng, plan: &Plan) -> Option<Fault> {
+    let mut entry = Entry::any(rng, plan);
+    entry.spoil(any_sector(rng, entry.track));
+    Some(entry.fault())
+}
+
+/// A sector that has an owner is marked free.
+pub(super) fn marked_free(rng: &mut Rng, plan: &Plan) -> Option<Fault> {
+    wrongly_marked(rng, plan, true)
+}
+
+/// A sector that has no owner is marked used.
+pub(super) fn marked_used(rng: &mut Rng, plan: &Plan) -> Option<Fault> {
+    wrongly_marked(rng, plan, false)
+}
+
+fn wrongly_marked(rng: &mut Rng, plan: &Plan, free: bool) -> Option<Fault> {
+    let mut entry = Entry::any(rng, plan);
+    let sector = any_of(rng, &marked(plan, entry.track, !free))?;
+    entry.spoil_all(rng, &[sector]);
+    Some(entry.fault())
+}
+
+/// One wrong bit, and a count that is wrong too: it follows the bit, or it is
+/// any other.
+pub(super) fn bit_and_count(rng: &mut Rng, plan: &Plan) -> Option<Fault> {
+    let mut entry = Entry::any(rng, plan);
+    let right = entry.bytes[0];
+    let followed = match entry.spoil(any_sector(rng, entry.track)) {
+        true => right - 1,
+        false => right + 1,
+    };
+    spoil_count(rng, &mut entry);
+    entry.bytes[0] = rng.pick(&[followed, entry.bytes[0]]);
+    Some(entry.fault())
+}
+
+/// Two or more wrong bits of one track, up to all of them.
+pub(super) fn bits(rng: &mut Rng, plan: &Plan) -> Option<Fault> {
+    let mut entry = Entry::any(rng, plan);
+    let mut sectors: Vec<u8> = (0..track_length(entry.track)).collect();
+    rng.shuffle(&mut sectors);
+    let some = rng.range(2, sectors.len());
+    sectors.truncate(rng.pick(&[2, 2, 3, some]));
+    entry.spoil_all(rng, &sectors);
+    Some(entry.fault())
+}
+
+/// A sector is marked free and another used, both wrongly: the count is still
+/// that of the bits.
+pub(super) fn bits_swapped(rng: &mut Rng, plan: &Plan) -> Option<Fault> {
+    let mut entry = Entry::any(rng, plan);
+    for free in [true, false] {
+        entry.spoil(any_of(rng, &marked(plan, entry.track, free))?);
+    }
+    Some(entry.fault())
+}
+
+// --- Two tracks -----------------------------------------------------------
+
+/// Two different tracks' right entries, the lower track's first.
+fn two_entries(rng: &mut Rng, plan: &Plan) -> (Entry, Entry) {
+    let lower = rng.range(1, 34);
+    let higher = rng.range(lower + 1, 35);
+    (
+        Entry::of(plan, lower as u8),
+        Entry::of(plan, rng.pick(&[lower + 1, higher]) as u8),
+    )
+}
+
+/// Wrong bits on two tracks.
+pub(super) fn two_tracks(rng: &mut Rng, plan: &Plan) -> Option<Fault> {
+    let (mut lower, mut higher) = two_entries(rng, plan);
+    for entry in [&mut lower, &mut higher] {
+        let sector = any_sector(rng, entry.track);
+        entry.spoil_all(rng, &[sector]);
+    }
+    Some(both(lower, higher))
+}
+
+/// A wrong count on one track, and a wrong bit on another.
+pub(super) fn count_then_bit(rng: &mut Rng, plan: &Plan) -> Option<Fault> {
+    let (mut counted, mut spoilt) = two_entries(rng, plan);
+    if rng.one_in(4) {
+        (counted, spoilt) = (spoilt, counted);
+    }
+    spoil_count(rng, &mut counted);
+    let sector = any_sector(rng, spoilt.track);
+    spoilt.spoil_all(rng, &[sector]);
+    Some(both(counted, spoilt))
+}
+
+// --- Bits past a track's last sector (02, §5) -----------------------------
+//
+// Such a bit is no fault and is never named; a count or a sector's bit that is
+// wrong beside it is.
+
+/// All spare bits are set, and a sector's bit is wrong. The count follows it,
+/// or doesn't.
+pub(super) fn bit_among_spare(rng: &mut Rng, plan: &Plan) -> Option<Fault> {
+    let mut entry = Entry::any(rng, plan);
+    entry.bytes[3] |= spare_mask(entry.track);
+    let sector = any_sector(rng, entry.track);
+    entry.spoil_all(rng, &[sector]);
+    Some(entry.fault())
+}
+
+/// A sector's bit is wrong, and a spare one goes the other way: the 24 bits
+/// hold as many ones as before.
+pub(super) fn bit_for_spare(rng: &mut Rng, plan: &Plan) -> Option<Fault> {
+    let mut entry = Entry::any(rng, plan);
+    let past = rng.range(usize::from(track_length(entry.track)), 23) as u8;
+    let was_free = entry.spoil(any_sector(rng, entry.track));
+    let spare_was_set = entry.flip_bit(past);
+    (was_free != spare_was_set).then(|| entry.fault())
+}
+
+/// A spare bit of a lower track is the other way, which is no fault, and a
+/// sector's bit is wrong.
+pub(super) fn bit_after_spare(rng: &mut Rng, plan: &Plan) -> Option<Fault> {
+    let (mut lower, mut higher) = two_entries(rng, plan);
+    lower.bytes[3] ^= spare_bit(rng, lower.track);
+    let sector = any_sector(rng, higher.track);
+    higher.spoil_all(rng, &[sector]);
+    let mut fault = higher.fault();
+    fault.writes.extend(lower.fault().writes);
+    Some(fault)
+}
+
+/// One spare bit is set, and the count counts it. The others are 0 or as they
+/// were.
+pub(super) fn spare_bit_counted(rng: &mut Rng, plan: &Plan) -> Option<Fault> {
+    let mut entry = Entry::any(rng, plan);
+    if rng.one_in(2) {
+        entry.bytes[3] &= !spare_mask(entry.track);
+    }
+    entry.bytes[3] |= spare_bit(rng, entry.track);
+    entry.bytes[0] += 1;
+    Some(entry.fault())
+}
+
+/// The count is that of the ones of all 24 bits. All spare bits are set, or
+/// those that were.
+pub(super) fn spare_bits_counted(rng: &mut Rng, plan: &Plan) -> Option<Fault> {
+    let mut entry = Entry::any(rng, plan);
+    if rng.one_in(2) {
+        entry.bytes[3] |= spare_mask(entry.track);
+    }
+    let counted = (entry.bytes[3] & spare_mask(entry.track)).count_ones() as u8;
+    entry.bytes[0] += counted;
+    (counted > 0).then(|| entry.fault())
+}
