@@ -19,14 +19,16 @@
  *
  * Track, sector and slot are the place of a fault. They are 0, 0, 255 where enum d64_answer names no place, so also
  * when the call is done. Slots are numbered 0 to 143 through the directory in link order, eight to a sector, empty
- * ones counted; the slot is 255 where the fault is in no slot. A refusal has length 0 and 0 sectors.
+ * ones counted; the slot is 255 where the fault is in no slot. A wrong map entry has the lowest sector of its track
+ * whose bit is wrong; the sector is 255 where all those bits are right, so that only the count is wrong. A refusal
+ * has length 0 and 0 sectors.
  *
  * Old bytes. Sectors that d64_scratch() or d64_format() gives back are all zeros for as long as they are free. An
  * image from elsewhere may hold old bytes in its free sectors and behind a file's end; it is accepted all the same,
  * and only d64_format() clears all of them.
  *
  * Spare bits. A track's map entry has 24 bits, and no track has more than 21 sectors. The bits past a track's last
- * sector are ignored and not counted, and no call but d64_format(), which writes 0, changes them.
+ * sector are ignored, not counted and no fault's place; no call but d64_format(), which writes 0, changes them.
  */
 #ifndef D64_H
 #define D64_H
@@ -58,7 +60,8 @@ enum d64_answer {
     D64_WRONG_NAME = 5,      /* a name on disk breaks the rule; place: directory sector, slot */
     D64_SAME_NAME = 6,       /* a name is on disk in an earlier slot; place: directory sector, slot */
     D64_WRONG_COUNT = 7,     /* a file's sector count is wrong; place: directory sector, slot */
-    D64_WRONG_MAP = 8,       /* a map entry is wrong: its count, or the bit of a sector; place: track, 255, 255 */
+    D64_WRONG_MAP = 8,       /* a map entry is wrong: the bit of a sector, or the count; place: track, the lowest
+                                sector whose bit is wrong (255 where only the count is), slot 255 */
     D64_BAD_NAME = 9,        /* the name asked for is empty, over 16 bytes, or holds $A0 */
     D64_BAD_KIND = 10,       /* the kind asked for is not 1 or 2 */
     D64_READ_ONLY = 11,      /* the DOS version forbids writing */
@@ -75,7 +78,8 @@ enum d64_answer {
  * Reads:   image.  Writes: answer.  No written buffer may overlap another buffer.
  * Returns: D64_DONE, or the first fault met: D64_WRONG_SIZE (1); D64_BAD_LINK (2) or D64_OWNED (3) along the
  *          directory; for one slot after the other D64_WRONG_KIND (4), D64_WRONG_NAME (5), D64_SAME_NAME (6),
- *          D64_BAD_LINK (2) or D64_OWNED (3) along the file's chain, D64_WRONG_COUNT (7); D64_WRONG_MAP (8).
+ *          D64_BAD_LINK (2) or D64_OWNED (3) along the file's chain, D64_WRONG_COUNT (7); for one track after the
+ *          other D64_WRONG_MAP (8), in the bits of its sectors from 0 up, then in its count.
  * Done:    answer has length 0 and 0 sectors.
  * Refused: answer has the place of the fault, length 0 and 0 sectors.
  * An answer_len other than 9 returns D64_SHORT before all else and writes nothing.

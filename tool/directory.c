@@ -22,7 +22,7 @@ static struct answer listing_of(const uint8_t *image, size_t image_length, uint8
     uint32_t number = d64_listing(image + (whole ? D64_TRACK18_OFFSET : 0), whole ? D64_TRACK18_BYTES : 0,
                                   text, D64_LISTING_BYTES, block, sizeof block);
 
-    return answer_of(number, block, image_length);
+    return answer_of(number, block);
 }
 
 int print_listing(const uint8_t *image, size_t image_length, struct answer *answer)
@@ -63,7 +63,7 @@ int print_directory(const uint8_t *image, size_t image_length, struct answer *an
     uint8_t entry[D64_ENTRY_BYTES], block[D64_BLOCK_BYTES];
     char total[TOTAL_DIGITS + 1] = "";
 
-    *answer = answer_of(d64_check(image, image_length, block, sizeof block), block, image_length);
+    *answer = answer_of(d64_check(image, image_length, block, sizeof block), block);
     if (answer->number == D64_DONE)
         *answer = listing_of(image, image_length, text);
     if (answer->number != D64_DONE)

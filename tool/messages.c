@@ -1,4 +1,5 @@
 #include "messages.h"
+#include "map.h"
 #include <errno.h>
 #include <stdarg.h>
 #include <stdio.h>
@@ -33,7 +34,7 @@ static const struct {
     [D64_SHORT] = {"output buffer too short", NO_PLACE},
 };
 
-struct answer answer_of(uint32_t number, const uint8_t block[D64_BLOCK_BYTES], size_t image_length)
+struct answer answer_of(uint32_t number, const uint8_t block[D64_BLOCK_BYTES])
 {
     struct answer answer = {
         .number = number,
@@ -42,7 +43,6 @@ struct answer answer_of(uint32_t number, const uint8_t block[D64_BLOCK_BYTES], s
         .slot = block[2],
         .length = block[3] | (uint32_t)block[4] << 8 | (uint32_t)block[5] << 16 | (uint32_t)block[6] << 24,
         .sectors = block[7] | (uint32_t)block[8] << 8,
-        .image_length = image_length,
     };
 
     return answer;
@@ -115,10 +115,8 @@ int fail_file(enum status status, const char *what, const char *path)
     return fail(errno == ENOMEM ? STATUS_NO_MEMORY : status, "cannot %s %s: %s", what, path[0] != '\0' ? path : "''", strerror(errno));
 }
 
-static void print_size(const struct answer *answer)
+static void print_size(size_t length)
 {
-    size_t length = answer->image_length;
-
     fprintf(stderr, "; an image has %d,%03d bytes, this one has ", D64_IMAGE_BYTES / 1000, D64_IMAGE_BYTES % 1000);
     if (length > D64_IMAGE_BYTES)
         fputs("more", stderr);
@@ -128,10 +126,23 @@ static void print_size(const struct answer *answer)
         fprintf(stderr, "%zu,%03zu", length / 1000, length % 1000);
 }
 
-static void print_place(enum place place, const struct answer *answer)
+/* The answer says which mark of the map is wrong; what it is stands in the image. */
+static void print_map(const struct answer *answer, const uint8_t *image, size_t image_length)
+{
+    struct map_entry entry = map_entry_of(image, image_length, answer->track);
+    unsigned sector = answer->sector, marked = sectors_marked_free(&entry);
+
+    fprintf(stderr, ": track %u, ", answer->track);
+    if (sector != 255)
+        fprintf(stderr, "sector %u is marked %s", sector, is_marked_free(&entry, sector) ? "free but owned" : "used but owned by nobody");
+    else
+        fprintf(stderr, "the count is %u, %u sector%s marked free", entry.count, marked, marked == 1 ? " is" : "s are");
+}
+
+static void print_place(enum place place, const struct answer *answer, const uint8_t *image, size_t image_length)
 {
     if (place == SIZE)
-        print_size(answer);
+        print_size(image_length);
     if (place == LINK)
         fprintf(stderr, "; the link is in track %u sector %u, ", answer->track, answer->sector);
     if (place == LINK && answer->slot == 255)
@@ -141,18 +152,16 @@ static void print_place(enum place place, const struct answer *answer)
     if (place == ENTRY)
         fprintf(stderr, "; the entry is in track %u sector %u, slot %u", answer->track, answer->sector, answer->slot);
     if (place == MAP)
-        fprintf(stderr, "; the map's entry for track %u", answer->track);
-    if (place == MAP && answer->sector != 255)
-        fprintf(stderr, ", sector %u", answer->sector);
+        print_map(answer, image, image_length);
 }
 
-int refuse(const struct answer *answer, const char *hint)
+int refuse(const struct answer *answer, const uint8_t *image, size_t image_length, const char *hint)
 {
     begin_line("");
     fprintf(stderr, "refused, %u", (unsigned)answer->number);
     if (answer->number < sizeof answers / sizeof answers[0]) {
         fprintf(stderr, ": %s", answers[answer->number].meaning);
-        print_place(answers[answer->number].place, answer);
+        print_place(answers[answer->number].place, answer, image, image_length);
     }
     fprintf(stderr, "%s\n", hint);
     return (int)answer->number;

@@ -15,15 +15,14 @@ enum status {
     STATUS_IN_USE = 75     /* another command has the image */
 };
 
-/* The answer block of a call, and the length of the image that was lent. */
+/* What a call returns, and its answer block. */
 struct answer {
     uint32_t number;
     uint8_t track, sector, slot;
     uint32_t length, sectors;
-    size_t image_length;
 };
 
-struct answer answer_of(uint32_t number, const uint8_t block[D64_BLOCK_BYTES], size_t image_length);
+struct answer answer_of(uint32_t number, const uint8_t block[D64_BLOCK_BYTES]);
 
 /*
  * Keeps each line of standard error whole beside those of other programs, and standard output in one piece: what is printed fits
@@ -44,8 +43,8 @@ int fail(enum status status, const char *format, ...) __attribute__((format(prin
 /* The same for a file, with the system's reason in errno. */
 int fail_file(enum status status, const char *what, const char *path);
 
-/* Says why the library refuses, with a hint behind it, and returns its number. */
-int refuse(const struct answer *answer, const char *hint);
+/* Says why the library refuses the image, with a hint behind it, and returns its number. */
+int refuse(const struct answer *answer, const uint8_t *image, size_t image_length, const char *hint);
 
 /* Says what is done. */
 void say(const char *format, ...) __attribute__((format(printf, 1, 2)));

@@ -80,7 +80,7 @@ static int store(const struct job *job, struct answer *answer)
 
     if (status == 0)
         *answer = answer_of(d64_store(image.bytes, image.length, job->name.bytes, job->name.length, job->kind,
-                                      from_pipe ? piped : data, length, block, sizeof block), block, image.length);
+                                      from_pipe ? piped : data, length, block, sizeof block), block);
     return status;
 }
 
@@ -89,7 +89,7 @@ static int read_to_file(const struct job *job, struct answer *answer)
     uint8_t block[D64_BLOCK_BYTES];
     uint32_t number = d64_read(image.bytes, image.length, job->name.bytes, job->name.length, output, sizeof output, block, sizeof block);
 
-    *answer = answer_of(number, block, image.length);
+    *answer = answer_of(number, block);
     return number == D64_DONE ? write_file(job->file, output, answer->length) : 0;
 }
 
@@ -102,10 +102,10 @@ static int ask(const struct job *job, struct answer *answer)
     switch (job->command->verb) {
     case FORMAT:
         *answer = answer_of(d64_format(image.bytes, image.length, name->bytes, name->length, id->bytes[0], id->bytes[1],
-                                       block, sizeof block), block, image.length);
+                                       block, sizeof block), block);
         return 0;
     case SCRATCH:
-        *answer = answer_of(d64_scratch(image.bytes, image.length, name->bytes, name->length, block, sizeof block), block, image.length);
+        *answer = answer_of(d64_scratch(image.bytes, image.length, name->bytes, name->length, block, sizeof block), block);
         return 0;
     case STORE:
         return store(job, answer);
@@ -116,7 +116,7 @@ static int ask(const struct job *job, struct answer *answer)
     case LISTING:
         return print_listing(image.bytes, image.length, answer);
     default:
-        *answer = answer_of(d64_check(image.bytes, image.length, block, sizeof block), block, image.length);
+        *answer = answer_of(d64_check(image.bytes, image.length, block, sizeof block), block);
         return 0;
     }
 }
@@ -138,7 +138,7 @@ static int do_job(const struct job *job, struct answer *answer)
     set_line(job->line);
     status = ask(job, answer);
     if (status == 0 && answer->number != D64_DONE)
-        status = refuse(answer, hint_of(job, answer));
+        status = refuse(answer, image.bytes, image.length, hint_of(job, answer));
     set_line(0);
     return status;
 }

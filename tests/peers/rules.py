@@ -1,6 +1,7 @@
 """The order of the check in the scope document, once more and as naively as it can be written: what d64 must answer for any image.
 
-The map's bits past a track's last sector are not looked at: document 02, request 5.
+The map's bits past a track's last sector are not looked at: document 02, request 5. A wrong map has the lowest sector whose bit is wrong, and none where only
+the count is: request 3.
 """
 
 from disks import IMAGE_BYTES, PAD, map_bit, offset, on_disk, sector_bytes, sectors_on
@@ -61,7 +62,7 @@ def check_map(image, owned):
             at, mask = map_bit(track, sector)
             free += (track, sector) not in owned
             if bool(table[at] & mask) == ((track, sector) in owned):
-                raise Fault(8, track)
+                raise Fault(8, track, sector)
         if table[4 * track] != free:
             raise Fault(8, track)
 

@@ -86,6 +86,9 @@ def empty_folder(folder):
 class D64:
     """The program under test, through man/d64.1 alone. Names go in as \\xNN, which can write every byte."""
 
+    map_line = re.compile(r"refused, 8: map entry wrong: track (\d+), (?:sector (\d+) is marked (?:free but owned|used but owned by nobody)"
+                          r"|the count is \d+, (?:1 sector is|\d+ sectors are) marked free)")
+
     def __init__(self, path, work):
         self.path, self.work = os.path.abspath(path), work
 
@@ -96,12 +99,12 @@ class D64:
     def text(name):
         return "".join(f"\\x{byte:02X}" for byte in name)
 
-    @staticmethod
-    def refusal(outcome):
-        """A refusal's number and place, as its one line says them: "3 at 17/4 slot 2"."""
+    @classmethod
+    def refusal(cls, outcome):
+        """A refusal's number and place, as its one line says them: "3 at 17/4 slot 2"; of the map "8 at 17/4", and "8 at track 17" for a count."""
         line = outcome.err.decode("latin-1").strip()
         said = re.match(r"refused, (\d+): ", line)
-        if not said or "\n" in line or outcome.ending != f"exit {said[1]}":
+        if not said or "\n" in line or outcome.ending != f"exit {said[1]}" or said[1] == "8" and not cls.map_line.fullmatch(line):
             return f"no refusal: {outcome.ending}, {line!r}"
         track, sector, slot = (re.search(rf"\b{word} (\d+)", line) for word in ("track", "sector", "slot"))
         if not track or not 2 <= int(said[1]) <= 8:
@@ -146,6 +149,10 @@ class Peer:
         """The lines that say something is wrong: all on standard error but those of progress, and errors on standard output."""
         errors = {line.strip() for line in outcome.err.split(b"\n") if line.strip() and not self.progress.match(line.strip())}
         return errors | {line for line in outcome.out.split(b"\n") if re.match(rb"(?i)err(or)?\b", line)}
+
+    def map_place(self, outcome):
+        """The place of the map that its check says is wrong: "17/4", or "track 17" for a count; None if it names none."""
+        return None
 
 
 class Cc1541(Peer):
@@ -203,6 +210,10 @@ class Cc1541(Peer):
     def validate(self, image, folder):
         """-V is its check; with a file to write it would stand before the writing."""
         return run([self.command, "-q", "-m", "-V", image], folder)
+
+    def map_place(self, outcome):
+        said = re.search(r"BAM .* for track (\d+)(?: sector (\d+))?\n", outcome.err.decode("latin-1"))
+        return None if not said else f"{said[1]}/{said[2]}" if said[2] else f"track {said[1]}"
 
 
 class Cbmconvert(Peer):

@@ -102,8 +102,21 @@ refuses() { # STATUS MODEL IMAGE ARGUMENT..
     no_rest
 }
 
+# A damaged image bad with a file CODE, and a file other: every command that checks the image refuses it with the same line, and leaves it as it was.
+all_refuse() { # WHAT NUMBER LINE
+    cp bad before
+    for command in "check bad" "dir bad" "read bad CODE out" "store bad NEW other" "scratch bad CODE"; do
+        case_is "$1: $command"
+        # shellcheck disable=SC2086 # the words of a command
+        refuses "$2" before bad $command
+        says "$3"
+        [ ! -e out ] || fail "no file out"
+    done
+}
+
 # The words of a refusal's line: its number and meaning, as the manual has them.
 refusal() { # NUMBER [PLACE]
+    between=";"
     case $1 in
     1) meaning="wrong size" ;;
     2) meaning="bad link" ;;
@@ -112,7 +125,7 @@ refusal() { # NUMBER [PLACE]
     5) meaning="name on disk breaks the rule" ;;
     6) meaning="name already on disk in an earlier slot" ;;
     7) meaning="sector count wrong" ;;
-    8) meaning="map entry wrong" ;;
+    8) meaning="map entry wrong" between=: ;;
     9) meaning="name asked for is empty, has over 16 bytes, or holds \\xA0" ;;
     10) meaning="kind asked for is not 1 (SEQ) or 2 (PRG)" ;;
     11) meaning="DOS version forbids writing" ;;
@@ -121,7 +134,7 @@ refusal() { # NUMBER [PLACE]
     14) meaning="directory full: no empty slot and no free sector on track 18" ;;
     15) meaning="disk full: more sectors needed than are free off track 18" ;;
     esac
-    printf '%s\n' "refused, $1: $meaning${2:+; $2}"
+    printf '%s\n' "refused, $1: $meaning${2:+$between $2}"
 }
 
 # Writes bytes, given as numbers, into a file.

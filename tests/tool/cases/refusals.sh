@@ -5,21 +5,13 @@ bytes 300 7 >other
 
 # A damaged copy: every command that checks the image gives the same line.
 damaged() { # NUMBER PLACE
-    line=$(refusal "$1" "$2")
-    cp bad model
-    for command in "check bad" "dir bad" "read bad CODE out" "store bad NEW other" "scratch bad CODE"; do
-        case_is "$2: $command"
-        # shellcheck disable=SC2086 # the words of a command
-        refuses "$1" model bad $command
-        says "$line"
-        [ ! -e out ] || fail "no file out"
-    done
+    all_refuse "$2" "$1" "$(refusal "$1" "$2")"
 }
 
 # The same for the listing, which sees track 18 alone.
 listing_too() { # NUMBER PLACE
     case_is "$2: listing"
-    refuses "$1" model bad listing bad
+    refuses "$1" before bad listing bad
     says "$(refusal "$1" "$2")"
 }
 
@@ -59,9 +51,10 @@ damaged 5 "the entry is in track 18 sector 1, slot 0"
 listing_too 5 "the entry is in track 18 sector 1, slot 0"
 cp disk bad && patch bad $(($(slot 0) + 30)) 3
 damaged 7 "the entry is in track 18 sector 1, slot 0"
-for track in 1 17 18 35; do
+for row in 1:21 17:19 18:17 35:17; do
+    track=${row%:*}
     cp disk bad && patch bad $(($(track18 0) + 4 * track)) 1
-    damaged 8 "the map's entry for track $track"
+    damaged 8 "track $track, the count is 1, ${row#*:} sectors are marked free"
 done
 
 # The buyer's own line, and a second slot with the first one's name.

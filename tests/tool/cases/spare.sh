@@ -140,38 +140,31 @@ refuses 14 before disk store disk ONE /dev/null
 says "$(refusal 14)"
 
 # A wrong entry stays wrong: every command says so, and nothing changes.
-wrong() { # WHAT TRACK BYTE..
-    about=$1 track=$2
-    shift 2
+wrong() { # WHAT PLACE TRACK BYTE..
+    about=$1 place=$2 track=$3
+    shift 3
     cp model bad && patch bad $(($(track18 0) + 4 * track)) "$@"
-    cp bad before
-    for command in "check bad" "dir bad" "read bad CODE out" "store bad NEW other" "scratch bad CODE"; do
-        case_is "$about: $command"
-        # shellcheck disable=SC2086 # the words of a command
-        refuses 8 before bad $command
-        says "$(refusal 8 "the map's entry for track $track")"
-    done
+    all_refuse "$about" 8 "$(refusal 8 "track $track, $place")"
 }
 rm out
-wrong "a count of all 24 bits" 1 24 0xFF 0xFF 0xFF
-wrong "a count with one of them" 1 22 0xFF 0xFF 0x3F
-wrong "a count of track 17 with them" 17 22 0xFC 0xFF 0xFF
-wrong "a count of track 18 with them" 18 22 0xFC 0xFF 0xFF
-wrong "a count of track 19 with them" 19 24 0xFF 0xFF 0xFF
-wrong "a count of track 25 with them" 25 24 0xFF 0xFF 0xFF
-wrong "a count of track 35 with them" 35 24 0xFF 0xFF 0xFF
-wrong "one of them in the place of a sector's bit" 1 21 0xFF 0xFF 0x2F
-wrong "a sector's bit missing, and not counted" 35 16 0xFF 0xFF 0xFE
-wrong "an owned sector's bit set, and counted" 17 20 0xFD 0xFF 0xFF
-wrong "only these bits" 31 7 0 0 0xFE
-[ ! -e out ] || fail "no file out"
+wrong "a count of all 24 bits" "the count is 24, 21 sectors are marked free" 1 24 0xFF 0xFF 0xFF
+wrong "a count with one of them" "the count is 22, 21 sectors are marked free" 1 22 0xFF 0xFF 0x3F
+wrong "a count of track 17 with them" "the count is 22, 19 sectors are marked free" 17 22 0xFC 0xFF 0xFF
+wrong "a count of track 18 with them" "the count is 22, 17 sectors are marked free" 18 22 0xFC 0xFF 0xFF
+wrong "a count of track 19 with them" "the count is 24, 19 sectors are marked free" 19 24 0xFF 0xFF 0xFF
+wrong "a count of track 25 with them" "the count is 24, 18 sectors are marked free" 25 24 0xFF 0xFF 0xFF
+wrong "a count of track 35 with them" "the count is 24, 17 sectors are marked free" 35 24 0xFF 0xFF 0xFF
+wrong "one of them in the place of a sector's bit" "sector 20 is marked used but owned by nobody" 1 21 0xFF 0xFF 0x2F
+wrong "a sector's bit missing, and not counted" "sector 16 is marked used but owned by nobody" 35 16 0xFF 0xFF 0xFE
+wrong "an owned sector's bit set, and counted" "sector 0 is marked free but owned" 17 20 0xFD 0xFF 0xFF
+wrong "only these bits" "sector 0 is marked used but owned by nobody" 31 7 0 0 0xFE
 
 case_is "of several tracks only a wrong one is named"
 cp model bad && spare bad 0xFF
 patch bad $(($(track18 0) + 4 * 30)) 24
 cp bad before
 refuses 8 before bad check bad
-says "$(refusal 8 "the map's entry for track 30")"
+says "$(refusal 8 "track 30, the count is 24, 18 sectors are marked free")"
 
 case_is "format clears them"
 cp model disk && spare disk 0xFF

@@ -1,8 +1,9 @@
-//! Generated images, sound and damaged: check, dir and listing say what the independent program finds.
+//! Generated images, sound and damaged: check, dir and listing say what the independent program finds, and every command that checks the image gives the same
+//! line for a damaged one.
 
 use crate::text::{printed, refusal};
 use crate::tool::Tool;
-use independent::answer::{Answer, DONE, WRONG_SIZE};
+use independent::answer::{Answer, DONE, MAP_WRONG, NONE, WRONG_SIZE};
 use independent::check::check;
 use independent::generate::{generate, kinds};
 use independent::geometry::{IMAGE_BYTES, TRACK_18_OFFSET};
@@ -10,48 +11,84 @@ use independent::listing::{listing, LONGEST};
 use independent::naive::contents;
 use independent::request::track_18_of;
 
-/// How many images were looked at, and how many of them were refused.
-pub fn compare(tool: &Tool, seeds: u64) -> (usize, usize) {
-    let (mut made, mut refused) = (0, 0);
+/// How many images were looked at, how many of them were refused, and for how many of these a mark of the map was wrong, or only a count.
+#[derive(Default)]
+pub struct Seen {
+    pub made: usize,
+    pub refused: usize,
+    pub marks: usize,
+    pub counts: usize,
+}
+
+pub fn compare(tool: &Tool, seeds: u64) -> Seen {
+    let mut seen = Seen::default();
+    tool.write("data", b"data");
+    tool.write("jobs", b"# the job is in line 2\nscratch A\n");
     for kind in kinds() {
         for seed in 0..seeds {
             let image = generate(&kind, seed).expect("a kind").image;
             tool.write("image", &image);
             let context = format!("generate {kind} {seed}");
             let answer = check(&image);
-            one(tool, &image, &answer, &context);
-            made += 1;
-            refused += usize::from(answer.number != DONE);
+            match answer.number {
+                DONE => accepted(tool, &image, &context),
+                _ => refused(tool, &image, &answer, &context),
+            }
+            sleeve(tool, &image, &context);
+            let now = tool.read("image").expect("the image");
+            assert!(now == image, "{context}: the image is changed");
+            tool.nothing_hidden(&context);
+            seen.add(&answer);
         }
     }
-    (made, refused)
+    seen
 }
 
-fn one(tool: &Tool, image: &[u8], answer: &Answer, context: &str) {
-    let checked = tool.run(&["check", "image"]);
-    let listed = tool.run(&["dir", "image"]);
-    for said in [&checked, &listed] {
-        said.status_is(answer.number, context);
-        if answer.number != DONE {
-            said.says(&refusal(answer, image.len()), context);
-            assert!(
-                said.out.is_empty(),
-                "{context}: a refusal prints nothing on standard output"
-            );
-        }
+impl Seen {
+    fn add(&mut self, answer: &Answer) {
+        let map = answer.number == MAP_WRONG;
+        self.made += 1;
+        self.refused += usize::from(answer.number != DONE);
+        self.marks += usize::from(map && answer.place.sector != NONE);
+        self.counts += usize::from(map && answer.place.sector == NONE);
     }
-    if answer.number == DONE {
-        let expected = directory(image);
-        let seen = String::from_utf8_lossy(&listed.out);
+}
+
+fn accepted(tool: &Tool, image: &[u8], context: &str) {
+    tool.run(&["check", "image"]).status_is(DONE, context);
+    let listed = tool.run(&["dir", "image"]);
+    listed.status_is(DONE, context);
+    let expected = directory(image);
+    let seen = String::from_utf8_lossy(&listed.out);
+    assert!(
+        expected == seen,
+        "{context}: expected\n{expected}and saw\n{seen}"
+    );
+}
+
+/// Every command that checks the image, by itself and in a list.
+fn refused(tool: &Tool, image: &[u8], answer: &Answer, context: &str) {
+    let line = refusal(answer, image);
+    let commands: [&[&str]; 6] = [
+        &["check", "image"],
+        &["dir", "image"],
+        &["read", "image", "A", "out"],
+        &["store", "image", "A", "data"],
+        &["scratch", "image", "A"],
+        &["run", "--quiet", "jobs", "image"],
+    ];
+    for words in commands {
+        let said = tool.run(words);
+        said.status_is(answer.number, context);
+        match words[0] {
+            "run" => said.says(&format!("line 2: {line}"), context),
+            _ => said.says(&line, context),
+        }
         assert!(
-            expected == seen,
-            "{context}: expected\n{expected}and saw\n{seen}"
+            said.out.is_empty() && tool.read("out").is_none(),
+            "{context}: a refusal prints nothing on standard output and makes no file"
         );
     }
-    sleeve(tool, image, context);
-    let now = tool.read("image").expect("the image");
-    assert!(now == image, "{context}: the image is changed");
-    tool.nothing_hidden(context);
 }
 
 fn sleeve(tool: &Tool, image: &[u8], context: &str) {
@@ -68,7 +105,7 @@ fn sleeve(tool: &Tool, image: &[u8], context: &str) {
             "{context}: another listing"
         );
     } else {
-        said.says(&refusal(&answer, image.len()), context);
+        said.says(&refusal(&answer, image), context);
     }
 }
 

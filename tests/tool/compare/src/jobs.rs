@@ -58,7 +58,7 @@ fn answer_of(reply: &Reply) -> Answer {
 }
 
 /// The line of a refusal: a name that is not there may have been typed in small letters, and is then told so; so is who asks for a USR file.
-fn refusal_of(call: &Call, reply: &Reply) -> String {
+fn refusal_of(call: &Call, reply: &Reply, image: &[u8]) -> String {
     let shifted = match call {
         Call::Read { name, .. } | Call::Scratch { name } => {
             name.iter().any(|byte| (0xC1..=0xDA).contains(byte))
@@ -70,7 +70,7 @@ fn refusal_of(call: &Call, reply: &Reply) -> String {
         (10, Call::Store { kind: 3, .. }) => "; USR files can no longer be stored",
         _ => "",
     };
-    refusal(&answer_of(reply), ROOM) + hint
+    refusal(&answer_of(reply), image) + hint
 }
 
 /// Does a call with the independent program.
@@ -154,7 +154,10 @@ fn run_list(tool: &Tool, list: &List, keep_going: bool, context: &str, tally: &m
         let reply = done_by_oracle(&mut expected, call);
         let number = reply.number as u8;
         if number != DONE {
-            lines.push(format!("line {line}: {}", refusal_of(call, &reply)));
+            lines.push(format!(
+                "line {line}: {}",
+                refusal_of(call, &reply, &expected)
+            ));
             status = if status == DONE { number } else { status };
         }
         replies.push(reply);
@@ -283,7 +286,7 @@ fn single(
     tally.jobs += 1;
     if answer.number != DONE {
         tally.refused += 1;
-        said.says(&refusal_of(call, &reply), context);
+        said.says(&refusal_of(call, &reply, image), context);
     }
     assert!(
         tool.read("image").expect("the image") == image,

@@ -19,7 +19,11 @@ fn main() -> ExitCode {
         eprintln!("usage: compare-tool TOOL FOLDER (a new one)");
         return ExitCode::from(64);
     };
-    let (made, refused) = images::compare(&tool, number("IMAGES", 4));
+    let seen = images::compare(&tool, number("IMAGES", 4));
+    assert!(
+        seen.marks > 0 && seen.counts > 0,
+        "no wrong mark, or no wrong count alone, in any map"
+    );
     let lists = jobs::compare_lists(&tool, &seeds(40), 200);
     let single = jobs::compare_commands(&tool, &seeds(3), 200);
     assert!(
@@ -29,7 +33,14 @@ fn main() -> ExitCode {
     let odd = number("GARBAGE", 300);
     garbage::words(&tool, odd);
     garbage::lists(&tool, odd);
-    println!("tool: as the independent program: check, dir and listing of {made} images, {refused} of them refused;");
+    println!(
+        "tool: as the independent program: check, dir and listing of {} images; every command on the {} of them that are refused,",
+        seen.made, seen.refused
+    );
+    println!(
+        "tool: {} for a mark of the map and {} for a count of it;",
+        seen.marks, seen.counts
+    );
     println!(
         "tool: {} jobs of lists, {} of them refused; {} single commands, {} of them refused",
         lists.jobs, lists.refused, single.jobs, single.refused

@@ -1,7 +1,7 @@
 //! Names as text and refusals as lines, written from the manual.
 
-use independent::answer::{Answer, MAP_WRONG, NONE, WRONG_SIZE};
-use independent::geometry::IMAGE_BYTES;
+use independent::answer::{Answer, Place, MAP_WRONG, NONE, WRONG_SIZE};
+use independent::geometry::{sectors_on, IMAGE_BYTES, TRACK_18_OFFSET};
 use independent::rng::Rng;
 
 /// The character of a byte, by the table in NAMES.
@@ -73,12 +73,12 @@ fn meaning(number: u8) -> &'static str {
     }
 }
 
-/// The line of a refusal, for an image of a length.
-pub fn refusal(answer: &Answer, length: usize) -> String {
+/// The line of a refusal of an image.
+pub fn refusal(answer: &Answer, image: &[u8]) -> String {
     let line = format!("refused, {}: {}", answer.number, meaning(answer.number));
     let place = answer.place;
     match answer.number {
-        WRONG_SIZE => format!("{line}; {}", size(length)),
+        WRONG_SIZE => format!("{line}; {}", size(image.len())),
         2 | 3 if place.slot == NONE => {
             format!(
                 "{line}; the link is in track {} sector {}, in the directory",
@@ -93,9 +93,31 @@ pub fn refusal(answer: &Answer, length: usize) -> String {
             "{line}; the entry is in track {} sector {}, slot {}",
             place.track, place.sector, place.slot
         ),
-        MAP_WRONG => format!("{line}; the map's entry for track {}", place.track),
+        MAP_WRONG => format!("{line}: track {}, {}", place.track, mark(place, image)),
         _ => line,
     }
+}
+
+/// What the map says of the sector whose mark is wrong; where it names none, the count and the sectors marked free.
+fn mark(place: Place, image: &[u8]) -> String {
+    let entry = &image[TRACK_18_OFFSET + 4 * usize::from(place.track)..][..4];
+    let free = |sector: u8| entry[1 + usize::from(sector / 8)] >> (sector % 8) & 1 == 1;
+    if place.sector == NONE {
+        let marked = (0..sectors_on(place.track))
+            .filter(|&sector| free(sector))
+            .count();
+        let are = if marked == 1 {
+            "sector is"
+        } else {
+            "sectors are"
+        };
+        return format!("the count is {}, {marked} {are} marked free", entry[0]);
+    }
+    let wrongly = match free(place.sector) {
+        true => "free but owned",
+        false => "used but owned by nobody",
+    };
+    format!("sector {} is marked {wrongly}", place.sector)
 }
 
 fn size(length: usize) -> String {
