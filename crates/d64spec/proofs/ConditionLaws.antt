@@ -77,7 +77,8 @@ decided-need false fault P p =
     decided-one (asks P fault) ((λ w. refused≢done fault (w .0) (w .1)), (λ h. absurd (false≢true (p .1 h)))) (λ f e. cc) (λ f no-p e. cc)
 
 -- the same where the fault has a place, x: where P fails it is the only one that Q is true of
-pub decided-placed : {X : Type 0} (b : Bool) (fault : X → Fault) (x : X) (P : Type 0) (Q : X → Type 0) → ((b ≡ true) ↔ P) → ((P → ⊥) → Q x) → ((y : X) → Q y → x ≡ y)
+pub decided-placed : {X : Type 0} (b : Bool) (fault : X → Fault) (x : X) (P : Type 0) (Q : X → Type 0)
+    → ((b ≡ true) ↔ P) → ((P → ⊥) → Q x) → ((y : X) → Q y → x ≡ y)
     → Decided (need b (fault x)) (record { holds = P; answers = λ f. (y : X) × Q y × (f ≡ fault y) } ∷ [])
 decided-placed true fault x P Q p q only =
     decided-one _ ((λ w. p .0 refl), (λ h. (tt, refl))) (λ f e. done≢refused tt f e) (λ f no-p e. absurd (no-p (p .0 refl)))

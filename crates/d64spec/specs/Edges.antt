@@ -24,8 +24,8 @@ use Rattle.d64spec.specs.Trial.{afterCall, imageWithA, imageWithAB, lent
 abbrev pub faultsAt : ℕ → ℕ → ℕ → List Fault
 faultsAt t s n =
     wrongSize ∷ badLink (address t s) n ∷ alreadyOwned (address t s) n ∷ badType (address t s) n ∷ badName (address t s) n ∷ duplicateName (address t s) n
-    ∷ wrongCount (address t s) n ∷ wrongMapEntry (address t s) ∷ badNameArgument ∷ badKindArgument ∷ writeForbidden ∷ nameExists ∷ notFound ∷ directoryFull ∷ diskFull
-    ∷ wrongBuffer ∷ []
+    ∷ wrongCount (address t s) n ∷ wrongMapEntry (address t s) ∷ badNameArgument ∷ badKindArgument ∷ writeForbidden ∷ nameExists ∷ notFound
+    ∷ directoryFull ∷ diskFull ∷ wrongBuffer ∷ []
 
 -- what the table gives for each
 abbrev pub answersAt : ℕ → ℕ → ℕ → List (List ℕ)

@@ -67,7 +67,9 @@ checking-start m own = record { low = omega arith; high = omega arith; rest = re
 
 module _ {m : Bytes} {own : List ℕ} {t : ℕ} (c : Checking m own t) where
   -- the loop's own track, by its entry of the loaded map
-  module _ (h : t ≤ 35) {es : Entries} (loaded : es ≡ mapEntries m) (shape : MapShape es) {r : Result (Unit {0})} (told : r ≡ trackVerdict (getD es (t - 1) []) own t) where
+  module _
+      (h : t ≤ 35) {es : Entries} (loaded : es ≡ mapEntries m) (shape : MapShape es)
+      {r : Result (Unit {0})} (told : r ≡ trackVerdict (getD es (t - 1) []) own t) where
     entry-told : getD es (t - 1) [] ≡ mapEntry layout35 m t
     entry-told =
         let low : 1 ≤ t = c .low in

@@ -1,6 +1,7 @@
 // Step 4 of the check: the block availability map (document 01's map) against the owner table, track by track (01, Order of the check, 4).
 // A track's free sectors are gathered from the table as one number, bit s for sector s, and compared at once with as many bits of the entry's
-// three bitmap bytes as the track has sectors: the bits past its last sector are ignored (02, §5).
+// three bitmap bytes as the track has sectors: the bits past its last sector are ignored (02, §5). The lowest bit that differs is the sector that
+// a refusal names (02, §3).
 ghost use mathlib.Core.Path.{_≡_};
 ghost use Prim.Native.Nat.{_+_, _≤_};
 ghost use Rattle.answers.specs.Faults.{verdictOf};
@@ -83,7 +84,8 @@ fn lowest_difference(a: u32, b: u32) -> u8
     u32::trailing_zeros(a ^ b) as u8
 }
 
-// A track's entry: right where it marks exactly the sectors that nobody owns, and counts them; else refused at the lowest sector whose bit is wrong.
+// A track's entry: fine where it marks exactly the sectors that nobody owns, and counts them. Else it is refused, at the lowest sector whose bit is
+// wrong, or at 255 where only the count is.
 fn check_track(entry: [u8; 4], own: &[u8; 683], track: u8) -> Verdict
     requires { ⌜ (1 ≤ track) × (track ≤ 35) ⌝ }
     ensures { λ r. ⌜ verdictOf r ≡ trackVerdict entry (now (own .entry)) track ⌝ }
