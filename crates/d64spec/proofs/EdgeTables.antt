@@ -68,9 +68,10 @@ pub places-are : brokenPlaces placeRows ≡ []
 unfolding placeRows placeHolds wrongBits mapBit bitOf sectorsOn layout35
 places-are = refl
 
--- each sector's bit alone, and the bits past the last sector
-pub alone-are : map namedAlone (1 ∷ 18 ∷ 25 ∷ 31 ∷ []) ≡ map eachNamed (21 ∷ 19 ∷ 18 ∷ 17 ∷ [])
-unfolding namedAlone wrongBits mapBit bitOf sectorsOn layout35
+-- EACH BIT OF EACH TRACK ALONE: 24 bits of 35 tracks
+pub alone-are : map namedAlone (ascending 1 35)
+    ≡ replicate 17 (eachNamed 21) ++ (replicate 7 (eachNamed 19) ++ (replicate 6 (eachNamed 18) ++ replicate 5 (eachNamed 17)))
+unfolding namedAlone wrongBits mapBit bitOf sectorsOn ascending layout35
 alone-are = refl
 
 -- EVERY BYTE OF 18/0 after a format
