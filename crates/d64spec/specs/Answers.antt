@@ -15,7 +15,8 @@ pub record Address : Type 0 where
 abbrev pub address : ℕ → ℕ → Address
 address t s = record { track = t; sector = s }
 
--- the rows of document 01's table, each with what its place names: the sector that holds the fault, and the slot
+-- the rows of document 01's table, each with what its place names: the sector that holds the fault, and the slot; of a map entry its track, and the
+-- sector that it has wrong (02, §3)
 pub data Fault : Type 0 where
   wrongSize : Fault
   badLink alreadyOwned : Address → ℕ → Fault

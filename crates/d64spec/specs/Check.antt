@@ -1,5 +1,5 @@
 -- The check in document 01's order, with the place of the first fault (01, Order of the check).
--- In order: one map entry; one occupied slot; the slots; the map; steps 2 to 4 on the sectors; steps 1 to 4 on an image.
+-- In order: an entry of the directory; an entry of the map; one occupied slot; the slots; the map; steps 2 to 4 on the sectors; steps 1 to 4 on an image.
 -- What it accepts is said again with no order in specs/Accepted; that the two agree: proofs/ExactTheorem, `check-exact`.
 use Prim.Native.Nat.{ℕ, _*_}
 use mathlib.Core.Bool.{Bool}
