@@ -70,10 +70,6 @@ binary-bit f bit (suc n) (suc s) h =
     let half : binary f (suc n) / 2 ≡ binary (λ i. f (suc i)) n = omega (arith, binary-first f n, bit 0) in
     bit-half (binary f (suc n)) s ∙ ap (λ (x : ℕ). bitOf x s) half ∙ binary-bit (λ i. f (suc i)) (λ i. bit (suc i)) n s (omega arith)
 
--- alike as numbers, alike in all bits
-pub bits-same : (f h : ℕ → ℕ) → ((s : ℕ) → f s ≤ 1) → ((s : ℕ) → h s ≤ 1) → (n : ℕ) → binary f n ≡ binary h n → (s : ℕ) → s < n → f s ≡ h s
-bits-same f h bf bh n e s l = sym (binary-bit f bf n s l) ∙ ap (λ (x : ℕ). bitOf x s) e ∙ binary-bit h bh n s l
-
 -- ---- a number by its bits
 
 -- one bit more of a remainder by a power of two

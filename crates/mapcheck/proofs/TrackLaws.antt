@@ -22,7 +22,7 @@ use Rattle.d64spec.specs.Map.{mapBit, mapOnes, wrongBits, lowestWrong, entryCor
 use Rattle.d64spec.specs.Check.{checkTrack}
 use Rattle.d64spec.proofs.MapLaws.{OwnRight, bits-of-none, lowest-at, lowest-none, map-bit-le, none-of-bits}
 use Rattle.d64spec.proofs.SumLaws.{sum-same}
-use Rattle.d64spec.proofs.BitLaws.{binary-lt, binary-same, binary-bit, binary-remainder, bits-same}
+use Rattle.d64spec.proofs.BitLaws.{binary-lt, binary-same, binary-bit, binary-remainder}
 use Rattle.d64spec.proofs.RunTheorem.{valid35}
 use Rattle.owners.specs.OwnerTable.{freeBy}
 use Rattle.bam.specs.MapEntry.{entryBit, bitmapOf}
@@ -84,10 +84,16 @@ module _ (m : Bytes) (own : List ℕ) (t : ℕ) where
         ap (λ (x : ℕ). bitOf x s) (bitmap-binary entry shape) ∙ binary-bit (entryBit entry) (entry-bit-le entry) 24 s below
         ∙ bit-map-entry layout35 m t s below)
 
-    bits-of-mask : bitmapOf entry % 2 ^ sectors ≡ freeMask own first sectors → OwnRight layout35 free m t
+    -- the bits of the two numbers are the marks, and the free sectors
+    marked-bit : (s : ℕ) → s < sectors → bitOf (bitmapOf entry % 2 ^ sectors) s ≡ mapBit layout35 m t s
+    marked-bit s h = ap (λ (x : ℕ). bitOf x s) bitmap-low ∙ binary-bit (mapBit layout35 m t) (map-bit-le layout35 m t) sectors s h
+
+    mask-bit : (s : ℕ) → s < sectors → bitOf (freeMask own first sectors) s ≡ indicator (free (address t s))
     unfolding freeMask
-    bits-of-mask e s h =
-        bits-same (mapBit layout35 m t) (freeBit own first) (map-bit-le layout35 m t) (free-bit-le own first) sectors (sym bitmap-low ∙ e) s h ∙ free-bit s
+    mask-bit s h = binary-bit (freeBit own first) (free-bit-le own first) sectors s h ∙ free-bit s
+
+    bits-of-mask : bitmapOf entry % 2 ^ sectors ≡ freeMask own first sectors → OwnRight layout35 free m t
+    bits-of-mask e s h = sym (marked-bit s h) ∙ ap (λ (x : ℕ). bitOf x s) e ∙ mask-bit s h
 
     mask-of-bits : OwnRight layout35 free m t → bitmapOf entry % 2 ^ sectors ≡ freeMask own first sectors
     unfolding freeMask
@@ -100,14 +106,6 @@ module _ (m : Bytes) (own : List ℕ) (t : ℕ) where
         (λ e. eq-eqb _ _ (mask-of-bits (bits-of-none layout35 free m t (eqb-true _ 0 e))))
 
     -- ---- the lowest wrong bit
-
-    -- the bits of the two numbers are the marks, and the free sectors
-    marked-bit : (s : ℕ) → s < sectors → bitOf (bitmapOf entry % 2 ^ sectors) s ≡ mapBit layout35 m t s
-    marked-bit s h = ap (λ (x : ℕ). bitOf x s) bitmap-low ∙ binary-bit (mapBit layout35 m t) (map-bit-le layout35 m t) sectors s h
-
-    mask-bit : (s : ℕ) → s < sectors → bitOf (freeMask own first sectors) s ≡ indicator (free (address t s))
-    unfolding freeMask
-    mask-bit s h = binary-bit (freeBit own first) (free-bit-le own first) sectors s h ∙ free-bit s
 
     mask-lt : freeMask own first sectors < 2 ^ sectors
     unfolding freeMask
