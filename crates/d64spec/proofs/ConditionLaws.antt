@@ -71,20 +71,19 @@ decided-one c holds answered refuses = record {
   );
 }
 
-pub decided-need : (b : Bool) (fault : Fault) (P : Type 0) → ((b ≡ true) ↔ P) → Decided (need b fault) (asks P fault ∷ [])
-decided-need true fault P p = decided-one (asks P fault) ((λ w. p .0 refl), (λ h. (tt, refl))) (λ f e. done≢refused tt f e) (λ f no-p e. absurd (no-p (p .0 refl)))
-decided-need false fault P p =
-    decided-one (asks P fault) ((λ w. refused≢done fault (w .0) (w .1)), (λ h. absurd (false≢true (p .1 h)))) (λ f e. cc) (λ f no-p e. cc)
+-- a test decides one condition: where the condition fails, the test's fault answers for it, and no other does
+pub decided-test : (b : Bool) (fault : Fault) (c : Condition) → ((b ≡ true) ↔ c .holds)
+    → ((c .holds → ⊥) → c .answers fault) → ((f : Fault) → c .answers f → f ≡ fault) → Decided (need b fault) (c ∷ [])
+decided-test true fault c p answers only =
+    decided-one c ((λ w. p .0 refl), (λ h. (tt, refl))) (λ f e. done≢refused tt f e) (λ f fails a. absurd (fails (p .0 refl)))
+decided-test false fault c p answers only =
+    let fails : c .holds → ⊥ = λ h. false≢true (p .1 h) in
+    decided-one c ((λ w. refused≢done fault (w .0) (w .1)), (λ h. absurd (fails h)))
+    (λ f e. let same : f ≡ fault = cc in rw same (answers fails)) (λ f h a. ap refused (sym (only f a)))
 
--- the same where the fault has a place, x: where P fails it is the only one that Q is true of
-pub decided-placed : {X : Type 0} (b : Bool) (fault : X → Fault) (x : X) (P : Type 0) (Q : X → Type 0)
-    → ((b ≡ true) ↔ P) → ((P → ⊥) → Q x) → ((y : X) → Q y → x ≡ y)
-    → Decided (need b (fault x)) (record { holds = P; answers = λ f. (y : X) × Q y × (f ≡ fault y) } ∷ [])
-decided-placed true fault x P Q p q only =
-    decided-one _ ((λ w. p .0 refl), (λ h. (tt, refl))) (λ f e. done≢refused tt f e) (λ f no-p e. absurd (no-p (p .0 refl)))
-decided-placed false fault x P Q p q only =
-    decided-one _ ((λ w. refused≢done (fault x) (w .0) (w .1)), (λ h. absurd (false≢true (p .1 h)))) (λ f e. (x, q (λ h. false≢true (p .1 h)), cc))
-    (λ f no-p e. ap refused (ap fault (only (e .0) (e .1)) ∙ sym (e .2)))
+-- the same where the condition names its one fault
+pub decided-need : (b : Bool) (fault : Fault) (P : Type 0) → ((b ≡ true) ↔ P) → Decided (need b fault) (asks P fault ∷ [])
+decided-need b fault P p = decided-test b fault (asks P fault) p (λ fails. refl) (λ f e. e)
 
 -- what a test of two numbers says, for `decided-need`
 pub eqb-exact : (a b : ℕ) → (eqb a b ≡ true) ↔ (a ≡ b)

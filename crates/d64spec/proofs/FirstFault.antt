@@ -2,7 +2,7 @@
 -- In order: one entry; a listing's slots; one slot, all slots; the directory; the map; the whole. Size, arguments and the calls: proofs/OrderTheorem.
 use Prim.Native.Nat.{ℕ, _+_, _≤_, _<_}
 use native.Mathlib.Omega.{arith}
-use mathlib.Core.Path.{_≡_}
+use mathlib.Core.Path.{_≡_, refl, sym, ap, _∙_}
 use mathlib.Core.Logic.{_↔_, Iff·rfl}
 use mathlib.Core.List.{List, [], _∷_, _++_, map}
 use lib.ListN.{length}
@@ -14,17 +14,17 @@ use Rattle.d64spec.specs.Image.{Disk}
 use Rattle.d64spec.specs.Chain.{directoryLink, fileLink, steps, to}
 use Rattle.d64spec.specs.Directory.{File, Slot, countOf, directorySectors, entryByte, fileOf, files, firstLink, nameOf, occupied, validName, validType}
 use Rattle.d64spec.specs.Owner.{claimCount, claimList, fileClaims, isFree}
-use Rattle.d64spec.specs.Map.{entryCorrect, lowestWrong}
+use Rattle.d64spec.specs.Map.{entryCorrect}
 use Rattle.d64spec.specs.Check.{checkDirectory, checkDisk, checkEntry, checkMap, checkSlot, checkSlots, checkTrack}
-use Rattle.d64spec.specs.Accepted.{AcceptedDisk, MarksFree}
+use Rattle.d64spec.specs.Accepted.{AcceptedDisk}
 use Rattle.d64spec.specs.Listing.{listSlots}
-use Rattle.d64spec.specs.Order.{AllHold, ClaimsOnce, NamesWrong, asksDirectory, asksTrack, diskConditions, entryConditions, listingSlots, mapConditions, slotConditions, slotsConditions}
+use Rattle.d64spec.specs.Order.{AllHold, ClaimsOnce, asksDirectory, asksTrack, diskConditions, entryConditions, listingSlots, mapConditions, slotConditions, slotsConditions}
 use Rattle.d64spec.proofs.SumLaws.{indicator-le}
 use Rattle.d64spec.proofs.ListLaws.{count-append}
 use Rattle.d64spec.proofs.BoundLaws.{all-append, directoryLink-on, fileLink-on, follow-on, map-on, sectorNumber-lt}
 use Rattle.d64spec.proofs.MapLaws.{lowest-names, names-lowest, track-complete, track-sound}
 use Rattle.d64spec.proofs.CheckLaws.{claims-are, contents, disk-complete, disk-sound, firstLink-on, slot-met, slots-sound}
-use Rattle.d64spec.proofs.ConditionLaws.{Decided, decided-bind, decided-bind-done, decided-done, decided-need, decided-placed, decided-then, decided-then-done, eqb-exact}
+use Rattle.d64spec.proofs.ConditionLaws.{Decided, decided-bind, decided-bind-done, decided-done, decided-need, decided-test, decided-then, decided-then-done, eqb-exact}
 use Rattle.d64spec.proofs.ChainFaultLaws.{decided-walk, walk-met}
 
 pub decided-entry : (names : List Bytes) (s : Slot) → Decided (checkEntry names s) (entryConditions names s)
@@ -104,9 +104,9 @@ module _ (g : Geometry) (v : Valid g) (d : Disk) where
   -- one track, with the sector that its place names
   decided-track : ((n : ℕ) → claimCount g d n ≤ 1) → (t : ℕ) → Decided (checkTrack g (isFree g d) (d (sectorNumber g mapAddress)) t) (asksTrack g d t ∷ [])
   decided-track u t =
-      decided-placed (entryCorrect g (isFree g d) (d (sectorNumber g mapAddress)) t) (λ s. wrongMapEntry (address t s))
-      (lowestWrong g (isFree g d) (d (sectorNumber g mapAddress)) t) (MarksFree g d t) (NamesWrong g d t)
-      (track-sound g v d u t, track-complete g v d u t) (lowest-names g v d u t) (names-lowest g v d u t)
+      decided-test (entryCorrect g (isFree g d) (d (sectorNumber g mapAddress)) t) _ (asksTrack g d t) (track-sound g v d u t, track-complete g v d u t)
+      (λ wrong. (_, lowest-names g v d u t wrong, refl))
+      (λ f a. a .2 ∙ ap (λ s. wrongMapEntry (address t s)) (sym (names-lowest g v d u t (a .0) (a .1))))
 
   decided-map : ((n : ℕ) → claimCount g d n ≤ 1) → (l : List ℕ) → Decided (checkMap g d (isFree g d) l) (mapConditions g d l)
   decided-map u [] = decided-done

@@ -97,7 +97,3 @@ module _ {A : Type 0} (p : A → Bool) where
               | no k ↦ let z : a ≡ i = omega arith in rw (← z) t
             ];
           }
-
-pub map-self : {A : Type 0} (l : List A) → map (λ x. x) l ≡ l
-map-self [] = refl
-map-self {A} (x ∷ l) = ap (λ (z : List A). x ∷ z) (map-self l)

@@ -6,7 +6,7 @@ use native.Mathlib.Decide.{decLe}
 use mathlib.Core.Path.{_≡_, refl, sym, ap, ap₂, _∙_}
 use mathlib.Core.Bool.{Bool, true, false, cond, not, _&&_}
 use mathlib.Core.Logic.{_↔_, inl, inr}
-use mathlib.Core.List.{List, [], _∷_}
+use mathlib.Core.List.{List, [], _∷_, map-id}
 use lib.ListN.{length, getD}
 use lib.Dec.{eqb}
 use borrow.Author.Tests.{eqb-true, eq-eqb, not-false}
@@ -19,7 +19,7 @@ use Rattle.d64spec.specs.Map.{entryCorrect, lowestWrong, mapBit, mapOnes
 use Rattle.d64spec.specs.Check.{checkMap, checkTrack}
 use Rattle.d64spec.specs.Accepted.{MarksFree, RightBit}
 use Rattle.d64spec.specs.Order.{NamesWrong}
-use Rattle.d64spec.proofs.ListLaws.{Lowest, lowest, map-self}
+use Rattle.d64spec.proofs.ListLaws.{Lowest, lowest}
 use Rattle.d64spec.proofs.SumLaws.{sum-same}
 use Rattle.d64spec.proofs.BitLaws.{bit-le}
 use Rattle.d64spec.proofs.ResultLaws.{need-done}
@@ -104,9 +104,9 @@ module _ (g : Geometry) (free : Address → Bool) (m : Bytes) (t : ℕ) where
   -- it is wrong, and all lower ones are right
   pub wrong-first : (s : ℕ) (l : List ℕ) → wrongBits g free m t ≡ s ∷ l → Lowest (wrongBit g free m t) (λ i. i) 0 (sectorsOn g t) s
   unfolding wrongBits
-  wrong-first s l e = lowest (wrongBit g free m t) (λ i. i) 0 (sectorsOn g t) s l (ap (filter (wrongBit g free m t)) (map-self (range 0 (sectorsOn g t))) ∙ e)
+  wrong-first s l e = lowest (wrongBit g free m t) (λ i. i) 0 (sectorsOn g t) s l (ap (filter (wrongBit g free m t)) (map-id (range 0 (sectorsOn g t))) ∙ e)
 
-  pub passes-not-right : (s : ℕ) → wrongBit g free m t s ≡ true → mapBit g m t s ≡ indicator (free (address t s)) → ⊥
+  passes-not-right : (s : ℕ) → wrongBit g free m t s ≡ true → mapBit g m t s ≡ indicator (free (address t s)) → ⊥
   passes-not-right s w e = let z : _≡_ {A = ℕ} 0 1 = (let right = test-of-bit g free m t s e in cc) in omega arith
 
   -- a sector that is wrong, with all lower ones right, is that one

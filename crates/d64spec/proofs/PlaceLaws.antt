@@ -64,7 +64,7 @@ sector-lt : (g : Geometry) → Valid g → (r : Address) → onDisk g r ≡ true
 unfolding onDisk
 sector-lt g v r h = omega (arith, v .small (r .track), ltb-true (r .sector) (sectorsOn g (r .track)) h)
 
--- so does what the place of a wrong map entry names: one of the track's sectors, or 255
+-- what the place of a wrong map entry names fits a byte: one of the track's sectors, or 255
 lowest-small : (g : Geometry) → Valid g → (free : Address → Bool) (m : Bytes) (t : ℕ) → lowestWrong g free m t < 256
 lowest-small g v free m t = go (wrongBits g free m t) refl
   where

@@ -37,8 +37,9 @@ pub record Says8 (g : Geometry) (img : Bytes) (a : Answer) : Type 0 where
 -- an entry of track t, and the sector that is named where all of the track's sectors are free, or all but sector k
 pub data PlaceRow : Type 0 where
   allFree : ℕ → Bytes → ℕ → PlaceRow
-  allBut : ℕ → ℕ → Bytes → ℕ → PlaceRow
+  allBut : ℕ → ℕ → Bytes → ℕ → PlaceRow  -- k, then t
 
+-- whether a row is as document 02 says
 unfoldable pub placeHolds : PlaceRow → Bool
 placeHolds (allFree t e s) = eqb (lowestWrong layout35 (λ r. true) (entryAlone t e) t) s
 placeHolds (allBut k t e s) = eqb (lowestWrong layout35 (λ r. not (eqb (r .sector) k)) (entryAlone t e) t) s
