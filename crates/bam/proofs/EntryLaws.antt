@@ -13,10 +13,10 @@ use Rattle.d64spec.specs.Answers.{Address, address}
 use Rattle.d64spec.specs.Geometry.{Geometry, Valid, sectorsOn}
 use Rattle.d64spec.specs.Map.{mapBit, expectedBit, bitmapByte, expectedEntry}
 use Rattle.d64spec.proofs.SumLaws.{sum-map-le, sum-map-more}
-use Rattle.d64spec.proofs.BitLaws.{binary-lt, binary-same, binary-set, binary-bit}
+use Rattle.d64spec.proofs.BitLaws.{binary-lt, binary-same, binary-set, binary-bit, power-le}
 use Rattle.d64spec.proofs.MapWriteLaws.{expected-le, expected-entry-same}
 use Rattle.bam.specs.MapEntry.{entryBit, bitmapOf, entryFrom, movedEntry}
-use Rattle.bam.proofs.BitmapLaws.{power-le, bitmap-binary}
+use Rattle.bam.proofs.BitmapLaws.{bitmap-binary}
 use Rattle.bam.proofs.ShapeLaws.{EntryShape}
 use Rattle.bam.proofs.JoinLaws.{four}
 

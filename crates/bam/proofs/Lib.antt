@@ -9,6 +9,7 @@ pub mod MapShapeLaws
 pub mod SaveLaws
 pub mod VersionLaws
 pub mod SectorLaws
+pub mod OnesLaws
 pub mod EntryLaws
 pub mod StoredLaws
 pub mod FollowLaws

@@ -8,10 +8,34 @@ ghost use Rattle.d64spec.specs.Geometry.{layout35, sectorNumber, mapAddress};
 ghost use Rattle.d64spec.specs.Image.{disk};
 ghost use Rattle.d64spec.specs.Reply.{writable};
 ghost use Rattle.geometry.specs.Layout.{unpacked};
-ghost use Rattle.bam.specs.MapEntry.{entryFrom, movedEntry};
+ghost use Rattle.bam.specs.MapEntry.{bitmapOf, ownBits, freeOn, entryFrom, movedEntry};
 ghost use Rattle.bam.specs.Bam.{movedMark};
 ghost use Rattle.bam.specs.MapSector.{fourBytes, mapEntry, mapEntries, storedEntries, allowsWriting};
 ghost use Rattle.bam.specs.ImageMaps.{MapWritten};
+
+// The three bitmap bytes of an entry as one number: bit s for sector s.
+pub fn bitmap_of(entry: [u8; 4]) -> u32
+    ensures { λ r. ⌜ r ≡ bitmapOf entry ⌝ }
+{
+    entry[1] as u32 + 256 * (entry[2] as u32) + 65536 * (entry[3] as u32)
+}
+
+// How many bits of a track's entry are its own sectors': as many as it has sectors, and at most 24. How many sectors each track has is lent, from
+// track 1 on; a track that is not in the table has none.
+pub fn own_bits(track: u8, counts: &[u8; 35]) -> u8
+    ensures { λ r. ⌜ r ≡ ownBits (now (counts .entry)) track ⌝ }
+{
+    let sectors = geometry::count_by(counts, track);
+    if sectors < 24 { sectors } else { 24 }
+}
+
+// How many sectors of a track its entry marks free: the ones of the three bitmap bytes, counted at once, those past the track's last sector masked
+// off (02, §4).
+pub fn count_free(entry: [u8; 4], track: u8, counts: &[u8; 35]) -> u32
+    ensures { λ r. ⌜ r ≡ freeOn (now (counts .entry)) entry track ⌝ }
+{
+    u32::count_ones(bitmap_of(entry) % (1 << own_bits(track, counts)))
+}
 
 // The entry with this count and this bitmap: the count's lowest byte, and the bitmap's lowest three.
 fn entry_of(count: u32, bits: u32) -> [u8; 4]
@@ -34,7 +58,7 @@ fn moved_entry(entry: [u8; 4], sector: u8, free: bool) -> [u8; 4]
         return entry;
     }
     let bit: u32 = 1 << sector;
-    let bits = entry[1] as u32 + 256 * (entry[2] as u32) + 65536 * (entry[3] as u32);
+    let bits = bitmap_of(entry);
     if free {
         return entry_of(entry[0] as u32 + 1, bits + bit);
     }

@@ -1,14 +1,33 @@
--- Numbers and their bits (`bitOf`, `binary`), over any width. In order: one bit more; the size; the bits of a number made of bits are these; the number
+-- Numbers and their bits (`bitOf`, `binary`), over any width. In order: powers of two; one bit more; the size; the bits of a number made of bits are these; the number
 -- made of a number's lowest bits is its remainder, so that numbers are known by their bits; one bit changed. Assumes nothing.
 use Prim.Native.Nat.{ℕ, zero, suc, _+_, _*_, _/_, _%_, _^_, _≤_, _<_}
 use native.Mathlib.Omega.{arith}
-use native.Mathlib.Nat.{pow-succ', mul-add, mul-assoc, mul-comm, mul-left-comm, zero-div, div-div-eq-div-mul, mod-add-div, mod-eq-of-lt, mod-lt, add-mul-mod-self-left}
+use native.Mathlib.Nat.{pow-succ', pow-le-pow-right, mul-le-mul-right, mul-add, mul-assoc, mul-comm, mul-left-comm, zero-div, div-div-eq-div-mul, mod-add-div, mod-eq-of-lt, mod-lt, add-mul-mod-self-left}
 use mathlib.Core.Path.{_≡_, refl, sym, ap, _∙_}
 use mathlib.Core.List.{map}
 use lib.Pow.{pow-pos}
 use Rattle.d64spec.specs.Lists.{range, sum}
 use Rattle.d64spec.specs.Bits.{bitOf, binary}
 use Rattle.d64spec.proofs.SumLaws.{sum-same, sum-map-last, sum-map-more}
+
+-- ---- powers of two up to a bitmap's, which has 24 bits
+
+pub power-le : (s : ℕ) → s ≤ 24 → 2 ^ s ≤ 16777216
+power-le s h = pow-le-pow-right {n = 2} (omega arith) h
+
+-- a bit up to 24 is not shifted out of 32
+pub shifted : (s : ℕ) → s ≤ 24 → 1 * 2 ^ s % 4294967296 ≡ 2 ^ s
+shifted s h = omega (arith, power-le s h)
+
+-- and is not 0 then, whichever small number is shifted
+pub shifted-some : {x s : ℕ} → s ≤ 24 → 1 ≤ x → x ≤ 128 → 0 < x * 2 ^ s % 4294967296
+shifted-some {x} {s} h low high =
+    let least : 1 * 2 ^ s ≤ x * 2 ^ s = mul-le-mul-right (2 ^ s) low in
+    let most : x * 2 ^ s ≤ 128 * 2 ^ s = mul-le-mul-right (2 ^ s) high in
+    let whole : x * 2 ^ s % 4294967296 ≡ x * 2 ^ s = mod-eq-of-lt (omega (arith, power-le s h)) in
+    omega (arith, pow-pos s)
+
+-- ---- bits
 
 pub bit-le : (b k : ℕ) → bitOf b k ≤ 1
 unfolding bitOf

@@ -52,11 +52,18 @@ pub bits-are : map wrongTracks bitmaps ≡ replicate 5 []
 unfolding bitmaps wrongTracks sameBitmaps mapBit bitOf ascending layout35
 bits-are = refl
 
--- the ones among a track's own sectors, where all 24 bits are 1
-pub ones-are : map (mapOnes layout35 (sameBitmaps (replicate 3 0xFF))) (ascending 1 35)
-    ≡ replicate 17 21 ++ (replicate 7 19 ++ (replicate 6 18 ++ replicate 5 17))
-unfolding sameBitmaps mapOnes mapBit bitOf sectorsOn ascending layout35
+-- THE ONES among a track's own sectors, where all 24 bits are 1; tracks 0 and 36, where a sector of such bytes has some too, have none (02, §4)
+pub ones-are : map (mapOnes layout35 (join (replicate 37 (85 ∷ replicate 3 0xFF)))) (ascending 0 36)
+    ≡ 0 ∷ replicate 17 21 ++ (replicate 7 19 ++ (replicate 6 18 ++ (replicate 5 17 ++ (0 ∷ []))))
+unfolding mapOnes mapBit bitOf sectorsOn ascending layout35
 ones-are = refl
+
+-- the same where half of the bits or fewer are 1, on a track of 21, 19, 18 and 17 sectors (02, §4)
+pub halves-are : map (λ b. map (mapOnes layout35 (sameBitmaps b)) (1 ∷ 18 ∷ 25 ∷ 31 ∷ []))
+    ((0xAA ∷ 0xAA ∷ 0xAA ∷ []) ∷ (0xCC ∷ 0xCC ∷ 0xCC ∷ []) ∷ (0xF0 ∷ 0xF0 ∷ 0xF0 ∷ []) ∷ (0x00 ∷ 0xFF ∷ 0x00 ∷ []) ∷ (0x00 ∷ 0x00 ∷ 0xFF ∷ []) ∷ [])
+    ≡ (10 ∷ 9 ∷ 9 ∷ 8 ∷ []) ∷ (10 ∷ 9 ∷ 8 ∷ 8 ∷ []) ∷ (9 ∷ 8 ∷ 8 ∷ 8 ∷ []) ∷ (8 ∷ 8 ∷ 8 ∷ 8 ∷ []) ∷ (5 ∷ 3 ∷ 2 ∷ 1 ∷ []) ∷ []
+unfolding sameBitmaps mapOnes mapBit bitOf sectorsOn layout35
+halves-are = refl
 
 -- BITS PAST A TRACK'S LAST SECTOR, in each zone (02, §5)
 pub zones-are : brokenEntries zoneRows ≡ []

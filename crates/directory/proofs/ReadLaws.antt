@@ -8,6 +8,7 @@ use lib.ListN.{length, set, take, length-map}
 use lib.Seq.{length-take-le}
 use borrow.Author.Tests.{eq-eqb, ne-eqb}
 use Rattle.d64spec.specs.Lists.{Bytes, All, zeros}
+use Rattle.d64spec.specs.Bits.{binary}
 use Rattle.d64spec.specs.Answers.{Address, address, Result, refused, done}
 use Rattle.d64spec.specs.Answers as answer
 use Rattle.d64spec.specs.Geometry.{layout35, total, sectorsOn, sectorNumber, firstOn, mapAddress, directoryStart}
@@ -20,6 +21,7 @@ use Rattle.answers.specs.declared.Fault.the-variants.{WrongSize}
 use Rattle.answers.specs.declared.Verdict.the-variants.{Fine, Refused}
 use Rattle.answers.specs.Faults.{faultOf, whereFine}
 use Rattle.owners.specs.OwnerTable.{owned, withOwner, directoryOwner, directoryTable}
+use Rattle.owners.specs.Masks.{ownedBit, ownedMask}
 use Rattle.directory.specs.declared.Directory.{Directory}
 use Rattle.directory.specs.declared.walk.Walk.{Walk}
 use Rattle.directory.specs.Directories.{DirectoryRead, firstRepeated, sectorCount, sectorsOf, tableAfter, trackDirectory}
@@ -29,12 +31,21 @@ use Rattle.directory.proofs.Track18Laws.{mapTable35}
 -- ---- the table before the walk
 
 -- 18/0 is the map's, and nothing else has an owner
-abbrev startTable : List ℕ
+abbrev pub startTable : List ℕ
 startTable = set (zeros 683) 357 1
 
 owned-start : owned startTable ≡ sectorNumber layout35 mapAddress ∷ []
 unfolding owned sectorNumber firstOn layout35
 owned-start = refl
+
+-- nobody owns anything of track 18, and then 18/0 has an owner
+none-used : 0 ≡ ownedMask (zeros 683) 357 19
+unfolding ownedMask ownedBit binary
+none-used = refl
+
+pub start-used : 1 ≡ ownedMask startTable 357 19
+unfolding ownedMask ownedBit binary
+start-used = refl
 
 -- ---- a walk told with its table
 
@@ -81,7 +92,7 @@ all-zeros (suc n) = (omega arith, all-zeros n)
 
 -- what a refusal leaves
 abbrev pub refusal : Fault → Directory
-refusal f = record { verdict = Refused f; sectors = zeros 18; count = 0; repeated = 0; owners = zeros 683 }
+refusal f = record { verdict = Refused f; sectors = zeros 18; count = 0; repeated = 0; owners = zeros 683; used = 0 }
 
 module _ (b : Bytes) where
   read-refused : (f : Fault) → trackDirectory b ≡ refused (faultOf f) → DirectoryRead b (refusal f)
@@ -94,6 +105,7 @@ module _ (b : Bytes) where
     inside = all-zeros 18;
     repeated = refl;
     owners = rw e;
+    used = none-used;
   }
 
   -- THE SIZE is asked first
@@ -108,7 +120,7 @@ module _ (b : Bytes) where
 
     -- A WALK THAT IS DONE gives its sectors and its table
     pub read-walk-done : w .verdict ≡ Fine → length (w .sectors) ≡ 18 → (k : ℕ) → k ≡ firstRepeated b (w .sectors) 0 (8 * w .count)
-        → DirectoryRead b (record { verdict = Fine; sectors = w .sectors; count = w .count; repeated = k; owners = own′ })
+        → DirectoryRead b (record { verdict = Fine; sectors = w .sectors; count = w .count; repeated = k; owners = own′; used = w .used })
     unfolding whereFine sectorCount tableAfter directoryTable
     read-walk-done verdict long k first =
         let t = marked-done startTable _ _ (rw (start, verdict) at (walked .told)) in
@@ -121,4 +133,5 @@ module _ (b : Bytes) where
           inside = walked .inside;
           repeated = first;
           owners = rw (e, mapTable35) (t .table);
+          used = walked .used;
         }

@@ -1,6 +1,7 @@
 -- The walk of the directory under way.
--- In order: the link in a sector of track 18; room in the array, which is what falls; the sectors gathered; the invariant, its start, its step and its ends.
-use Prim.Native.Nat.{ℕ, zero, suc, _+_, _*_, _-_, _≤_, _<_}
+-- In order: the link in a sector of track 18; room in the array, which is what falls; the sectors gathered; the invariant, its start and its step; the
+-- used sectors of track 18; the ends.
+use Prim.Native.Nat.{ℕ, zero, suc, _+_, _*_, _-_, _^_, _≤_, _<_}
 use native.Mathlib.Omega.{arith}
 use native.Mathlib.Numerals.{add-one}
 use mathlib.Core.Path.{_≡_, refl, sym, ap, ap₂, _∙_, subst}
@@ -25,6 +26,8 @@ use Rattle.answers.specs.declared.Verdict.{Verdict}
 use Rattle.answers.specs.declared.Fault.the-variants.{BadLink, AlreadyOwned}
 use Rattle.answers.specs.declared.Verdict.the-variants.{Fine, Refused}
 use Rattle.owners.specs.OwnerTable.{owned, withOwner, directoryOwner, mapTable}
+use Rattle.owners.specs.Masks.{ownedMask}
+use Rattle.owners.proofs.MaskLaws.{mask-lt, mask-more}
 use Rattle.owners.proofs.TableLaws.{freeCount, freeCount-le, freeCount-set}
 use Rattle.owners.proofs.WalkTable.{walk-alike}
 use Rattle.owners.proofs.Walking.{Walking, walking-start, walking-ends, walking-bad, walking-owned, walking-moved}
@@ -194,17 +197,31 @@ module _ {b : Bytes} {o : Result Marked} {own ss : List ℕ} {n holder : ℕ} wh
 pub walks-again : {b : Bytes} {o : Result Marked} {own ss : List ℕ} {n holder : ℕ} {at : CodeAddress} → Walks b o own ss n holder (to (addressOf at)) → Walks b o own ss n holder (to (address 18 (at .sector)))
 walks-again w = rw (w .within .0) at w
 
+-- ---- the used sectors of track 18
+
+module _ {b : Bytes} {o : Result Marked} {own ss : List ℕ} {n holder next used : ℕ} (w : Walks b o own ss n holder (to (address 18 next)))
+    (none : getD own (357 + next) 0 ≡ 0) (m : used ≡ ownedMask own 357 19) where
+  -- 18/next gets its bit
+  pub used-moved : {used′ : ℕ} → used′ ≡ used + 2 ^ next → used′ ≡ ownedMask (set own (357 + next) directoryOwner) 357 19
+  used-moved more =
+      let long : length own ≡ 683 = w .long in
+      let high : next < 19 = w .within .2 in
+      more ∙ ap (λ (x : ℕ). x + 2 ^ next) m ∙ sym (mask-more own 357 19 next directoryOwner high (omega arith) none (omega arith))
+
+  pub used-room : used + 2 ^ next < 524288
+  used-room = omega (arith, used-moved refl, mask-lt (set own (357 + next) directoryOwner) 357 19)
+
 -- ---- the ends
 
-module _ {b own₀ own ss : List ℕ} {n holder : ℕ} where
+module _ {b own₀ own ss : List ℕ} {n holder used : ℕ} (m : used ≡ ownedMask own 357 19) where
   module _ (k : Link) (w : Walks b (directoryWalk b own₀) own ss n holder k) where
     -- whatever the verdict is, the array is as it should be
-    walked-with : (v : Verdict) → whereFine v (record { sectors = sectorsOf ss n; table = own }) ≡ directoryWalk b own₀ → Walked b own₀ (record { verdict = v; sectors = ss; count = n }) own
+    walked-with : (v : Verdict) → whereFine v (record { sectors = sectorsOf ss n; table = own }) ≡ directoryWalk b own₀ → Walked b own₀ (record { verdict = v; sectors = ss; count = n; used = used }) own
     walked-with v e =
         let places : n + freePlaces own ≤ 18 = w .places in
-        record { told = e; rest = w .gathered .rest; few = omega arith; inside = w .gathered .inside }
+        record { told = e; rest = w .gathered .rest; few = omega arith; inside = w .gathered .inside; used = m }
 
-  pub walked-ends : Walks b (directoryWalk b own₀) own ss n holder ends → Walked b own₀ (record { verdict = Fine; sectors = ss; count = n }) own
+  pub walked-ends : Walks b (directoryWalk b own₀) own ss n holder ends → Walked b own₀ (record { verdict = Fine; sectors = ss; count = n; used = used }) own
   unfolding whereFine markedAfter
   walked-ends w =
       walked-with ends w Fine
@@ -212,12 +229,12 @@ module _ {b own₀ own ss : List ℕ} {n holder : ℕ} where
       ∙ walking-ends layout35 (directoryLink layout35) (diskOfTrack18 layout35 b) markedAfter 255 (w .walking))
 
   pub walked-bad : {p : Place} → p ≡ record { track = 18; sector = holder; slot = 255 } → Walks b (directoryWalk b own₀) own ss n holder bad
-      → Walked b own₀ (record { verdict = Refused (BadLink p); sectors = ss; count = n }) own
+      → Walked b own₀ (record { verdict = Refused (BadLink p); sectors = ss; count = n; used = used }) own
   unfolding whereFine faultOf markedAfter
   walked-bad {p} place w = walked-with bad w (Refused (BadLink p)) (rw place (walking-bad layout35 (directoryLink layout35) (diskOfTrack18 layout35 b) markedAfter 255 (w .walking)))
 
   pub walked-owned : {p : Place} {next : ℕ} → p ≡ record { track = 18; sector = holder; slot = 255 } → Walks b (directoryWalk b own₀) own ss n holder (to (address 18 next)) → (getD own (357 + next) 0 ≡ 0 → ⊥)
-      → Walked b own₀ (record { verdict = Refused (AlreadyOwned p); sectors = ss; count = n }) own
+      → Walked b own₀ (record { verdict = Refused (AlreadyOwned p); sectors = ss; count = n; used = used }) own
   unfolding whereFine faultOf markedAfter
   walked-owned {p} {next} place w h =
       walked-with (to (address 18 next)) w (Refused (AlreadyOwned p))

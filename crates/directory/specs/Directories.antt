@@ -16,6 +16,7 @@ use Rattle.d64spec.specs.Check.{checkDirectory}
 use Rattle.d64spec.specs.Listing.{diskOfTrack18}
 use Rattle.answers.specs.Faults.{whereFine}
 use Rattle.owners.specs.OwnerTable.{directoryTable}
+use Rattle.owners.specs.Masks.{ownedMask}
 use Rattle.directory.specs.declared.Directory.{Directory}
 
 -- the first n of these sectors of track 18, as addresses
@@ -88,3 +89,4 @@ pub record DirectoryRead (b : Bytes) (r : Directory) : Type 0 where
   pub inside : All (λ s. s < 19) (r .sectors)
   pub repeated : r .repeated ≡ firstRepeated b (r .sectors) 0 (8 * r .count)
   pub owners : r .owners ≡ tableAfter (trackDirectory b)
+  pub used : r .used ≡ ownedMask (r .owners) 357 19

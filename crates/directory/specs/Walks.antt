@@ -1,4 +1,4 @@
--- The walk of the directory with the owner table (01, Order of the check, step 2). Laws: proofs/WalkLaws.
+-- The walk of the directory with the owner table, and the owned sectors of track 18 (01, Order of the check, step 2; 02, §4). Laws: proofs/WalkLaws.
 use Prim.Native.Nat.{ℕ, _-_, _≤_, _<_}
 use mathlib.Core.Path.{_≡_}
 use mathlib.Core.List.{List, _++_, map}
@@ -10,6 +10,7 @@ use Rattle.d64spec.specs.Chain.{to, directoryLink, steps, walk}
 use Rattle.d64spec.specs.Listing.{diskOfTrack18}
 use Rattle.answers.specs.Faults.{whereFine}
 use Rattle.owners.specs.OwnerTable.{owned, withOwner, directoryOwner}
+use Rattle.owners.specs.Masks.{ownedMask}
 use Rattle.directory.specs.declared.walk.Walk.{Walk}
 use Rattle.directory.specs.Directories.{sectorsOf}
 
@@ -30,3 +31,4 @@ pub record Walked (b own : List ℕ) (r : Walk) (own′ : List ℕ) : Type 0 whe
   pub rest : r .sectors ≡ take (r .count) (r .sectors) ++ zeros (18 - r .count)
   pub few : r .count ≤ 18
   pub inside : All (λ s. s < 19) (r .sectors)
+  pub used : r .used ≡ ownedMask own′ 357 19

@@ -13,19 +13,20 @@ use answers::Place;
 use answers::Verdict;
 
 // The directory's sectors on track 18 in link order, 18/sectors[0] to 18/sectors[count - 1], with zeros after them; the number of the
-// first slot that repeats the name field of an earlier one (8 * count where none does); and who owns which sector so far.
-// Where the verdict is a refusal there is no sector and no owner.
+// first slot that repeats the name field of an earlier one (8 * count where none does); who owns which sector so far; and the sectors of track 18
+// that have an owner, bit s for sector s. Where the verdict is a refusal there is no sector and no owner.
 pub struct Directory {
     pub verdict: Verdict,
     pub sectors: [u8; 18],
     pub count: usize,
     pub repeated: usize,
     pub owners: [u8; 683],
+    pub used: u32,
 }
 
 // A refusal: no sector, no owner.
 fn refuse(fault: Fault) -> Directory
-    ensures { λ r. ⌜ r ≡ record { verdict = Verdict.Refused fault; sectors = zeros 18; count = 0; repeated = 0; owners = zeros 683 } ⌝ }
+    ensures { λ r. ⌜ r ≡ record { verdict = Verdict.Refused fault; sectors = zeros 18; count = 0; repeated = 0; owners = zeros 683; used = 0 } ⌝ }
 {
     Directory {
         verdict: Verdict::Refused(fault),
@@ -33,6 +34,7 @@ fn refuse(fault: Fault) -> Directory
         count: 0,
         repeated: 0,
         owners: [0u8; 683],
+        used: 0,
     }
 }
 
@@ -84,7 +86,7 @@ pub fn read_directory(track18: &[u8]) -> Directory
     }
     let mut owners = [0u8; 683];
     owners[357] = 1;
-    let walked = walk::walk_directory(track18, &mut owners);
+    let walked = walk::walk_directory(track18, &mut owners, 1);
     let verdict = walked.verdict;
     match verdict {
         Verdict::Refused(fault) => refuse(fault),
@@ -98,6 +100,7 @@ pub fn read_directory(track18: &[u8]) -> Directory
                 count,
                 repeated,
                 owners,
+                used: walked.used,
             }
         }
     }

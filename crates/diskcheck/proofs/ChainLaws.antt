@@ -1,36 +1,42 @@
--- A file's chain under way: claimed sector by sector in the owner table.
--- In order: the links on the way; the outcome of a claim that has passed some sectors; the invariant, its start, its ends and its step.
-use Prim.Native.Nat.{ℕ, zero, suc, _+_, _≤_, _<_}
+-- A file's chain under way: claimed sector by sector in the owner table, and in the masks.
+-- In order: the links on the way; the outcome of a claim that has passed some sectors; the invariant, its start, its ends and its step; the masks.
+use Prim.Native.Nat.{ℕ, zero, suc, _+_, _-_, _^_, _≤_, _<_}
 use native.Mathlib.Omega.{arith}
+use native.Mathlib.Decide.{decLe}
 use mathlib.Core.Path.{_≡_, refl, sym, ap, ap₂, _∙_}
 use mathlib.Core.Bool.{Bool, true, false, cond, _&&_}
 use mathlib.Core.List.{List, _∷_, map}
 use lib.ListN.{length, getD, set, length-set}
 use lib.Dec.{eqb, ltb}
-use borrow.Author.Tests.{eq-eqb, ne-eqb, lt-ltb, le-ltb}
+use borrow.Author.Tests.{eq-eqb, ne-eqb, lt-ltb, le-ltb, le-leb, lt-leb}
 use Rattle.d64spec.specs.Lists.{Bytes, byte}
 use Rattle.d64spec.specs.Answers.{Address, address, Result, refused, done, _>>=_}
-use Rattle.d64spec.specs.Geometry.{layout35, sectorNumber, onDisk}
+use Rattle.d64spec.specs.Geometry.{layout35, sectorsOn, sectorNumber, onDisk}
 use Rattle.d64spec.specs.Image.{disk}
 use Rattle.d64spec.specs.Chain.{Link, to, bad, linkTo, decodeFileLink, fileLink}
 use Rattle.d64spec.specs.Store.{lastOf}
 use Rattle.d64spec.proofs.BoundLaws.{sectorNumber-lt, fileLink-on, linkTo-on}
-use Rattle.d64spec.proofs.RunTheorem.{sectors35}
-use Rattle.geometry.specs.Layout.{addressOf, onDiskBy, numberBy, IsCounts, IsFirsts}
+use Rattle.d64spec.proofs.BitLaws.{power-le}
+use Rattle.d64spec.proofs.RunTheorem.{valid35, sectors35}
+use Rattle.geometry.specs.Layout.{addressOf}
 use Rattle.geometry.specs.declared.Address.{Address as CodeAddress}
-use Rattle.geometry.proofs.LentTableLaws.{tracks-of-onDisk}
+use Rattle.geometry.specs.declared.Track.{Track}
+use Rattle.geometry.proofs.LentTableLaws.{tracks-of-onDisk, IsTrack}
 use Rattle.links.proofs.LinkLaws.{linkTo-at, linkTo-off, file-ends, file-bad, file-to}
 use Rattle.answers.specs.Faults.{faultOf}
 use Rattle.answers.specs.declared.Place.{Place}
 use Rattle.answers.specs.declared.Fault.the-variants.{BadLink, AlreadyOwned}
 use Rattle.owners.specs.OwnerTable.{withOwner}
+use Rattle.owners.specs.Masks.{Masks}
+use Rattle.owners.proofs.MaskLaws.{Gathering, gathering-lt, gathering-added, gathering-off, gathering-more}
 use Rattle.owners.proofs.TableLaws.{freeCount, freeCount-le}
 use Rattle.owners.proofs.Walking.{Walking, walking-start, walking-ends, walking-bad, walking-owned, walking-moved, walking-fewer}
 use Rattle.diskcheck.specs.declared.chain.Claim as claims
 use Rattle.diskcheck.specs.declared.chain.Claim.the-variants as claim
 use Rattle.diskcheck.specs.EndTable.{endOf}
-use Rattle.diskcheck.specs.Chains.{Claimed, claimOf, claimed, heldBy, claimOff, chainWalk, Ready}
+use Rattle.diskcheck.specs.Chains.{Claimed, claimOf, claimed, heldBy, claimOff, chainWalk, withMask, MaskRoom, Ready}
 use Rattle.diskcheck.proofs.EndLaws.{lastByte, walk-last}
+use Rattle.diskcheck.proofs.MaskLaws.{tracks35}
 
 -- ---- the links on the way
 
@@ -120,18 +126,24 @@ pub record Named (t s n : ℕ) : Type 0 where
   pub number : n ≡ sectorNumber layout35 (address t s)
   pub inside : n < 683
 
--- by the layout's tables
-pub named : {counts firsts : List ℕ} {t s n : ℕ} → IsCounts counts → IsFirsts firsts → onDiskBy counts (address t s) ≡ true
-    → n ≡ numberBy firsts (address t s) → Named t s n
-named {t = t} {s = s} cs fs e is =
-    let on = sym (cs .agrees (address t s)) ∙ e in
-    let number = is ∙ fs .agrees (address t s) on in
-    record { on = on; number = number; inside = omega (arith, number, sectorNumber-lt layout35 (address t s) on, sectors35) }
+-- a sector of the track that a chain is on
+pub named : {on : Track} {s n : ℕ} → IsTrack on → s < on .sectors → n ≡ on .first + s → Named (on .number) s n
+unfolding onDisk
+named {on} {s} {n} k h is =
+    let t : ℕ = on .number in
+    let here : onDisk layout35 (address t s) ≡ true = lt-ltb s (sectorsOn layout35 t) (omega (arith, k .count)) in
+    let number = is ∙ k .first s here in
+    record { on = here; number = number; inside = omega (arith, number, sectorNumber-lt layout35 (address t s) here, sectors35) }
 
 -- t and s had no owner and are claimed now: the walk is at the first two bytes of the sector, which is lent as `part`
 pub record Moved (img : Bytes) (id slot : ℕ) (o : Result Claimed) (own : List ℕ) (t s n : ℕ) (part : Bytes) (passed : ℕ) : Type 0 where
   pub fewer : freeCount own ≡ suc (freeCount (set own n id))
   pub next : Claims img id slot o (set own n id) (record { track = t; sector = s }) (byte part 0) (byte part 1) (passed + 1)
+
+-- a link to the same track
+pub claims-at : {img : Bytes} {id slot : ℕ} {o : Result Claimed} {own : List ℕ} {holder : CodeAddress} {t t′ s passed : ℕ}
+    → Claims img id slot o own holder t s passed → t′ ≡ t → Claims img id slot o own holder t′ s passed
+claims-at w same = rw same w
 
 -- what a link off the disk says, by cases
 module _ (t s n : ℕ) (holder : CodeAddress) (slot : ℕ) where
@@ -185,9 +197,11 @@ module _ {img : Bytes} {id slot : ℕ} {o : Result Claimed} {own : List ℕ} {ho
       (rw (file-ends layout35 0 (suc s) (omega arith) (omega arith)) at (w .walking)))
 
   module _ {t s passed : ℕ} (w : Claims img id slot o own holder t s passed) where
-    pub claims-off : {q : CodeAddress} {r : claims.Claim} → r ≡ claimOff t s passed q slot → q ≡ holder → {counts : List ℕ} → IsCounts counts
-        → onDiskBy counts (address t s) ≡ false → claimOf r own ≡ o
-    claims-off is held cs e = rw (is, held) (off t s passed w (sym (cs .agrees (address t s)) ∙ e))
+    pub claims-off : {q : CodeAddress} {r : claims.Claim} → r ≡ claimOff t s passed q slot → q ≡ holder → {on : Track} → IsTrack on → t ≡ on .number
+        → on .sectors ≤ s → claimOf r own ≡ o
+    unfolding onDisk
+    claims-off is held {on} k at e =
+        rw (is, held) (off t s passed w (le-ltb s (sectorsOn layout35 t) (omega (arith, k .count, ap (sectorsOn layout35) at))))
 
     module _ {n : ℕ} (r : Named t s n) where
       here : Along img id slot o passed own holder (to (address t s))
@@ -222,3 +236,46 @@ module _ {img : Bytes} {id slot : ℕ} {o : Result Claimed} {own : List ℕ} {ho
               few = omega arith;
             });
           }
+
+-- ---- the masks
+
+-- the masks with a track's bits, by cases
+module _ (used : List ℕ) (t m : ℕ) where
+  pub mask-none : t < 1 → withMask used t m ≡ used
+  unfolding withMask
+  mask-none h = rw (lt-leb 1 t h)
+
+  pub mask-past : 35 < t → withMask used t m ≡ used
+  unfolding withMask
+  mask-past h = rw (le-leb 1 t (omega arith), lt-leb t 35 h)
+
+  pub mask-at : 1 ≤ t → t ≤ 35 → withMask used t m ≡ set used (t - 1) (getD used (t - 1) 0 + m)
+  unfolding withMask
+  mask-at low high = rw (le-leb 1 t low, le-leb t 35 high)
+
+module _ {own used : List ℕ} {t m : ℕ} (k : Gathering layout35 own used t m) where
+  -- there is room for a track's bits in its mask
+  pub mask-room : MaskRoom used t m
+  mask-room = record {
+    fits = λ low high. omega (arith, gathering-lt layout35 k low (omega (arith, tracks35)), power-le (sectorsOn layout35 t) (valid35 .small t));
+  }
+
+  -- A CHAIN LEAVES A TRACK: with its bits the masks are the table's
+  pub track-left : {used′ : List ℕ} → used′ ≡ withMask used t m → Masks layout35 own used′
+  track-left is = rw is (elim (decLe 1 t) [
+    | no below ↦ rw (mask-none used t m (omega arith)) (gathering-off layout35 k (λ l h. below l))
+    | yes low ↦ elim (decLe t 35) [
+      | no above ↦ rw (mask-past used t m (omega arith)) (gathering-off layout35 k (λ l h. above (omega (arith, tracks35))))
+      | yes high ↦ rw (mask-at used t m low high) (gathering-added layout35 k low (omega (arith, tracks35)) refl)
+    ]
+  ])
+
+-- a sector of the track is claimed: its bit is gathered
+pub bit-gathered : {own used : List ℕ} {on : Track} {m s n id m′ : ℕ} → Gathering layout35 own used (on .number) m → IsTrack on → s < on .sectors → n ≡ on .first + s
+    → length own ≡ 683 → getD own n 0 ≡ 0 → 1 ≤ id → m′ ≡ m + 2 ^ s → Gathering layout35 (set own n id) used (on .number) m′
+unfolding sectorNumber
+bit-gathered {own} {used} {on} {m} {s} k o h is long none owner more =
+    let r = named o h is in
+    let at = tracks-of-onDisk (address (on .number) s) (r .on) in
+    gathering-more layout35 k (long ∙ sym sectors35) (at .0) (omega (arith, at .1, tracks35)) (omega (arith, o .count)) (r .number)
+    (omega (arith, r .inside, sectors35)) none owner more

@@ -3,14 +3,14 @@
 use Prim.Native.Nat.{ℕ, zero, suc, _*_, _≤_, _<_}
 use native.Mathlib.Omega.{arith}
 use mathlib.Core.Path.{_≡_, refl, sym, ap, _∙_}
-use mathlib.Core.Bool.{Bool}
+use mathlib.Core.Bool.{Bool, true}
 use mathlib.Core.List.{List, [], _∷_, map}
-use lib.ListN.{length, take, drop}
+use lib.ListN.{length, set, take, drop}
 use lib.Dec.{eqb}
 use borrow.Author.Tests.{eq-eqb, ne-eqb}
 use Rattle.d64spec.specs.Lists.{Bytes, All, count, range, zeros}
 use Rattle.d64spec.specs.Answers.{Address, Result, refused, done, _>>=_, _>>_}
-use Rattle.d64spec.specs.Geometry.{layout35, sectorNumber, sectorsOn, total, tracks, mapAddress, directoryStart}
+use Rattle.d64spec.specs.Geometry.{layout35, sectorNumber, sectorsOn, total, tracks, mapAddress, directoryStart, onDisk}
 use Rattle.d64spec.specs.Image.{disk}
 use Rattle.d64spec.specs.Chain.{to, directoryLink, steps}
 use Rattle.d64spec.specs.Directory.{Slot, File, occupiedIn}
@@ -20,12 +20,15 @@ use Rattle.d64spec.specs.Listing.{bytesOfTrack18}
 use Rattle.d64spec.proofs.BoundLaws.{sectorNumber-lt, map-on, directoryLink-on}
 use Rattle.d64spec.proofs.RunTheorem.{valid35, sectors35}
 use Rattle.d64spec.proofs.ListingTheorem.{track18-length}
+use Rattle.geometry.proofs.LentTableLaws.{tracks-of-onDisk}
 use Rattle.answers.specs.declared.Fault as code
 use Rattle.answers.specs.declared.Fault.the-variants.{WrongSize}
 use Rattle.answers.specs.declared.Verdict.{Verdict}
 use Rattle.answers.specs.declared.Verdict.the-variants.{Fine, Refused}
 use Rattle.answers.specs.Faults.{faultOf, verdictOf, whereFine}
-use Rattle.owners.specs.OwnerTable.{owned, directoryTable, ownerTable}
+use Rattle.owners.specs.OwnerTable.{owned, freeBy, directoryTable, ownerTable}
+use Rattle.owners.specs.Masks.{Masks, unmarked}
+use Rattle.owners.proofs.MaskLaws.{masks-free}
 use Rattle.owners.proofs.WalkTable.{walk-lt}
 use Rattle.owners.proofs.SlotsTable.{slots-alike, slots-lt}
 use Rattle.owners.proofs.ClaimLaws.{length-directoryTable, directory-alike, freeBy-claims}
@@ -33,11 +36,12 @@ use Rattle.directory.specs.declared.Directory.{Directory}
 use Rattle.directory.specs.Directories.{sectorsOf, firstRepeated, trackDirectory, sectorCount, tableAfter, DirectoryRead}
 use Rattle.directory.proofs.Track18Laws.{directory-of-track18, sectors-18}
 use Rattle.mapcheck.specs.MapChecks.{mapVerdict}
-use Rattle.mapcheck.proofs.StepLaws.{verdict-same}
+use Rattle.mapcheck.proofs.StepLaws.{verdict-same, map-free-same}
 use Rattle.diskcheck.specs.declared.Checked.{Checked}
 use Rattle.diskcheck.specs.EndTable.{endTable}
 use Rattle.diskcheck.specs.SlotChecks.{imageOccupied, Tables, tables, tablesWithFiles, slotsStep, SlotsReady}
-use Rattle.diskcheck.specs.ImageChecks.{Found, foundIn, directoryCount, tablesFound, ImageChecked, restStep}
+use Rattle.diskcheck.specs.ImageChecks.{Found, foundIn, directoryCount, tablesFound, ImageChecked, mapStep, restStep}
+use Rattle.diskcheck.proofs.MaskLaws.{tracks35, masks-directory}
 use Rattle.diskcheck.proofs.TrackLaws.{track18-lent, map-lent, sectorsOf-whole, occupied-by-track18}
 
 -- ---- the definition's check with the tables
@@ -61,7 +65,7 @@ module _ (img : Bytes) where
 
   -- step 4 with tables, and what is found
   abbrev mapAfter : List Address → Tables → Result Found
-  mapAfter ds t = mapVerdict (disk img (sectorNumber layout35 mapAddress)) (t .owners) >> done (record { directory = ds; tables = t })
+  mapAfter ds t = mapStep img (t .owners) >> done (record { directory = ds; tables = t })
 
   -- both
   abbrev afterDirectory : List Address → Result Found
@@ -88,7 +92,7 @@ module _ (img : Bytes) where
         let files-on = slots-lt layout35 (disk img) (owned (directoryTable layout35 ds)) [] (occupiedIn layout35 (disk img) ds) fs e in
         found-then img (checkMap layout35 (disk img) (unclaimed ds fs) (range 1 (tracks layout35))) (record { walked = ds; found = fs })
         ∙ ap (λ (x : Result (Unit {0})). x >> done (record { directory = ds; tables = tables (ownerTable layout35 ds fs) (endTable img fs) }))
-        (sym (verdict-same (disk img) (ownerTable layout35 ds fs) (unclaimed ds fs) (λ r h. freeBy-claims layout35 map-lt ds on fs files-on r)))
+        (sym (map-free-same layout35 (λ r h. freeBy-claims layout35 map-lt ds on fs files-on r) (disk img) (range 1 (tracks layout35))))
 
     slots-found : foundIn img (afterFiles ds (slotsFromClaims ds)) ≡ afterDirectory ds
     slots-found =
@@ -96,6 +100,13 @@ module _ (img : Bytes) where
         ap (λ (x : Result (List File)). foundIn img (afterFiles ds x))
         (slots-alike layout35 (disk img) o (owned (directoryTable layout35 ds)) [] (occupiedIn layout35 (disk img) ds) (directory-alike layout35 map-lt ds on))
         ∙ files-found (slotsAfter ds) refl
+
+  -- the directory's sectors are on the disk
+  directory-on : {ds : List Address} → checkDirectory layout35 (disk img) ≡ done ds → All (λ x. x < total layout35) (map (sectorNumber layout35) ds)
+  unfolding checkDirectory
+  directory-on {ds} e =
+      walk-lt layout35 (directoryLink layout35) (disk img) (directoryLink-on layout35) (steps layout35)
+      (sectorNumber layout35 mapAddress ∷ []) mapAddress 255 (to directoryStart) ds (valid35 .directory) e
 
   -- THE DEFINITION'S CHECK is the directory's walk, then the rest from the table that the walk leaves
   disk-found : foundIn img (checkDisk layout35 (disk img)) ≡ (checkDirectory layout35 (disk img) >>= (λ ds. afterDirectory ds))
@@ -106,10 +117,7 @@ module _ (img : Bytes) where
           → foundIn img (w >>= (λ ds. afterFiles ds (slotsFromClaims ds))) ≡ (w >>= (λ ds. afterDirectory ds))
       go (refused f) e = refl
       go (done ds) e =
-          slots-found ds
-          (walk-lt layout35 (directoryLink layout35) (disk img) (directoryLink-on layout35) (steps layout35)
-          (sectorNumber layout35 mapAddress ∷ []) mapAddress 255 (to directoryStart) ds
-          (valid35 .directory) e)
+          slots-found ds (directory-on e)
 
   -- the rest by slot numbers
   rest-found : (ss : List ℕ) (n : ℕ) → All (λ s. s < 19) ss → n ≤ length ss
@@ -122,7 +130,7 @@ module _ (img : Bytes) where
       ap (λ (l : List Slot). tablesWithFiles img (walkedTables ds) (checkSlots layout35 (disk img) (owned own) [] l) >>= (λ t. mapAfter ds t))
       (occupied-by-track18 img ss n inside whole)
       ∙ regroup (tablesWithFiles img (walkedTables ds) (checkSlots layout35 (disk img) (owned own) [] (imageOccupied img ss 0 (8 * n))))
-      (λ t. mapVerdict (disk img (sectorNumber layout35 mapAddress)) (t .owners)) (λ t. record { directory = ds; tables = t })
+      (λ t. mapStep img (t .owners)) (λ t. record { directory = ds; tables = t })
     where
       regroup : (x : Result Tables) (m : Tables → Result (Unit {0})) (f : Tables → Found)
           → (x >>= (λ o. m o >> done (f o))) ≡ ((x >>= (λ o. m o >> done o)) >>= (λ o. done (f o)))
@@ -135,20 +143,26 @@ module _ (img : Bytes) where
 
 -- ---- the slots, then the map, as the code has them
 
+-- mask and table say the same of each sector of the disk
+masks-free35 : {own used : List ℕ} → Masks layout35 own used → (r : Address) → onDisk layout35 r ≡ true → unmarked used r ≡ freeBy layout35 own r
+masks-free35 masks r on = let h = tracks-of-onDisk r on in masks-free layout35 masks r on (h .0) (omega (arith, h .1, tracks35))
+
 module _ (img : Bytes) (t : Tables) (ss : List ℕ) (n : ℕ) (t′ : Tables) where
   -- a fault of step 3
   pub slots-refused : (f : code.Fault) → whereFine (Refused f) t′ ≡ slotsStep img t ss 0 (8 * n) → whereFine (Refused f) t′ ≡ restStep img t ss n
   unfolding whereFine restStep
-  slots-refused f e = ap (λ (x : Result Tables). x >>= (λ o. mapVerdict (disk img (sectorNumber layout35 mapAddress)) (o .owners) >> done o)) e
+  slots-refused f e = ap (λ (x : Result Tables). x >>= (λ o. mapStep img (o .owners) >> done o)) e
 
   -- no fault there: the map decides
-  pub slots-fine : (v : Verdict) (m : Bytes) → whereFine Fine t′ ≡ slotsStep img t ss 0 (8 * n) → verdictOf v ≡ mapVerdict m (t′ .owners)
-      → m ≡ take 256 (drop 91392 img) → whereFine v t′ ≡ restStep img t ss n
+  pub slots-fine : (v : Verdict) (m used : Bytes) → whereFine Fine t′ ≡ slotsStep img t ss 0 (8 * n) → Masks layout35 (t′ .owners) used
+      → verdictOf v ≡ mapVerdict m used → m ≡ take 256 (drop 91392 img) → whereFine v t′ ≡ restStep img t ss n
   unfolding whereFine restStep verdictOf
-  slots-fine v m e decides sector =
+  slots-fine v m used e masks decides sector =
       given v
-      ∙ ap (λ (x : Result (Unit {0})). x >> done t′) (decides ∙ ap (λ (b : Bytes). mapVerdict b (t′ .owners)) (sector ∙ map-lent img))
-      ∙ ap (λ (x : Result Tables). x >>= (λ o. mapVerdict (disk img (sectorNumber layout35 mapAddress)) (o .owners) >> done o)) e
+      ∙ ap (λ (x : Result (Unit {0})). x >> done t′)
+      (decides ∙ ap (λ (b : Bytes). mapVerdict b used) (sector ∙ map-lent img)
+      ∙ verdict-same (disk img) used (freeBy layout35 (t′ .owners)) (λ r on. masks-free35 masks r on))
+      ∙ ap (λ (x : Result Tables). x >>= (λ o. mapStep img (o .owners) >> done o)) e
     where
       given : (v : Verdict) → whereFine v t′ ≡ (verdictOf v >> done t′)
       given Fine = refl
@@ -227,6 +241,12 @@ module _ (img : Bytes) {d : Directory} (size : length img ≡ 174848) (read : Di
       few = read .few;
       first = read .repeated ∙ ap (λ (b : Bytes). firstRepeated b (d .sectors) 0 (8 * d .count)) (track18-lent img);
     }
+
+    -- the masks that they start from
+    pub masks-ready : Masks layout35 (d .owners) (set (zeros 35) 17 (d .used))
+    masks-ready =
+        let w = directory-fine in
+        rw (w .owners) (masks-directory (d .sectors) (d .count) (read .inside) map-lt (directory-on img (w .walked)) (rw (w .owners) at (read .used)))
 
     module _ (own ends : List ℕ) where
       -- what is handed back where nothing is refused

@@ -1,4 +1,5 @@
 pub mod TrackLaws
+pub mod MaskLaws
 pub mod ChainLaws
 pub mod EndLaws
 pub mod SlotLaws

@@ -1,11 +1,11 @@
 -- A file's chain, claimed sector by sector in the owner table (01, Chains; Order of the check, 3).
--- In order: what a claim answers; the definition's walk with the table after it; what the loop may rely on. Laws: proofs/ChainLaws.
-use Prim.Native.Nat.{ℕ, _≤_}
+-- In order: what a claim answers; the definition's walk with the table after it; a track's mask; what the loop may rely on. Laws: proofs/ChainLaws.
+use Prim.Native.Nat.{ℕ, _+_, _-_, _≤_, _<_}
 use mathlib.Core.Path.{_≡_}
 use mathlib.Core.Bool.{cond, _&&_}
 use mathlib.Core.List.{List, map}
-use lib.ListN.{length}
-use lib.Dec.{eqb, ltb}
+use lib.ListN.{length, getD, set}
+use lib.Dec.{eqb, ltb, leb}
 use Rattle.d64spec.specs.Lists.{Bytes}
 use Rattle.d64spec.specs.Answers.{Address, Result, refused, done}
 use Rattle.d64spec.specs.Geometry.{layout35, sectorNumber}
@@ -48,6 +48,14 @@ claimed img id own (done l) = done (record { count = length l; end = endOf img l
 -- the definition's walk of the chain that a first link to track t, sector s starts, which the sector `holder` holds
 unfoldable pub chainWalk : Bytes → List ℕ → Address → ℕ → ℕ → ℕ → Result (List Address)
 chainWalk img own holder slot t s = walk layout35 (fileLink layout35) (disk img) (steps layout35) (owned own) holder slot (linkTo layout35 t s)
+
+-- the masks with these bits of a track's sectors more; a track that the disk does not have has no mask
+unfoldable pub withMask : List ℕ → ℕ → ℕ → List ℕ
+withMask used t m = cond (leb 1 t && leb t 35) (set used (t - 1) (getD used (t - 1) 0 + m)) used
+
+-- where the disk has the track, its mask has room for these bits
+pub record MaskRoom (used : List ℕ) (t m : ℕ) : Type 0 where
+  pub fits : 1 ≤ t → t ≤ 35 → getD used (t - 1) 0 + m < 16777216
 
 -- an image and a table of the right size, and an owner that is somebody
 pub record Ready (img own : List ℕ) (id : ℕ) : Type 0 where

@@ -1,18 +1,17 @@
 -- The check of an image in code: its verdict, the directory's sectors, the owners and the files' ends, for any bytes (01, Order of the check).
--- In order: what the check of any bytes gives, the public contract; steps 3 and 4 together. Laws for callers: proofs/CheckedLaws.
+-- In order: what the check of any bytes gives, the public contract; step 4 by a table; steps 3 and 4 together. Laws for callers: proofs/CheckedLaws.
 use Prim.Native.Nat.{ℕ, _*_, _-_, _≤_, _<_}
 use mathlib.Core.Path.{_≡_}
 use mathlib.Core.List.{List, _++_}
 use lib.ListN.{length, take}
-use Rattle.d64spec.specs.Lists.{Bytes, All, zeros}
+use Rattle.d64spec.specs.Lists.{Bytes, All, range, zeros}
 use Rattle.d64spec.specs.Answers.{Address, Result, refused, done, _>>=_, _>>_}
-use Rattle.d64spec.specs.Geometry.{layout35, total, sectorNumber, mapAddress}
+use Rattle.d64spec.specs.Geometry.{layout35, total, tracks}
 use Rattle.d64spec.specs.Image.{disk}
-use Rattle.d64spec.specs.Check.{DirectoryContents, checkImage}
+use Rattle.d64spec.specs.Check.{DirectoryContents, checkMap, checkImage}
 use Rattle.answers.specs.Faults.{whereFine}
-use Rattle.owners.specs.OwnerTable.{ownerTable}
+use Rattle.owners.specs.OwnerTable.{freeBy, ownerTable}
 use Rattle.directory.specs.Directories.{sectorsOf}
-use Rattle.mapcheck.specs.MapChecks.{mapVerdict}
 use Rattle.diskcheck.specs.declared.Checked.{Checked}
 use Rattle.diskcheck.specs.EndTable.{endTable}
 use Rattle.diskcheck.specs.SlotChecks.{Tables, tables, slotsStep}
@@ -48,9 +47,13 @@ pub record ImageChecked (img : Bytes) (r : Checked) : Type 0 where
   pub few : r .count ≤ 18
   pub inside : All (λ s. s < 19) (r .sectors)
 
+-- step 4 with a table of owners: the map against the sectors that nobody owns there
+abbrev pub mapStep : Bytes → List ℕ → Result (Unit {0})
+mapStep img own = checkMap layout35 (disk img) (freeBy layout35 own) (range 1 (tracks layout35))
+
 -- steps 3 and 4 for a directory of n sectors ss on track 18, and the tables after them
 unfoldable pub restStep : Bytes → Tables → List ℕ → ℕ → Result Tables
 restStep img t ss n = do
   t′ ← slotsStep img t ss 0 (8 * n)
-  mapVerdict (disk img (sectorNumber layout35 mapAddress)) (t′ .owners)
+  mapStep img (t′ .owners)
   done t′

@@ -1,7 +1,9 @@
-// A file's chain, claimed sector by sector in the owner table (01, Chains; Order of the check, 3).
+// A file's chain, claimed sector by sector in the owner table, and in the mask of each track (01, Chains; Order of the check, 3; 02, §4).
 ghost use mathlib.Core.Path.{_≡_};
+ghost use Rattle.d64spec.specs.Geometry.{layout35};
 ghost use Rattle.geometry.specs.Layout.{addressOf, IsCounts, IsFirsts};
-ghost use Rattle.diskcheck.specs.Chains.{claimOf, claimed, chainWalk, heldBy, claimOff, Ready};
+ghost use Rattle.owners.specs.Masks.{Masks};
+ghost use Rattle.diskcheck.specs.Chains.{claimOf, claimed, chainWalk, heldBy, claimOff, withMask, MaskRoom, Ready};
 use answers::Fault;
 use answers::Place;
 use geometry::Address;
@@ -24,28 +26,45 @@ fn place_of(holder: Address, slot: u8) -> Place
 }
 
 // What a link off the disk says, held by `holder` after `count` sectors of a chain: its end, where one of them holds it and it is 00 and then not 00.
-fn claim_off(link: Address, count: usize, holder: Address, slot: u8) -> Claim
-    ensures { λ r. ⌜ r ≡ claimOff (link .track) (link .sector) count holder slot ⌝ }
+fn claim_off(track: u8, sector: u8, count: usize, holder: Address, slot: u8) -> Claim
+    ensures { λ r. ⌜ r ≡ claimOff track sector count holder slot ⌝ }
 {
     let place = place_of(holder, slot);
     if count == 0 {
         return Claim::Refused(Fault::BadLink(place));
     }
-    if link.track != 0 {
+    if track != 0 {
         return Claim::Refused(Fault::BadLink(place));
     }
-    if link.sector == 0 {
+    if sector == 0 {
         return Claim::Refused(Fault::BadLink(place));
     }
-    Claim::Ended(count, link.sector)
+    Claim::Ended(count, sector)
 }
 
-// Claims the chain that starts at `first`, a link that the sector `from` holds: each of its sectors gets the owner `id`.
-// The layout's tables are lent, so that they stand ready for all sectors of all chains. The loop's state is the link's two bytes,
-// and the end of a chain is found among the links that are off the disk: each sector is then asked two things only.
+// Adds the bits of a track's sectors to its mask; a track that the disk does not have has no mask.
+fn add_mask(used: &mut [u32; 35], track: u8, mask: u32)
+    requires { ⌜ MaskRoom (now used) track mask ⌝ }
+    ensures { λ _. ⌜ now (used .exit) ≡ withMask (now (used .entry)) track mask ⌝ }
+{
+    if track < 1 {
+        return;
+    }
+    if 35 < track {
+        return;
+    }
+    let i = track as usize - 1;
+    used[i] += mask;
+}
+
+// Claims the chain that starts at `first`, a link that the sector `from` holds: each of its sectors gets the owner `id`, and its bit in its track's
+// mask. The layout's tables are lent, so that they stand ready for all sectors of all chains. While a chain stays on a track, the track's sectors
+// and first number are at hand, so that the next sector's number waits for no table, and its bits are gathered in `mask`. The end of a chain is found
+// among the links that are off the disk.
 pub(crate) fn claim_chain(
     img: &[u8],
     own: &mut [u8; 683],
+    used: &mut [u32; 35],
     id: u8,
     slot: u8,
     from: Address,
@@ -53,28 +72,41 @@ pub(crate) fn claim_chain(
     counts: &[u8; 35],
     firsts: &[u16; 35],
 ) -> Claim
-    requires { ⌜ Ready (now img) (now own) id × IsCounts (now counts) × IsFirsts (now firsts) ⌝ }
-    ensures { λ r. ⌜ claimOf r (now (own .exit))
+    requires { ⌜ Ready (now img) (now own) id × IsCounts (now counts) × IsFirsts (now firsts) × Masks layout35 (now own) (now used) ⌝ }
+    ensures { λ r. ⌜ (claimOf r (now (own .exit))
         ≡ claimed (now (img .entry)) id (now (own .entry))
-        (chainWalk (now (img .entry)) (now (own .entry)) (addressOf from) slot (first .track) (first .sector)) ⌝ }
+        (chainWalk (now (img .entry)) (now (own .entry)) (addressOf from) slot (first .track) (first .sector)))
+        × Masks layout35 (now (own .exit)) (now (used .exit)) ⌝ }
 {
     let mut holder = from;
-    let mut track = first.track;
+    let mut on = geometry::track_by(counts, firsts, first.track);
     let mut sector = first.sector;
     let mut count: usize = 0;
+    let mut mask: u32 = 0;
     loop {
-        if !geometry::on_disk_by(counts, Address { track, sector }) {
-            return claim_off(Address { track, sector }, count, holder, slot);
+        if on.sectors <= sector {
+            add_mask(used, on.number, mask);
+            return claim_off(on.number, sector, count, holder, slot);
         }
-        let n = geometry::number_by(firsts, Address { track, sector });
+        let n = on.first as usize + sector as usize;
         if own[n] != 0 {
+            add_mask(used, on.number, mask);
             return Claim::Refused(Fault::AlreadyOwned(place_of(holder, slot)));
         }
         own[n] = id;
+        mask += 1 << sector;
         count += 1;
-        holder = Address { track, sector };
+        holder = Address {
+            track: on.number,
+            sector,
+        };
         let part = &img[256 * n..256 * n + 256];
-        track = part[0];
+        let track = part[0];
         sector = part[1];
+        if track != on.number {
+            add_mask(used, on.number, mask);
+            mask = 0;
+            on = geometry::track_by(counts, firsts, track);
+        }
     }
 }

@@ -1,12 +1,15 @@
 // The whole check of an image, for any bytes: document 01's four steps in its order (01, Order of the check).
-// The owner table is filled on the way and handed back with the directory's sectors, so that the calls need no second check.
+// The owner table is filled on the way and handed back with the directory's sectors, so that the calls need no second check; beside it the mask of
+// each track's owned sectors, which step 4 compares with the map.
 mod chain;
 mod slots;
 
 ghost use mathlib.Core.Path.{_≡_};
 ghost use lib.ListN.{length, take, drop};
 ghost use Rattle.d64spec.specs.Lists.{zeros};
+ghost use Rattle.d64spec.specs.Geometry.{layout35};
 ghost use Rattle.answers.specs.Faults.{whereFine};
+ghost use Rattle.owners.specs.Masks.{Masks};
 ghost use Rattle.directory.specs.Directories.{DirectoryRead};
 ghost use Rattle.diskcheck.specs.SlotChecks.{tables, SlotsReady};
 ghost use Rattle.diskcheck.specs.ImageChecks.{ImageChecked, restStep};
@@ -42,19 +45,20 @@ fn refuse(fault: Fault) -> Checked
 fn check_rest(
     img: &[u8],
     own: &mut [u8; 683],
+    used: &mut [u32; 35],
     ends: &mut [u8; 144],
     sectors: &[u8; 18],
     count: usize,
     repeated: usize,
 ) -> Verdict
-    requires { ⌜ SlotsReady (now img) (tables (now own) (now ends)) (now sectors) count repeated ⌝ }
+    requires { ⌜ SlotsReady (now img) (tables (now own) (now ends)) (now sectors) count repeated × Masks layout35 (now own) (now used) ⌝ }
     ensures { λ r. ⌜ whereFine r (tables (now (own .exit)) (now (ends .exit)))
         ≡ restStep (now (img .entry)) (tables (now (own .entry)) (now (ends .entry))) (now (sectors .entry)) count ⌝ }
 {
-    let verdict = slots::check_slots(img, own, ends, sectors, count, repeated);
+    let verdict = slots::check_slots(img, own, used, ends, sectors, count, repeated);
     match verdict {
         Verdict::Refused(fault) => Verdict::Refused(fault),
-        Verdict::Fine => mapcheck::check_map(&img[91392..91648], own),
+        Verdict::Fine => mapcheck::check_map(&img[91392..91648], used),
     }
 }
 
@@ -70,10 +74,13 @@ fn check_read(img: &[u8], directory: Directory) -> Checked
             let sectors = directory.sectors;
             let count = directory.count;
             let mut owners = directory.owners;
+            let mut used = [0u32; 35];
+            used[17] = directory.used;
             let mut ends = [0u8; 144];
             let rest = check_rest(
                 img,
                 &mut owners,
+                &mut used,
                 &mut ends,
                 &sectors,
                 count,

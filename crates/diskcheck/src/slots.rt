@@ -3,8 +3,10 @@ ghost use mathlib.Core.Path.{_≡_};
 ghost use Prim.Native.Nat.{_*_, _<_};
 ghost use lib.ListN.{length};
 ghost use Rattle.d64spec.specs.Lists.{All};
+ghost use Rattle.d64spec.specs.Geometry.{layout35};
 ghost use Rattle.answers.specs.Faults.{sectorOf, whereFine};
 ghost use Rattle.geometry.specs.Layout.{IsCounts, IsFirsts};
+ghost use Rattle.owners.specs.Masks.{Masks};
 ghost use Rattle.diskcheck.specs.SlotChecks.{tables, FileReady, fileStep, occupiedStep, LentSlot, SlotReady, slotStep, SlotsReady, slotsStep};
 use crate::chain::Claim;
 use crate::chain::claim_chain;
@@ -17,15 +19,18 @@ use geometry::Address;
 fn check_file(
     img: &[u8],
     own: &mut [u8; 683],
+    used: &mut [u32; 35],
     ends: &mut [u8; 144],
     slot: &[u8],
     at: Place,
     counts: &[u8; 35],
     firsts: &[u16; 35],
 ) -> Verdict
-    requires { ⌜ FileReady (now img) (tables (now own) (now ends)) (now slot) (at .slot) × IsCounts (now counts) × IsFirsts (now firsts) ⌝ }
-    ensures { λ r. ⌜ whereFine r (tables (now (own .exit)) (now (ends .exit)))
-        ≡ fileStep (now (img .entry)) (tables (now (own .entry)) (now (ends .entry))) (now (slot .entry)) (sectorOf at) (at .slot) ⌝ }
+    requires { ⌜ FileReady (now img) (tables (now own) (now ends)) (now slot) (at .slot) × IsCounts (now counts) × IsFirsts (now firsts)
+        × Masks layout35 (now own) (now used) ⌝ }
+    ensures { λ r. ⌜ (whereFine r (tables (now (own .exit)) (now (ends .exit)))
+        ≡ fileStep (now (img .entry)) (tables (now (own .entry)) (now (ends .entry))) (now (slot .entry)) (sectorOf at) (at .slot))
+        × Masks layout35 (now (own .exit)) (now (used .exit)) ⌝ }
 {
     let first = Address {
         track: slot[1],
@@ -35,7 +40,17 @@ fn check_file(
         track: at.track,
         sector: at.sector,
     };
-    let claim = claim_chain(img, own, at.slot + 3, at.slot, from, first, counts, firsts);
+    let claim = claim_chain(
+        img,
+        own,
+        used,
+        at.slot + 3,
+        at.slot,
+        from,
+        first,
+        counts,
+        firsts,
+    );
     match claim {
         Claim::Refused(fault) => Verdict::Refused(fault),
         Claim::Ended(count, end) => {
@@ -54,6 +69,7 @@ fn check_file(
 fn check_occupied(
     img: &[u8],
     own: &mut [u8; 683],
+    used: &mut [u32; 35],
     ends: &mut [u8; 144],
     slot: &[u8],
     at: Place,
@@ -61,14 +77,16 @@ fn check_occupied(
     counts: &[u8; 35],
     firsts: &[u16; 35],
 ) -> Verdict
-    requires { ⌜ FileReady (now img) (tables (now own) (now ends)) (now slot) (at .slot) × IsCounts (now counts) × IsFirsts (now firsts) ⌝ }
-    ensures { λ r. ⌜ whereFine r (tables (now (own .exit)) (now (ends .exit)))
-        ≡ occupiedStep (now (img .entry)) (tables (now (own .entry)) (now (ends .entry))) (now (slot .entry)) (sectorOf at) (at .slot) repeated ⌝ }
+    requires { ⌜ FileReady (now img) (tables (now own) (now ends)) (now slot) (at .slot) × IsCounts (now counts) × IsFirsts (now firsts)
+        × Masks layout35 (now own) (now used) ⌝ }
+    ensures { λ r. ⌜ (whereFine r (tables (now (own .exit)) (now (ends .exit)))
+        ≡ occupiedStep (now (img .entry)) (tables (now (own .entry)) (now (ends .entry))) (now (slot .entry)) (sectorOf at) (at .slot) repeated)
+        × Masks layout35 (now (own .exit)) (now (used .exit)) ⌝ }
 {
     let entry = directory::check_entry(slot, at, repeated);
     match entry {
         Verdict::Refused(fault) => Verdict::Refused(fault),
-        Verdict::Fine => check_file(img, own, ends, slot, at, counts, firsts),
+        Verdict::Fine => check_file(img, own, used, ends, slot, at, counts, firsts),
     }
 }
 
@@ -84,6 +102,7 @@ fn slot_of<'a>(img: &'a [u8], sectors: &[u8; 18], k: usize) -> &'a [u8]
 fn check_slot(
     img: &[u8],
     own: &mut [u8; 683],
+    used: &mut [u32; 35],
     ends: &mut [u8; 144],
     sectors: &[u8; 18],
     k: usize,
@@ -91,9 +110,11 @@ fn check_slot(
     counts: &[u8; 35],
     firsts: &[u16; 35],
 ) -> Verdict
-    requires { ⌜ SlotReady (now img) (tables (now own) (now ends)) (now sectors) k repeated × IsCounts (now counts) × IsFirsts (now firsts) ⌝ }
-    ensures { λ r. ⌜ whereFine r (tables (now (own .exit)) (now (ends .exit)))
-        ≡ slotStep (now (img .entry)) (tables (now (own .entry)) (now (ends .entry))) (now (sectors .entry)) k ⌝ }
+    requires { ⌜ SlotReady (now img) (tables (now own) (now ends)) (now sectors) k repeated × IsCounts (now counts) × IsFirsts (now firsts)
+        × Masks layout35 (now own) (now used) ⌝ }
+    ensures { λ r. ⌜ (whereFine r (tables (now (own .exit)) (now (ends .exit)))
+        ≡ slotStep (now (img .entry)) (tables (now (own .entry)) (now (ends .entry))) (now (sectors .entry)) k)
+        × Masks layout35 (now (own .exit)) (now (used .exit)) ⌝ }
 {
     let slot = slot_of(img, sectors, k);
     if slot[0] == 0 {
@@ -105,13 +126,24 @@ fn check_slot(
         sector: sectors[i],
         slot: k as u8,
     };
-    check_occupied(img, own, ends, slot, at, k == repeated, counts, firsts)
+    check_occupied(
+        img,
+        own,
+        used,
+        ends,
+        slot,
+        at,
+        k == repeated,
+        counts,
+        firsts,
+    )
 }
 
 // All slots of a directory of `count` sectors, with the layout's tables lent.
 fn check_all(
     img: &[u8],
     own: &mut [u8; 683],
+    used: &mut [u32; 35],
     ends: &mut [u8; 144],
     sectors: &[u8; 18],
     count: usize,
@@ -119,14 +151,16 @@ fn check_all(
     counts: &[u8; 35],
     firsts: &[u16; 35],
 ) -> Verdict
-    requires { ⌜ SlotsReady (now img) (tables (now own) (now ends)) (now sectors) count repeated × IsCounts (now counts) × IsFirsts (now firsts) ⌝ }
-    ensures { λ r. ⌜ whereFine r (tables (now (own .exit)) (now (ends .exit)))
-        ≡ slotsStep (now (img .entry)) (tables (now (own .entry)) (now (ends .entry))) (now (sectors .entry)) 0 (8 * count) ⌝ }
+    requires { ⌜ SlotsReady (now img) (tables (now own) (now ends)) (now sectors) count repeated × IsCounts (now counts) × IsFirsts (now firsts)
+        × Masks layout35 (now own) (now used) ⌝ }
+    ensures { λ r. ⌜ (whereFine r (tables (now (own .exit)) (now (ends .exit)))
+        ≡ slotsStep (now (img .entry)) (tables (now (own .entry)) (now (ends .entry))) (now (sectors .entry)) 0 (8 * count))
+        × Masks layout35 (now (own .exit)) (now (used .exit)) ⌝ }
 {
     let end = 8 * count;
     let mut k: usize = 0;
     while k < end {
-        let verdict = check_slot(img, own, ends, sectors, k, repeated, counts, firsts);
+        let verdict = check_slot(img, own, used, ends, sectors, k, repeated, counts, firsts);
         match verdict {
             Verdict::Fine => {}
             Verdict::Refused(fault) => {
@@ -142,18 +176,21 @@ fn check_all(
 pub(crate) fn check_slots(
     img: &[u8],
     own: &mut [u8; 683],
+    used: &mut [u32; 35],
     ends: &mut [u8; 144],
     sectors: &[u8; 18],
     count: usize,
     repeated: usize,
 ) -> Verdict
-    requires { ⌜ SlotsReady (now img) (tables (now own) (now ends)) (now sectors) count repeated ⌝ }
-    ensures { λ r. ⌜ whereFine r (tables (now (own .exit)) (now (ends .exit)))
-        ≡ slotsStep (now (img .entry)) (tables (now (own .entry)) (now (ends .entry))) (now (sectors .entry)) 0 (8 * count) ⌝ }
+    requires { ⌜ SlotsReady (now img) (tables (now own) (now ends)) (now sectors) count repeated × Masks layout35 (now own) (now used) ⌝ }
+    ensures { λ r. ⌜ (whereFine r (tables (now (own .exit)) (now (ends .exit)))
+        ≡ slotsStep (now (img .entry)) (tables (now (own .entry)) (now (ends .entry))) (now (sectors .entry)) 0 (8 * count))
+        × Masks layout35 (now (own .exit)) (now (used .exit)) ⌝ }
 {
     check_all(
         img,
         own,
+        used,
         ends,
         sectors,
         count,

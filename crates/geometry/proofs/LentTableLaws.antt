@@ -1,15 +1,17 @@
--- An address by lent tables (specs/Layout: entryBy, onDiskBy, numberBy), and at the layout's own tables.
--- In order: a track's entry by cases; the two tables give the layout's test and numbers.
+-- Tracks and numbers by lent tables (specs/Layout: entryBy, numberBy), and at the layout's own tables.
+-- In order: a track's entry, and a track, by cases; the two tables give the layout's counts and numbers; so do all that agree with it.
 use Prim.Native.Nat.{ℕ, suc, _+_, _-_, _≤_, _<_}
 use native.Mathlib.Omega.{arith}
+use native.Mathlib.Decide.{decLe}
 use mathlib.Core.Path.{_≡_, refl, ap, sym, _∙_}
 use mathlib.Core.Bool.{true}
 use mathlib.Core.List.{List, _∷_}
 use lib.ListN.{length, getD, List·getD-eq-default}
-use borrow.Author.Tests.{ltb-true}
-use Rattle.d64spec.specs.Answers.{Address}
+use borrow.Author.Tests.{ltb-true, le-leb, lt-leb}
+use Rattle.d64spec.specs.Answers.{Address, address}
 use Rattle.d64spec.specs.Geometry.{layout35, sectorsOn, onDisk, sectorNumber}
-use Rattle.geometry.specs.Layout.{entryBy, onDiskBy, numberBy, IsCounts, IsFirsts}
+use Rattle.geometry.specs.declared.Track.{Track}
+use Rattle.geometry.specs.Layout.{entryBy, trackBy, numberBy, IsCounts, IsFirsts}
 use Rattle.geometry.proofs.Tables.{counts, firsts}
 use Rattle.geometry.proofs.TableLaws.{count-none, count-past, first-at}
 
@@ -26,10 +28,24 @@ module _ (l : List ℕ) (t : ℕ) where
   unfolding entryBy
   entryBy-at h = let e : t ≡ suc (t - 1) = omega arith in ap (λ (x : ℕ). getD (0 ∷ l) x 0) e
 
--- by the layout's counts, the layout's test
-pub onDiskBy-counts : (r : Address) → onDiskBy counts r ≡ onDisk layout35 r
-unfolding onDiskBy entryBy onDisk sectorsOn layout35
-onDiskBy-counts r = refl
+-- a track by cases
+module _ (counts firsts : List ℕ) (t : ℕ) where
+  pub trackBy-none : t < 1 → trackBy counts firsts t ≡ record { number = t; sectors = 0; first = 0 }
+  unfolding trackBy
+  trackBy-none h = rw (lt-leb 1 t h)
+
+  pub trackBy-past : 35 < t → trackBy counts firsts t ≡ record { number = t; sectors = 0; first = 0 }
+  unfolding trackBy
+  trackBy-past h = rw (le-leb 1 t (omega arith), lt-leb t 35 h)
+
+  pub trackBy-at : {i : ℕ} → 1 ≤ t → t ≤ 35 → i ≡ t - 1 → trackBy counts firsts t ≡ record { number = t; sectors = getD counts i 0; first = getD firsts i 0 }
+  unfolding trackBy
+  trackBy-at low high is = rw (is, le-leb 1 t low, le-leb t 35 high)
+
+-- by the layout's counts, a track's sectors
+pub entryBy-counts : (t : ℕ) → entryBy counts t ≡ sectorsOn layout35 t
+unfolding entryBy sectorsOn layout35
+entryBy-counts t = refl
 
 -- a sector of the disk lies on one of its 35 tracks
 pub tracks-of-onDisk : (r : Address) → onDisk layout35 r ≡ true → (1 ≤ r .track) × (r .track ≤ 35)
@@ -49,7 +65,40 @@ numberBy-firsts r on =
 
 -- THE LAYOUT'S OWN TABLES
 pub counts35 : IsCounts counts
-counts35 = record { agrees = onDiskBy-counts }
+counts35 = record { agrees = entryBy-counts }
 
 pub firsts35 : IsFirsts firsts
 firsts35 = record { agrees = numberBy-firsts }
+
+-- A TRACK BY TABLES THAT AGREE WITH THE LAYOUT: its sectors, and the numbers of those on the disk
+pub record IsTrack (on : Track) : Type 0 where
+  pub count : on .sectors ≡ sectorsOn layout35 (on .number)
+  pub first : (s : ℕ) → onDisk layout35 (address (on .number) s) ≡ true → on .first + s ≡ sectorNumber layout35 (address (on .number) s)
+
+pub track-known : {counts firsts : List ℕ} {on : Track} {t : ℕ} → IsCounts counts → IsFirsts firsts → on ≡ trackBy counts firsts t → (on .number ≡ t) × IsTrack on
+unfolding numberBy
+track-known {counts} {firsts} {on} {t} cs fs is = elim (decLe 1 t) [
+  | no below ↦ rw (is, trackBy-none counts firsts t (omega arith)) (
+    refl,
+    record {
+      count = sym (count-none t (omega arith));
+      first = λ s at. let z : ⊥ = below (tracks-of-onDisk (address t s) at .0) in absurd z;
+    },
+  )
+  | yes low ↦ elim (decLe t 35) [
+    | no above ↦ rw (is, trackBy-past counts firsts t (omega arith)) (
+      refl,
+      record {
+        count = sym (count-past t (omega arith));
+        first = λ s at. let z : ⊥ = above (tracks-of-onDisk (address t s) at .1) in absurd z;
+      },
+    )
+    | yes high ↦ rw (is, trackBy-at counts firsts t low high refl) (
+      refl,
+      record {
+        count = sym (entryBy-at counts t low) ∙ cs .agrees t;
+        first = λ s at. ap (λ (x : ℕ). x + s) (sym (entryBy-at firsts t low)) ∙ fs .agrees (address t s) at;
+      },
+    )
+  ]
+]

@@ -1,12 +1,11 @@
 -- The rule of the two tables, and what it says of the layout (01, Tracks and sectors).
--- In order: the running sum; the layout's counts; its first numbers, and where a track ends. The rule is one test, `every-at` of Every.
+-- In order: the running sum; the layout's counts; its first numbers. The rule is one test, `every-at` of Every.
 use Prim.Native.Nat.{ℕ, zero, suc, _+_, _-_, _≤_, _<_}
 use native.Mathlib.Omega.{arith}
 use mathlib.Core.Path.{_≡_, refl, ap, _∙_}
 use mathlib.Core.Bool.{Bool}
 use mathlib.Core.List.{List, [], _∷_, _++_}
 use lib.ListN.{take, getD, List·getD-append, List·getD-eq-default}
-use lib.Seq.{take-all}
 use lib.Dec.{eqb}
 use borrow.Author.Tests.{eqb-true}
 use Rattle.d64spec.specs.Lists.{sum}
@@ -52,30 +51,10 @@ sum-take-suc [] (suc t) = refl
 sum-take-suc (x ∷ l) zero = omega arith
 sum-take-suc (x ∷ l) (suc t) = omega (arith, sum-take-suc l t)
 
-sum-take-le : (l : List ℕ) (t : ℕ) → sum (take t l) + getD l t 0 ≤ sum l
-sum-take-le [] zero = omega arith
-sum-take-le [] (suc t) = omega arith
-sum-take-le (x ∷ l) zero = omega arith
-sum-take-le (x ∷ l) (suc t) = omega (arith, sum-take-le l t)
-
--- a track ends within the disk
-pub track-end-le : (t : ℕ) → firstOn layout35 t + sectorsOn layout35 t ≤ 683
-unfolding layout35 firstOn sectorsOn
-track-end-le t = sum-take-le (0 ∷ counts) t
-
 -- the same sum of the layout's counts
 firstOn-suc : (g : Geometry) (t : ℕ) → firstOn g (suc t) ≡ firstOn g t + sectorsOn g t
 unfolding firstOn sectorsOn
 firstOn-suc g t = sum-take-suc (0 ∷ g .counts) t
-
-module _ (t : ℕ) where
-  pub first-none : t < 1 → firstOn layout35 t ≡ 0
-  unfolding layout35 firstOn
-  first-none h = let e : t ≡ 0 = omega arith in rw e
-
-  pub first-past : 35 < t → firstOn layout35 t ≡ 683
-  unfolding layout35 firstOn
-  first-past h = ap sum (take-all t (0 ∷ counts) h)
 
 first-start : firstOn layout35 1 ≡ 0
 unfolding layout35 firstOn

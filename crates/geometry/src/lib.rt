@@ -2,8 +2,8 @@
 // Every function is total: `on_disk` tells an address off the disk.
 // The tables' rule, the running sum, is proved once over both tables: proofs/TableLaws.
 ghost use mathlib.Core.Path.{_≡_};
-ghost use Rattle.d64spec.specs.Geometry.{layout35, firstOn, onDisk};
-ghost use Rattle.geometry.specs.Layout.{addressOf, Counted, entryBy, onDiskBy, numberBy};
+ghost use Rattle.d64spec.specs.Geometry.{layout35, onDisk};
+ghost use Rattle.geometry.specs.Layout.{addressOf, Counted, entryBy, trackBy, numberBy};
 
 // A sector by its track, from 1, and its place on the track, from 0.
 pub struct Address {
@@ -11,10 +11,15 @@ pub struct Address {
     pub sector: u8,
 }
 
-// The last track, and the sectors of all tracks.
-const TRACKS: u8 = 35;
+// A track: its number, how many sectors it has, and the number of the first of them.
+pub struct Track {
+    pub number: u8,
+    pub sectors: u8,
+    pub first: u16,
+}
 
-const TOTAL: u16 = 683;
+// The last track.
+const TRACKS: u8 = 35;
 
 // How many sectors each track has, from track 1 on.
 pub const SECTORS: [u8; 35] = [
@@ -108,20 +113,6 @@ pub fn sectors_on(track: u8) -> u8
     SECTORS[i]
 }
 
-// How many sectors the tracks below this one have: the number of its first sector, and 683 past the last track.
-pub fn first_on(track: u8) -> u16
-    ensures { λ r. ⌜ r ≡ firstOn layout35 track ⌝ }
-{
-    if track < 1 {
-        return 0;
-    }
-    if TRACKS < track {
-        return TOTAL;
-    }
-    let below = (track - 1) as usize;
-    FIRST[below]
-}
-
 // Whether an address names a sector of the disk.
 pub fn on_disk(at: Address) -> bool
     ensures { λ r. ⌜ r ≡ onDisk layout35 (addressOf at) ⌝ }
@@ -129,8 +120,8 @@ pub fn on_disk(at: Address) -> bool
     at.sector < sectors_on(at.track)
 }
 
-// A track's entry of a table of counts, from track 1 on: 0 where there is none.
-fn count_by(counts: &[u8], track: u8) -> u8
+// A track's entry of a table of counts, from track 1 on: 0 where there is none. For loops: the table is lent.
+pub fn count_by(counts: &[u8], track: u8) -> u8
     ensures { λ r. ⌜ r ≡ entryBy (now (counts .entry)) track ⌝ }
 {
     if track < 1 {
@@ -157,11 +148,31 @@ fn first_by(firsts: &[u16], track: u8) -> u16
     0
 }
 
-// Whether an address names a sector of a disk whose tracks, from track 1 on, have these counts of sectors. For loops: the table is lent.
-pub fn on_disk_by(counts: &[u8; 35], at: Address) -> bool
-    ensures { λ r. ⌜ r ≡ onDiskBy (now (counts .entry)) (addressOf at) ⌝ }
+// A track of a disk whose tracks, from track 1 on, have these counts of sectors and start at these numbers. A track that the tables do not have has
+// no sector.
+pub fn track_by(counts: &[u8; 35], firsts: &[u16; 35], number: u8) -> Track
+    ensures { λ r. ⌜ r ≡ trackBy (now (counts .entry)) (now (firsts .entry)) number ⌝ }
 {
-    at.sector < count_by(counts, at.track)
+    if number < 1 {
+        return Track {
+            number,
+            sectors: 0,
+            first: 0,
+        };
+    }
+    if TRACKS < number {
+        return Track {
+            number,
+            sectors: 0,
+            first: 0,
+        };
+    }
+    let i = number as usize - 1;
+    Track {
+        number,
+        sectors: counts[i],
+        first: firsts[i],
+    }
 }
 
 // A sector's number on a disk whose tracks, from track 1 on, start at these numbers; off these tracks its place on the track alone.

@@ -1,4 +1,3 @@
-pub mod SurveyLaws
 pub mod DifferenceLaws
 pub mod TrackLaws
 pub mod StepLaws

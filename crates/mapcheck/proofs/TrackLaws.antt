@@ -1,39 +1,70 @@
--- A track's check as the code makes it is d64spec's `checkTrack`. In order: tests; its bits; the bitmap's lowest bits as a number; the lowest that is wrong;
--- the count; the track.
+-- A track's check as the code makes it is d64spec's `checkTrack`, where the free sectors are those whose bit is 0 in the track's number of owned ones.
+-- In order: the bits of a number that are 0; tests; the bits of the two numbers; the lowest that is wrong; the count; the track; as the code compares, and several
+-- tracks at once.
 -- Stated once over the track's number of sectors. Assumes nothing.
-use Prim.Native.Nat.{ℕ, _%_, _^_, _<_}
+use Prim.Native.Nat.{ℕ, zero, suc, _+_, _-_, _*_, _%_, _^_, _≤_, _<_}
 use native.Mathlib.Omega.{arith}
 use native.Mathlib.Nat.{mod-lt}
 use native.Mathlib.Decide.{ℕ-discrete}
 use mathlib.Core.Path.{_≡_, refl, sym, ap, ap₂, _∙_}
 use mathlib.Core.Bool.{Bool, true, false, _&&_}
 use mathlib.Core.List.{List}
-use lib.ListN.{length}
+use lib.ListN.{length, getD}
 use lib.Dec.{eqb}
-use lib.Bits.{bitXor}
+use lib.Bits.{bitXor, bitOr, or-add-and, xor-add-and, and-le-l, and-le-r}
 use lib.Count.{trailingZeros}
 use lib.Pow.{pow-pos}
 use borrow.Author.Tests.{eqb-true, eq-eqb, ne-eqb}
 use Rattle.d64spec.specs.Lists.{Bytes, byte, indicator}
 use Rattle.d64spec.specs.Bits.{bitOf, binary}
 use Rattle.d64spec.specs.Answers.{Address, address, done, need, refused, wrongMapEntry}
-use Rattle.d64spec.specs.Geometry.{layout35, firstOn, sectorsOn, sectorNumber}
+use Rattle.d64spec.specs.Geometry.{layout35, sectorsOn}
 use Rattle.d64spec.specs.Map.{mapBit, mapOnes, wrongBits, lowestWrong, entryCorrect}
 use Rattle.d64spec.specs.Check.{checkTrack}
-use Rattle.d64spec.proofs.MapLaws.{OwnRight, bits-of-none, lowest-at, lowest-none, map-bit-le, none-of-bits}
-use Rattle.d64spec.proofs.SumLaws.{sum-same}
-use Rattle.d64spec.proofs.BitLaws.{binary-lt, binary-same, binary-bit, binary-remainder}
+use Rattle.d64spec.proofs.MapLaws.{OwnRight, bits-of-none, lowest-at, lowest-none, none-of-bits}
+use Rattle.d64spec.proofs.SumLaws.{indicator-le}
+use Rattle.d64spec.proofs.BitLaws.{bit-le, binary-more, binary-lt, binary-bit, binary-remainder, number-known}
 use Rattle.d64spec.proofs.RunTheorem.{valid35}
-use Rattle.owners.specs.OwnerTable.{freeBy}
-use Rattle.bam.specs.MapEntry.{entryBit, bitmapOf}
+use Rattle.geometry.specs.Layout.{IsCounts}
+use Rattle.owners.specs.Masks.{unmarked}
+use Rattle.bam.specs.MapEntry.{bitmapOf, ownBits, freeIn, freeOn}
 use Rattle.bam.proofs.ShapeLaws.{EntryShape}
-use Rattle.bam.proofs.BitmapLaws.{entry-bit-le, bitmap-binary}
-use Rattle.bam.specs.MapSector.{mapEntry, fourBytes}
-use Rattle.bam.proofs.SectorLaws.{bit-map-entry}
-use Rattle.mapcheck.specs.MapChecks.{freeBit, freeMask, freeCount, Surveyed, lowestDifference, trackVerdict}
-use Rattle.mapcheck.proofs.SurveyLaws.{free-bit-le}
+use Rattle.bam.proofs.BitmapLaws.{bit-bitmap}
+use Rattle.bam.specs.MapSector.{mapEntry}
+use Rattle.bam.proofs.SectorLaws.{bit-map-entry, count-map-entry}
+use Rattle.bam.proofs.OnesLaws.{free-map-entry}
+use Rattle.mapcheck.specs.declared.Sectors.{Sectors}
+use Rattle.mapcheck.specs.MapChecks.{lowestDifference, TrackSectors, trackVerdict}
 use Rattle.mapcheck.proofs.DifferenceLaws.{lowest-different}
-use Rattle.mapcheck.specs.declared.FreeSectors.{FreeSectors}
+
+-- ---- the bits of a number that are 0
+
+-- 1 where bit s of u is 0, else 0
+abbrev zeroBit : ℕ → ℕ → ℕ
+zeroBit u s = indicator (eqb (bitOf u s) 0)
+
+-- it is a bit
+zero-bit-le : (u s : ℕ) → zeroBit u s ≤ 1
+zero-bit-le u s = indicator-le (eqb (bitOf u s) 0)
+
+-- of a digit and whether it is 0, one is there
+one-digit : (x p : ℕ) → x ≤ 1 → indicator (eqb x 0) * p + x * p ≡ p
+one-digit zero p h = omega arith
+one-digit (suc zero) p h = omega arith
+one-digit (suc (suc x)) p h = absurd (omega arith)
+
+-- the ones and the zeros are all bits
+ones-and-zeros : (u n : ℕ) → binary (zeroBit u) n + binary (bitOf u) n + 1 ≡ 2 ^ n
+unfolding binary
+ones-and-zeros u zero = refl
+ones-and-zeros u (suc n) =
+    omega (arith, one-digit (bitOf u n) (2 ^ n) (bit-le u n), ones-and-zeros u n, binary-more (zeroBit u) n, binary-more (bitOf u) n)
+
+-- THE ZEROS AS A NUMBER: all ones less the number's own
+binary-zeros : (u n : ℕ) → 2 ^ n - 1 - u % 2 ^ n ≡ binary (zeroBit u) n
+binary-zeros u n =
+    let rest : 2 ^ n - 1 - binary (bitOf u) n ≡ binary (zeroBit u) n = omega (arith, ones-and-zeros u n) in
+    ap (λ (x : ℕ). 2 ^ n - 1 - x) (sym (binary-remainder u n)) ∙ rest
 
 -- ---- tests
 
@@ -43,23 +74,16 @@ test-same true b there back = sym (there refl)
 test-same false true there back = back refl
 test-same false false there back = refl
 
--- the second test is asked only where the first holds
-and-same : (a b c d : Bool) → a ≡ c → (a ≡ true → b ≡ d) → (a && b) ≡ (c && d)
-and-same true b c d e next = ap₂ (λ (x y : Bool). x && y) e (next refl)
-and-same false b c d e next = ap (λ (x : Bool). x && d) e
-
+-- two tests that never hold together
 both-false : (a b : Bool) → (a ≡ true → b ≡ true → ⊥) → (a && b) ≡ false
 both-false true true never = absurd (never refl refl)
 both-false true false never = refl
 both-false false b never = refl
 
-module _ (m : Bytes) (own : List ℕ) (t : ℕ) where
-  -- what the definitions ask, and the track's sectors
+module _ (m : Bytes) (used : List ℕ) (t : ℕ) where
+  -- what the definitions ask; the track's sectors, its entry and its number of owned sectors
   abbrev free : Address → Bool
-  free = freeBy layout35 own
-
-  abbrev first : ℕ
-  first = firstOn layout35 t
+  free = unmarked used
 
   abbrev sectors : ℕ
   sectors = sectorsOn layout35 t
@@ -67,107 +91,128 @@ module _ (m : Bytes) (own : List ℕ) (t : ℕ) where
   abbrev entry : Bytes
   entry = mapEntry layout35 m t
 
-  -- a sector is free exactly where the table has no owner
-  free-bit : (s : ℕ) → freeBit own first s ≡ indicator (free (address t s))
-  unfolding freeBy freeBit sectorNumber
-  free-bit s = refl
+  abbrev owned : ℕ
+  owned = getD used (t - 1) 0
+
+  -- the two numbers that are compared: the sectors that are marked free, and those that have no owner
+  abbrev marked : ℕ
+  marked = bitmapOf entry % 2 ^ sectors
+
+  abbrev others : ℕ
+  others = 2 ^ sectors - 1 - owned % 2 ^ sectors
+
+  -- ---- the bits of the two numbers
+
+  -- both have as many bits as the track has sectors
+  others-lt : others < 2 ^ sectors
+  others-lt = rw (binary-zeros owned sectors) (binary-lt (zeroBit owned) (zero-bit-le owned) sectors)
+
+  -- a sector's bit is 1 where it has no owner
+  others-bit : (s : ℕ) → s < sectors → bitOf others s ≡ indicator (free (address t s))
+  unfolding unmarked
+  others-bit s h = ap (λ (x : ℕ). bitOf x s) (binary-zeros owned sectors) ∙ binary-bit (zeroBit owned) (zero-bit-le owned) sectors s h
 
   module _ (shape : EntryShape entry) where
-    -- ---- the bitmap
-
-    -- its lowest bits, as many as the track has sectors
-    bitmap-low : bitmapOf entry % 2 ^ sectors ≡ binary (mapBit layout35 m t) sectors
-    bitmap-low =
-        sym (binary-remainder (bitmapOf entry) sectors)
-        ∙ binary-same (bitOf (bitmapOf entry)) (mapBit layout35 m t) sectors (λ s h.
+    -- and in the other where it is marked free
+    marked-bit : (s : ℕ) → s < sectors → bitOf marked s ≡ mapBit layout35 m t s
+    marked-bit s h =
         let below : s < 24 = omega (arith, valid35 .small t) in
-        ap (λ (x : ℕ). bitOf x s) (bitmap-binary entry shape) ∙ binary-bit (entryBit entry) (entry-bit-le entry) 24 s below
-        ∙ bit-map-entry layout35 m t s below)
+        ap (λ (x : ℕ). bitOf x s) (sym (binary-remainder (bitmapOf entry) sectors))
+        ∙ binary-bit (bitOf (bitmapOf entry)) (bit-le (bitmapOf entry)) sectors s h
+        ∙ bit-bitmap entry shape s below ∙ bit-map-entry layout35 m t s below
 
-    -- the bits of the two numbers are the marks, and the free sectors
-    marked-bit : (s : ℕ) → s < sectors → bitOf (bitmapOf entry % 2 ^ sectors) s ≡ mapBit layout35 m t s
-    marked-bit s h = ap (λ (x : ℕ). bitOf x s) bitmap-low ∙ binary-bit (mapBit layout35 m t) (map-bit-le layout35 m t) sectors s h
+    -- equal numbers, right bits
+    bits-of-same : marked ≡ others → OwnRight layout35 free m t
+    bits-of-same e s h = sym (marked-bit s h) ∙ ap (λ (x : ℕ). bitOf x s) e ∙ others-bit s h
 
-    mask-bit : (s : ℕ) → s < sectors → bitOf (freeMask own first sectors) s ≡ indicator (free (address t s))
-    unfolding freeMask
-    mask-bit s h = binary-bit (freeBit own first) (free-bit-le own first) sectors s h ∙ free-bit s
+    -- right bits, equal numbers
+    same-of-bits : OwnRight layout35 free m t → marked ≡ others
+    same-of-bits bit =
+        number-known marked others sectors (mod-lt (bitmapOf entry) (pow-pos sectors)) others-lt
+        (λ s h. marked-bit s h ∙ bit s h ∙ sym (others-bit s h))
 
-    bits-of-mask : bitmapOf entry % 2 ^ sectors ≡ freeMask own first sectors → OwnRight layout35 free m t
-    bits-of-mask e s h = sym (marked-bit s h) ∙ ap (λ (x : ℕ). bitOf x s) e ∙ mask-bit s h
-
-    mask-of-bits : OwnRight layout35 free m t → bitmapOf entry % 2 ^ sectors ≡ freeMask own first sectors
-    unfolding freeMask
-    mask-of-bits bit = bitmap-low ∙ binary-same (mapBit layout35 m t) (freeBit own first) sectors (λ s h. bit s h ∙ sym (free-bit s))
-
-    bitmap-test : eqb (bitmapOf entry % 2 ^ sectors) (freeMask own first sectors) ≡ eqb (length (wrongBits layout35 free m t)) 0
+    -- the one test is the other
+    bitmap-test : eqb marked others ≡ eqb (length (wrongBits layout35 free m t)) 0
     bitmap-test =
         test-same _ _
-        (λ e. eq-eqb _ 0 (none-of-bits layout35 free m t (bits-of-mask (eqb-true _ _ e))))
-        (λ e. eq-eqb _ _ (mask-of-bits (bits-of-none layout35 free m t (eqb-true _ 0 e))))
+        (λ e. eq-eqb _ 0 (none-of-bits layout35 free m t (bits-of-same (eqb-true _ _ e))))
+        (λ e. eq-eqb _ _ (same-of-bits (bits-of-none layout35 free m t (eqb-true _ 0 e))))
 
     -- ---- the lowest wrong bit
 
-    mask-lt : freeMask own first sectors < 2 ^ sectors
-    unfolding freeMask
-    mask-lt = binary-lt (freeBit own first) (free-bit-le own first) sectors
-
     -- where the numbers differ, in the lowest of these bits
-    lowest-other : (bitmapOf entry % 2 ^ sectors ≡ freeMask own first sectors → ⊥)
-        → lowestWrong layout35 free m t ≡ trailingZeros 32 (bitXor (bitmapOf entry % 2 ^ sectors) (freeMask own first sectors))
+    lowest-other : (marked ≡ others → ⊥) → lowestWrong layout35 free m t ≡ trailingZeros 32 (bitXor marked others)
     lowest-other other =
-        let low = lowest-different 32 sectors _ _ (omega (arith, valid35 .small t)) (mod-lt (bitmapOf entry) (pow-pos sectors)) mask-lt other in
+        let low = lowest-different 32 sectors _ _ (omega (arith, valid35 .small t)) (mod-lt (bitmapOf entry) (pow-pos sectors)) others-lt other in
         lowest-at layout35 free m t _ (low .below)
-        (λ e. low .other (marked-bit _ (low .below) ∙ e ∙ sym (mask-bit _ (low .below))))
-        (λ i h. let below : i < sectors = omega (arith, low .below) in sym (marked-bit i below) ∙ low .lower i h ∙ mask-bit i below)
+        (λ e. low .other (marked-bit _ (low .below) ∙ e ∙ sym (others-bit _ (low .below))))
+        (λ i h. let below : i < sectors = omega (arith, low .below) in sym (marked-bit i below) ∙ low .lower i h ∙ others-bit i below)
 
-    lowest-same : lowestDifference (bitmapOf entry % 2 ^ sectors) (freeMask own first sectors) ≡ lowestWrong layout35 free m t
+    -- the sector that is named is the lowest wrong one, and 255 where there is none
+    lowest-same : lowestDifference marked others ≡ lowestWrong layout35 free m t
     unfolding lowestDifference
-    lowest-same = elim (ℕ-discrete (bitmapOf entry % 2 ^ sectors) (freeMask own first sectors)) [
-      | yes e ↦ rw (eq-eqb _ _ e) (sym (lowest-none layout35 free m t (bits-of-mask e)))
+    lowest-same = elim (ℕ-discrete marked others) [
+      | yes e ↦ rw (eq-eqb _ _ e) (sym (lowest-none layout35 free m t (bits-of-same e)))
       | no other ↦ rw (ne-eqb _ _ other) (sym (lowest-other other))
     ]
 
     -- ---- the count
 
-    count-of-bits : OwnRight layout35 free m t → freeCount own first sectors ≡ mapOnes layout35 m t
-    unfolding freeCount mapOnes
-    count-of-bits bit = sum-same (freeBit own first) (mapBit layout35 m t) 0 sectors (λ s l h. free-bit s ∙ sym (bit s (omega arith)))
-
-    count-test : eqb (bitmapOf entry % 2 ^ sectors) (freeMask own first sectors) ≡ true
-        → eqb (byte entry 0) (freeCount own first sectors) ≡ eqb (byte m (layout35 .mapAt t)) (mapOnes layout35 m t)
-    unfolding mapEntry fourBytes
-    count-test e = ap (eqb (byte m (layout35 .mapAt t))) (count-of-bits (bits-of-mask (eqb-true _ _ e)))
+    -- the count byte against the marks counted
+    count-test : eqb (byte entry 0) (freeIn entry sectors) ≡ eqb (byte m (layout35 .mapAt t)) (mapOnes layout35 m t)
+    count-test = ap₂ eqb (count-map-entry layout35 m t) (free-map-entry m t)
 
     -- THE TRACK'S CHECK IS THE DEFINITION'S: numbers of bits are compared as document 01 compares the bits, and the place is document 02's
-    pub track-same : trackVerdict entry own t ≡ checkTrack layout35 free m t
+    pub track-same : trackVerdict entry owned t ≡ checkTrack layout35 free m t
     unfolding trackVerdict entryCorrect
-    track-same = ap₂ (λ (b : Bool) (s : ℕ). need b (wrongMapEntry (address t s))) (and-same _ _ _ _ bitmap-test count-test) lowest-same
+    track-same =
+        ap₂ (λ (b : Bool) (s : ℕ). need b (wrongMapEntry (address t s)))
+        (ap₂ (λ (x y : Bool). x && y) bitmap-test count-test) lowest-same
 
--- ---- the same from what the survey gives
+-- ---- as the code compares
 
-module _ (e : Bytes) (own : List ℕ) (t : ℕ) {first n : ℕ} {r : FreeSectors} (from : first ≡ firstOn layout35 t) (to : n ≡ sectorsOn layout35 t) (found : Surveyed own first n r) where
-  mask-found : r .mask ≡ freeMask own (firstOn layout35 t) (sectorsOn layout35 t)
-  mask-found = found .mask ∙ ap₂ (λ (x y : ℕ). freeMask own x y) from to
+-- what is left of a division is taken off all ones
+pub rest-le : (a : ℕ) {p : ℕ} → 0 < p → a % p ≤ p - 1
+rest-le a h = let below = mod-lt a h in omega arith
 
-  count-found : r .count ≡ freeCount own (firstOn layout35 t) (sectorsOn layout35 t)
-  count-found = found .count ∙ ap₂ (λ (x y : ℕ). freeCount own x y) from to
+-- a track's own bits are its sectors
+pub own-sectors : {counts : List ℕ} → IsCounts counts → (t : ℕ) → ownBits counts t ≡ sectorsOn layout35 t
+unfolding ownBits
+own-sectors is t = omega (arith, is .agrees t, valid35 .small t)
 
-  -- k is the power of two that the code divides by, and n′ the number that it makes of the bitmap
-  module _ {k n′ : ℕ} (power : k ≡ 2 ^ n) (marked : n′ ≡ bitmapOf e % k) where
-    marked-found : n′ ≡ bitmapOf e % 2 ^ sectorsOn layout35 t
-    marked-found = marked ∙ ap (λ (x : ℕ). bitmapOf e % x) (power ∙ ap (λ (x : ℕ). 2 ^ x) to)
+-- e is an entry, b its bitmap and u the owned sectors of its track; k is how many bits are compared, and p their power
+pub sectors-found : {e : Bytes} {u n b k p x y : ℕ} → b ≡ bitmapOf e → k ≡ n → p ≡ 2 ^ k → x ≡ b % p → y ≡ p - 1 - u % p
+    → TrackSectors e u n (record { marked = x; free = y })
+sectors-found bitmap own power marked free = rw (marked, free, power, own, bitmap) (record { marked = refl; free = refl })
 
-    verdict-found : need (eqb n′ (r .mask) && eqb (byte e 0) (r .count)) (wrongMapEntry (address t (lowestDifference n′ (r .mask)))) ≡ trackVerdict e own t
-    unfolding trackVerdict
-    verdict-found = rw (marked-found, mask-found, count-found)
+-- e is the entry of track t and u its owned sectors; n is how many of its marks are counted
+module _ (e : Bytes) (u t : ℕ) {counts : List ℕ} (is : IsCounts counts) {n : ℕ} (count : n ≡ freeOn counts e t) {r : Sectors}
+    (found : TrackSectors e u (ownBits counts t) r) where
+  verdict-found : need (eqb (r .marked) (r .free) && eqb (byte e 0) n) (wrongMapEntry (address t (lowestDifference (r .marked) (r .free)))) ≡ trackVerdict e u t
+  unfolding trackVerdict
+  verdict-found = rw (found .marked, found .free, own-sectors is t, count, is .agrees t)
 
-    -- the entry is right where both agree
-    pub track-right : n′ ≡ r .mask → byte e 0 ≡ r .count → done tt ≡ trackVerdict e own t
-    track-right mask count = rw (eq-eqb _ _ mask, eq-eqb _ _ count) at verdict-found
+  -- the entry is right where both agree
+  pub track-right : r .marked ≡ r .free → byte e 0 ≡ n → done tt ≡ trackVerdict e u t
+  track-right same counted = rw (eq-eqb _ _ same, eq-eqb _ _ counted) at verdict-found
 
-    -- and refused where one of them does not; a and b are the numbers that the code compares
-    pub track-wrong : {t′ s a b : ℕ} → s ≡ lowestDifference a b → a ≡ n′ → b ≡ r .mask → t′ ≡ t
-        → (n′ ≡ r .mask → byte e 0 ≡ r .count → ⊥) → refused (wrongMapEntry (address t′ s)) ≡ trackVerdict e own t
-    track-wrong named same-a same-b same-t wrong =
-        ap₂ (λ (x y : ℕ). refused (wrongMapEntry (address x y))) same-t (named ∙ ap₂ lowestDifference same-a same-b)
-        ∙ rw (both-false (eqb n′ (r .mask)) (eqb (byte e 0) (r .count)) (λ x y. wrong (eqb-true _ _ x) (eqb-true _ _ y))) at verdict-found
+  -- and refused where one of them does not
+  pub track-wrong : {t′ s x y : ℕ} → s ≡ lowestDifference x y → t′ ≡ t → x ≡ r .marked → y ≡ r .free → (r .marked ≡ r .free → byte e 0 ≡ n → ⊥)
+      → refused (wrongMapEntry (address t′ s)) ≡ trackVerdict e u t
+  track-wrong named same-track marked free wrong =
+      ap₂ (λ (i j : ℕ). refused (wrongMapEntry (address i j))) same-track (named ∙ ap₂ lowestDifference marked free)
+      ∙ rw (both-false (eqb (r .marked) (r .free)) (eqb (byte e 0) n) (λ i j. wrong (eqb-true _ _ i) (eqb-true _ _ j))) at verdict-found
+
+-- ---- several tracks at once
+
+-- nothing differs in a number of differences that is 0: those before it, the bits x and y, the numbers c and n
+pub nothing-differs : (w x y c n : ℕ) → bitOr (bitOr w (bitXor x y)) (bitXor c n) ≡ 0 → (w ≡ 0) × (x ≡ y) × (c ≡ n)
+nothing-differs w x y c n none =
+    let all : bitOr w (bitXor x y) ≡ 0 = or-none (bitOr w (bitXor x y)) (bitXor c n) none .0 in
+    (or-none w (bitXor x y) all .0, xor-none x y (or-none w (bitXor x y) all .1), xor-none c n (or-none (bitOr w (bitXor x y)) (bitXor c n) none .1))
+  where
+    or-none : (a b : ℕ) → bitOr a b ≡ 0 → (a ≡ 0) × (b ≡ 0)
+    or-none a b e = (omega (arith, or-add-and a b, and-le-r a b), omega (arith, or-add-and a b, and-le-l a b))
+
+    xor-none : (a b : ℕ) → bitXor a b ≡ 0 → a ≡ b
+    xor-none a b e = omega (arith, xor-add-and a b, and-le-l a b, and-le-r a b)

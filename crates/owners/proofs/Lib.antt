@@ -5,3 +5,4 @@ pub mod SlotsTable
 pub mod ClaimLaws
 pub mod OwnerNumberLaws
 pub mod OwnerNumberTable
+pub mod MaskLaws

@@ -1,1 +1,2 @@
 pub mod OwnerTable
+pub mod Masks

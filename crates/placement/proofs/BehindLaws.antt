@@ -1,6 +1,6 @@
--- Places put behind others in an array (`PlacedBehind`): none; as many as are wanted are there; one; those of two lists in turn.
+-- Places put behind others in an array (`PlacedBehind`): none more; one; those of two lists in turn.
 -- Assumes nothing.
-use Prim.Native.Nat.{ℕ, zero, suc, _+_, _-_, _≤_, _<_}
+use Prim.Native.Nat.{ℕ, zero, suc, _+_, _-_, _≤_, _<_, min}
 use native.Mathlib.Omega.{arith}
 use mathlib.Core.Path.{_≡_, refl, sym, ap, ap₂, _∙_}
 use mathlib.Core.List.{List, [], _∷_, _++_, map, append-assoc}
@@ -19,6 +19,12 @@ take-both (suc k) [] b = let e : suc k ≡ suc k - 0 = omega arith in ap (λ (n 
 take-both {A} (suc k) (x ∷ a) b =
     let e : suc k - suc (length (take k a)) ≡ k - length (take k a) = omega arith in
     ap (λ (l : List A). x ∷ l) (take-both k a b ∙ ap (λ (n : ℕ). take k a ++ take n b) (sym e))
+
+-- nothing of a list: it has nothing, or nothing is taken
+take-none : {A : Type 0} (k : ℕ) (l : List A) → min k (length l) ≡ 0 → take k l ≡ []
+take-none zero l e = refl
+take-none (suc k) [] e = refl
+take-none (suc k) (x ∷ l) e = absurd (omega arith)
 
 -- a run of stores replaces a part; one behind another
 sets-splice : (l : List ℕ) (i : ℕ) (a : List ℕ) → i + length a ≤ length l → sets l i a ≡ splice l i a
@@ -57,14 +63,9 @@ module _ {at : List ℕ} {have want : ℕ} (room : TrackRoom at have want) where
     pub room-placed : TrackRoom at′ r want
     room-placed = record { few = omega (arith, p .count, few-placed l); room = omega (arith, room .room, length-placed) }
 
-  pub placed-none : PlacedBehind [] at have want have at
-  placed-none = placed-stores [] [] (take-nil (want - have)) (omega arith)
-
-  -- as many as are wanted are there
-  pub placed-full : (l : List Address) → have ≡ want → PlacedBehind l at have want have at
-  placed-full l e =
-      let z : want - have ≡ 0 = omega arith in
-      placed-stores l [] (rw z) (omega arith)
+  -- no sector is left, or as many as are wanted are there
+  pub placed-none : (l : List Address) → min (have + length l) want ≤ have → PlacedBehind l at have want have at
+  placed-none l h = placed-stores l [] (take-none (want - have) l (omega (arith, room .few))) (omega arith)
 
   pub placed-one : (x : Address) → have < want → PlacedBehind (x ∷ []) at have want (have + 1) (set at have (packed x))
   placed-one x h =

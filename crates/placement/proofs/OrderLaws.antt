@@ -19,7 +19,7 @@ use Rattle.geometry.proofs.Every.{every-at}
 use Rattle.bam.specs.MapEntry.{Entries, bitmapOf}
 use Rattle.bam.specs.Bam.{entryOf, markedFree}
 use Rattle.placement.specs.Placements.{OrderTrack, PlacedBehind, TrackRoom, Placed, markedIn, freeOnTrack, freePlaces, firstPlaces, firstPacked, directoryPlace}
-use Rattle.placement.proofs.BehindLaws.{placed-none, placed-full, placed-both, room-placed, length-placed}
+use Rattle.placement.proofs.BehindLaws.{placed-none, placed-both, room-placed, length-placed}
 
 -- ---- the order's tracks by index
 
@@ -65,15 +65,15 @@ module _ (es : Entries) where
   free-on-track t = free-same t 0 (sectorsOn layout35 t)
 
   -- the free sectors of these tracks
-  abbrev freeOn : List ℕ → List Address
-  freeOn ts = filter (markedFree es) (join (map (sectorsOfTrack layout35) ts))
+  abbrev freeOnTracks : List ℕ → List Address
+  freeOnTracks ts = filter (markedFree es) (join (map (sectorsOfTrack layout35) ts))
 
   -- from index i of the order on: those of its track first
-  free-from : (i t : ℕ) → i < 34 → OrderTrack i t → freeOn (drop i order) ≡ freeOnTrack (bitmapOf (entryOf es t)) t ++ freeOn (drop (i + 1) order)
+  free-from : (i t : ℕ) → i < 34 → OrderTrack i t → freeOnTracks (drop i order) ≡ freeOnTrack (bitmapOf (entryOf es t)) t ++ freeOnTracks (drop (i + 1) order)
   free-from i t h o =
       let first : drop i order ≡ t ∷ drop (i + 1) order = rw (o .track, add-one i) (drop-cons order i 0 (omega (arith, order-length))) in
-      ap freeOn first ∙ filter-append (markedFree es) (sectorsOfTrack layout35 t) (join (map (sectorsOfTrack layout35) (drop (i + 1) order)))
-      ∙ ap (λ (l : List Address). l ++ freeOn (drop (i + 1) order)) (free-on-track t)
+      ap freeOnTracks first ∙ filter-append (markedFree es) (sectorsOfTrack layout35 t) (join (map (sectorsOfTrack layout35) (drop (i + 1) order)))
+      ∙ ap (λ (l : List Address). l ++ freeOnTracks (drop (i + 1) order)) (free-on-track t)
 
 -- ---- the loop
 
@@ -82,7 +82,7 @@ pub record Placing (es : Entries) (at₀ : List ℕ) (want : ℕ) (at : List ℕ
   pub passed : i ≤ 34
   pub room : TrackRoom at have want
   pub size : length at ≡ length at₀
-  pub whole : (r : ℕ) (out : List ℕ) → PlacedBehind (freeOn es (drop i order)) at have want r out → PlacedBehind (freePlaces es) at₀ 0 want r out
+  pub whole : (r : ℕ) (out : List ℕ) → PlacedBehind (freeOnTracks es (drop i order)) at have want r out → PlacedBehind (freePlaces es) at₀ 0 want r out
 
 pub placing-start : (es : Entries) (at : List ℕ) (want : ℕ) → want ≤ length at → Placing es at want at 0 0
 unfolding freePlaces allocationOrder
@@ -112,13 +112,13 @@ module _ {es : Entries} {at₀ : List ℕ} {want : ℕ} {at : List ℕ} {have i 
 
   -- as many as are wanted are there
   pub placing-full : {wanted : ℕ} → want ≡ min wanted (length at₀) → have ≡ want → Placed es wanted at₀ have at
-  placing-full e z = placed-at-start e (w .whole have at (placed-full (w .room) (freeOn es (drop i order)) z))
+  placing-full e z = placed-at-start e (w .whole have at (placed-none (w .room) (freeOnTracks es (drop i order)) (omega arith)))
 
   -- all tracks are passed
   pub placing-finished : {wanted : ℕ} → want ≡ min wanted (length at₀) → 34 ≤ i → Placed es wanted at₀ have at
   placing-finished e h =
       let none : drop i order ≡ [] = drop-of-length-le order {i = i} (omega (arith, order-length)) in
-      placed-at-start e (w .whole have at (rw none (placed-none (w .room))))
+      placed-at-start e (w .whole have at (rw none (placed-none (w .room) [] (omega arith))))
 
 -- ---- the directory's place
 

@@ -1,18 +1,26 @@
 -- One track's free sectors, taken by its bitmap (01, The map): what the loop over its sectors keeps.
--- In order: the bitmap halved from sector to sector; the loop. Assumes nothing.
-use Prim.Native.Nat.{ℕ, zero, suc, _+_, _-_, _*_, _/_, _%_, _^_, _≤_, _<_}
+-- In order: the bitmap halved from sector to sector; how many sectors are free; the loop. Assumes nothing.
+use Prim.Native.Nat.{ℕ, zero, suc, _+_, _-_, _*_, _/_, _%_, _^_, _≤_, _<_, min}
 use native.Mathlib.Omega.{arith}
+use native.Mathlib.Decide.{ℕ-discrete}
 use native.Mathlib.Numerals.{add-one}
-use mathlib.Core.Path.{_≡_, refl, sym, _∙_}
+use mathlib.Core.Path.{_≡_, refl, sym, ap, _∙_}
 use mathlib.Core.List.{List, [], _∷_, map}
 use lib.ListN.{length, set}
 use lib.Pow.{shr-shr}
 use borrow.Author.Tests.{ne-eqb}
-use Rattle.d64spec.specs.Lists.{filter, range}
+use Rattle.d64spec.specs.Lists.{Bytes, filter, range, sum}
+use Rattle.d64spec.specs.Bits.{bitOf}
 use Rattle.d64spec.specs.Answers.{Address, address}
 use Rattle.d64spec.specs.Geometry.{layout35, sectorsOn, sectorsOfTrack}
+use Rattle.d64spec.proofs.SumLaws.{sum-same}
+use Rattle.d64spec.proofs.RunTheorem.{valid35}
+use Rattle.geometry.specs.Layout.{IsCounts}
+use Rattle.bam.specs.MapEntry.{entryBit, bitmapOf, freeIn, freeOn}
+use Rattle.bam.proofs.ShapeLaws.{EntryShape}
+use Rattle.bam.proofs.BitmapLaws.{bit-bitmap}
 use Rattle.placement.specs.Placements.{PlacedBehind, TrackRoom, markedIn, freeOnTrack}
-use Rattle.placement.proofs.BehindLaws.{placed-none, placed-full, placed-one, placed-both, room-placed, length-placed}
+use Rattle.placement.proofs.BehindLaws.{placed-none, placed-one, placed-both, room-placed, length-placed}
 
 -- ---- the bitmap halved
 
@@ -24,15 +32,6 @@ halved-more : (m s : ℕ) → m / 2 ^ s / 2 ≡ m / 2 ^ (s + 1)
 halved-more m s = shr-shr m s 1
 
 module _ (m t : ℕ) where
-  -- no bit is left: no further sector is free
-  none-left : (s k : ℕ) → m / 2 ^ s ≡ 0 → freeFrom m t s k ≡ []
-  unfolding markedIn
-  none-left s zero e = refl
-  none-left s (suc k) e =
-      let used : m / 2 ^ s % 2 ≡ 0 = omega arith in
-      let next : m / 2 ^ suc s ≡ 0 = rw (← (add-one s), ← (halved-more m s), e) in
-      rw used (none-left (suc s) k next)
-
   -- a sector whose bit is 1, and one whose bit is not
   free-first : (s k : ℕ) → m / 2 ^ s % 2 ≡ 1 → freeFrom m t s (suc k) ≡ address t s ∷ freeFrom m t (s + 1) k
   unfolding markedIn
@@ -42,62 +41,107 @@ module _ (m t : ℕ) where
   unfolding markedIn
   used-first s k e = rw (ne-eqb (m / 2 ^ s % 2) 1 e, add-one s)
 
+  -- ---- how many are free
+
+  -- as many as there are ones
+  length-free : (s k : ℕ) → length (freeFrom m t s k) ≡ sum (map (bitOf m) (range s k))
+  unfolding bitOf
+  length-free s zero = refl
+  length-free s (suc k) =
+      let rest : length (freeFrom m t (s + 1) k) ≡ sum (map (bitOf m) (range (suc s) k)) = rw (add-one s) (length-free (suc s) k) in
+      elim (ℕ-discrete (m / 2 ^ s % 2) 1) [
+        | yes e ↦ rw (free-first s k e) (omega arith)
+        | no e ↦ rw (used-first s k e) (omega arith)
+      ]
+
+-- those of track t from sector s on
+abbrev freeLeft : ℕ → ℕ → ℕ → List Address
+freeLeft m t s = freeFrom m t s (sectorsOn layout35 t - s)
+
+-- THE TRACK'S COUNT, by a table of the layout's counts, is how many of its sectors are free
+counted-free : {counts : List ℕ} (e : Bytes) (t : ℕ) → IsCounts counts → EntryShape e → freeOn counts e t ≡ length (freeLeft (bitmapOf e) t 0)
+unfolding freeIn
+counted-free e t table shape =
+    let n : ℕ = sectorsOn layout35 t in
+    let all : n - 0 ≡ n = omega arith in
+    let ones : freeIn e n ≡ sum (map (bitOf (bitmapOf e)) (range 0 n))
+    = sum-same (entryBit e) (bitOf (bitmapOf e)) 0 n (λ s l u. sym (bit-bitmap e shape s (omega (arith, valid35 .small t)))) in
+    rw (table .agrees t, all) (ones ∙ sym (length-free (bitmapOf e) t 0 n))
+
 -- ---- the loop
 
--- the sectors below s are passed: what the others still put behind the n places makes the whole
-pub record Taking (m t : ℕ) (at₀ : List ℕ) (have want sectors : ℕ) (at : List ℕ) (bits n s : ℕ) : Type 0 where
-  pub passed : s ≤ sectors
+-- the sectors below s are passed: what the others still put behind the n places makes the whole, and there are `end` places then
+pub record Taking (m t : ℕ) (at₀ : List ℕ) (have want end : ℕ) (at : List ℕ) (bits n s : ℕ) : Type 0 where
   pub room : TrackRoom at n want
   pub size : length at ≡ length at₀
   pub halved : bits ≡ m / 2 ^ s
-  pub whole : (r : ℕ) (out : List ℕ) → PlacedBehind (freeFrom m t s (sectors - s)) at n want r out → PlacedBehind (freeFrom m t 0 sectors) at₀ have want r out
+  pub ends : end ≡ min (n + length (freeLeft m t s)) want
+  pub whole : (r : ℕ) (out : List ℕ) → PlacedBehind (freeLeft m t s) at n want r out → PlacedBehind (freeLeft m t 0) at₀ have want r out
 
-pub taking-start : (m t : ℕ) {at : List ℕ} {have want : ℕ} (sectors : ℕ) {n s : ℕ} → TrackRoom at have want → n ≡ have → s ≡ 0 → Taking m t at have want sectors at m n s
-taking-start m t {at} {have} {want} sectors room none first =
-    let e : sectors - 0 ≡ sectors = omega arith in
-    rw (none, first) (record { passed = omega arith; room = room; size = refl; halved = omega arith; whole = λ r out p. rw e at p })
+-- a place is still to come: a sector is left for it, and it is wanted
+pub record Coming (t want n s : ℕ) : Type 0 where
+  pub sector : s < sectorsOn layout35 t
+  pub small : s < 24
+  pub few : n < want
 
-module _ {m t : ℕ} {at₀ : List ℕ} {have want sectors : ℕ} {at : List ℕ} {bits n s : ℕ} (w : Taking m t at₀ have want sectors at bits n s) where
-  more : s < sectors → sectors - s ≡ suc (sectors - (s + 1))
-  more h = omega arith
+module _ {e : Bytes} (shape : EntryShape e) {counts : List ℕ} (table : IsCounts counts) {at : List ℕ} {have want : ℕ} (room : TrackRoom at have want) where
+  pub taking-start : {m t u free end n s : ℕ} → m ≡ bitmapOf e → free ≡ freeOn counts e u → u ≡ t → end ≡ min (have + free) want → n ≡ have → s ≡ 0
+      → Taking m t at have want end at m n s
+  taking-start {m} {t} bitmap count own ends none first = rw (none, first, bitmap) (record {
+    room = room;
+    size = refl;
+    halved = omega arith;
+    ends = ends ∙ rw (count, own, counted-free e t table shape);
+    whole = λ r out p. p;
+  })
 
-  module _ {at′ : List ℕ} {bits′ n′ : ℕ} (h : s < sectors) where
+module _ {m t : ℕ} {at₀ : List ℕ} {have want end : ℕ} {at : List ℕ} {bits n s : ℕ} (w : Taking m t at₀ have want end at bits n s) where
+  -- below the end, so that the loop never asks a sector that the track has not
+  pub taking-coming : n < end → Coming t want n s
+  taking-coming h =
+      let none : sectorsOn layout35 t ≤ s → ⊥ = λ l. (let z : sectorsOn layout35 t - s ≡ 0 = omega arith in omega (arith, rw z at (w .ends))) in
+      record { sector = omega arith; small = omega (arith, valid35 .small t); few = omega (arith, w .ends) }
+
+  left-free : s < sectorsOn layout35 t → bits % 2 ≡ 1 → freeLeft m t s ≡ address t s ∷ freeLeft m t (s + 1)
+  left-free h bit =
+      let more : sectorsOn layout35 t - s ≡ suc (sectorsOn layout35 t - (s + 1)) = omega arith in
+      rw more (free-first m t s (sectorsOn layout35 t - (s + 1)) (rw (w .halved) at bit))
+
+  left-used : s < sectorsOn layout35 t → (bits % 2 ≡ 1 → ⊥) → freeLeft m t s ≡ freeLeft m t (s + 1)
+  left-used h bit =
+      let more : sectorsOn layout35 t - s ≡ suc (sectorsOn layout35 t - (s + 1)) = omega arith in
+      rw more (used-first m t s (sectorsOn layout35 t - (s + 1)) (rw (w .halved) at bit))
+
+  module _ {at′ : List ℕ} {bits′ n′ : ℕ} (h : Coming t want n s) where
     -- the next sector is free: its place is put behind the others
-    pub taking-free : {v : ℕ} → bits % 2 ≡ 1 → n < want → at′ ≡ set at n v → v ≡ 256 * t + s → n′ ≡ n + 1 → bits′ ≡ bits / 2 → Taking m t at₀ have want sectors at′ bits′ n′ (s + 1)
-    taking-free bit few stored place next half =
-        let one : PlacedBehind (address t s ∷ []) at n want n′ at′ = rw (stored, place, next) (placed-one (w .room) (address t s) few) in
+    pub taking-free : {v : ℕ} → bits % 2 ≡ 1 → at′ ≡ set at n v → v ≡ 256 * t + s → n′ ≡ n + 1 → bits′ ≡ bits / 2
+        → Taking m t at₀ have want end at′ bits′ n′ (s + 1)
+    taking-free bit stored place next half =
+        let one : PlacedBehind (address t s ∷ []) at n want n′ at′ = rw (stored, place, next) (placed-one (w .room) (address t s) (h .few)) in
+        let first = left-free (h .sector) bit in
         record {
-          passed = omega arith;
           room = room-placed (w .room) one;
           size = length-placed (w .room) one ∙ w .size;
           halved = half ∙ rw (w .halved) (halved-more m s);
-          whole = λ r out p. w .whole r out (rw (more h, free-first m t s (sectors - (s + 1)) (rw (w .halved) at bit)) (placed-both (w .room) one p));
+          ends = omega (arith, w .ends, ap length first);
+          whole = λ r out p. w .whole r out (rw first (placed-both (w .room) one p));
         }
 
     -- it is not: nothing is put
-    pub taking-used : (bits % 2 ≡ 1 → ⊥) → at′ ≡ at → n′ ≡ n → bits′ ≡ bits / 2 → Taking m t at₀ have want sectors at′ bits′ n′ (s + 1)
-    taking-used bit same none half = rw (same, none) (record {
-      passed = omega arith;
-      room = w .room;
-      size = w .size;
-      halved = half ∙ rw (w .halved) (halved-more m s);
-      whole = λ r out p. w .whole r out (rw (more h, used-first m t s (sectors - (s + 1)) (rw (w .halved) at bit)) p);
-    })
+    pub taking-used : (bits % 2 ≡ 1 → ⊥) → at′ ≡ at → n′ ≡ n → bits′ ≡ bits / 2 → Taking m t at₀ have want end at′ bits′ n′ (s + 1)
+    taking-used bit same none half =
+        let first = left-used (h .sector) bit in
+        rw (same, none) (record {
+          room = w .room;
+          size = w .size;
+          halved = half ∙ rw (w .halved) (halved-more m s);
+          ends = omega (arith, w .ends, ap length first);
+          whole = λ r out p. w .whole r out (rw first p);
+        })
 
-  module _ {e : ℕ} (bitmap : m ≡ e) (count : sectors ≡ sectorsOn layout35 t) where
-    -- the whole is the track's
-    of-track : PlacedBehind (freeFrom m t s (sectors - s)) at n want n at → PlacedBehind (freeOnTrack e t) at₀ have want n at
-    unfolding freeOnTrack sectorsOfTrack
-    of-track p = rw (← bitmap, ← count) (w .whole n at p)
-
-    -- no bit is left
-    pub taking-none : bits ≡ 0 → PlacedBehind (freeOnTrack e t) at₀ have want n at
-    taking-none z = of-track (rw (none-left m t s (sectors - s) (sym (w .halved) ∙ z)) (placed-none (w .room)))
-
-    -- as many as are wanted are there
-    pub taking-full : n ≡ want → PlacedBehind (freeOnTrack e t) at₀ have want n at
-    taking-full z = of-track (placed-full (w .room) (freeFrom m t s (sectors - s)) z)
-
-    -- all sectors are passed
-    pub taking-finished : sectors ≤ s → PlacedBehind (freeOnTrack e t) at₀ have want n at
-    taking-finished h = let z : sectors - s ≡ 0 = omega arith in of-track (rw z (placed-none (w .room)))
+  -- at the end all places are there
+  pub taking-finished : {b : ℕ} → m ≡ b → end ≤ n → PlacedBehind (freeOnTrack b t) at₀ have want n at
+  unfolding freeOnTrack sectorsOfTrack
+  taking-finished bitmap h =
+      let all : sectorsOn layout35 t - 0 ≡ sectorsOn layout35 t = omega arith in
+      rw (← bitmap, ← all) (w .whole n at (placed-none (w .room) (freeLeft m t s) (omega (arith, w .ends))))

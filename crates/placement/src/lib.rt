@@ -13,23 +13,22 @@ fn track_at(i: u8) -> u8
 }
 
 // Puts the sectors of a track that its entry marks free, upward, behind the `have` places that there are, up to `want` in all; returns how many
-// there are then. The bitmap is one number, halved from sector to sector: where it is 0, no further sector is free.
+// there are then. How many the track has is counted at once (02, §4); the bitmap is one number, halved from sector to sector until all are found.
 fn take_track(entry: [u8; 4], track: u8, at: &mut [u16], have: usize, want: usize) -> usize
     requires { ⌜ TrackRoom (now at) have want ⌝ }
     ensures { λ r. ⌜ TrackPlaced entry track (now (at .entry)) have want r (now (at .exit)) ⌝ }
 {
-    let sectors = geometry::sectors_on(track);
-    let mut bits = entry[1] as u32 + 256 * (entry[2] as u32) + 65536 * (entry[3] as u32);
+    let free = bam::count_free(entry, track, &geometry::SECTORS) as usize;
+    let end = if free < want - have {
+        have + free
+    } else {
+        want
+    };
+    let mut bits = bam::bitmap_of(entry);
     let mut n = have;
     let mut s: u8 = 0;
-    while s < sectors {
-        if bits == 0 {
-            return n;
-        }
+    while n < end {
         if bits % 2 == 1 {
-            if n == want {
-                return n;
-            }
             at[n] = 256 * (track as u16) + s as u16;
             n += 1;
         }

@@ -4,7 +4,7 @@ use mathlib.Core.Path.{refl, sym, _∙_}
 use native.Mathlib.Omega.{arith}
 use lib.ListN.{length-map}
 use borrow.Author.Needs.{needs}
-use Rattle.directory.proofs.ReadLaws.{read-wrong-size, read-walk-refused, read-walk-done}
+use Rattle.directory.proofs.ReadLaws.{start-used, read-wrong-size, read-walk-refused, read-walk-done}
 use Rattle.directory.proofs.read_directory.Statement.{statement}
 use Rattle.directory.proofs.read_directory.Tie as tie
 
@@ -18,7 +18,7 @@ array-write-owners : tie.Need-array-write-owners
 array-write-owners c = search needs
 
 walk-directory-requires : tie.Need-walk-directory-requires
-walk-directory-requires c κs = search needs
+walk-directory-requires c κs = (omega arith, omega arith, omega (arith, start-used))
 
 enum-known-verdict : tie.Need-enum-known-verdict
 enum-known-verdict c = search needs

@@ -1,7 +1,7 @@
 -- `diskcheck::check_read` meets its contract. In order: a fault of the directory; a fault of the slots or the map; none.
 use mathlib.Core.Path.{refl}
 use borrow.Author.Needs.{needs}
-use Rattle.diskcheck.proofs.ImageLaws.{checked-refused, directory-refused, directory-ready, rest-refused, checked-fine}
+use Rattle.diskcheck.proofs.ImageLaws.{checked-refused, directory-refused, directory-ready, masks-ready, rest-refused, checked-fine}
 use Rattle.diskcheck.proofs.check_read.Statement.{statement}
 use Rattle.diskcheck.proofs.check_read.Tie as tie
 
@@ -14,12 +14,17 @@ refuse-requires c κs = search needs
 enum-told : tie.Need-enum-told
 enum-told c = search needs
 
+array-write-used : tie.Need-array-write-used
+array-write-used c = search needs
+
 check-rest-requires : tie.Need-check-rest-requires
 check-rest-requires c κs =
-    let t = c .before .before .before .before .before in
+    let t = c .before .before .before .before .before .before in
     let e = t .before .before .before in
     let p = e .pre in
-    directory-ready (e .args .img .now) (p .0) (p .1) (t .enum-told .given .1)
+    let img = e .args .img .now in
+    let fine = t .enum-told .given .1 in
+    (directory-ready img (p .0) (p .1) fine, masks-ready img (p .0) (p .1) fine)
 
 enum-known-rest : tie.Need-enum-known-rest
 enum-known-rest c = search needs
@@ -41,7 +46,7 @@ returns-2 : tie.Need-returns-2
 returns-2 c =
     let v = c .before .before in
     let r = v .before .before in
-    let t = r .before .before .before .before .before .before in
+    let t = r .before .before .before .before .before .before .before in
     let e = t .before .before .before in
     let p = e .pre in
     checked-refused (c .refuse2 .ensures) (rest-refused (e .args .img .now) (p .0) (p .1) (t .enum-told .given .1) _ _ _
@@ -50,7 +55,7 @@ returns-2 c =
 returns-3 : tie.Need-returns-3
 returns-3 c =
     let r = c .before .before in
-    let t = r .before .before .before .before .before .before in
+    let t = r .before .before .before .before .before .before .before in
     let e = t .before .before .before in
     let p = e .pre in
     checked-fine (e .args .img .now) (p .0) (p .1) (t .enum-told .given .1) _ _ (rw (c .enum-told2 .given .1) at (r .check-rest .ensures)) refl
@@ -62,6 +67,7 @@ check-read-spec =
     enum-known-verdict
     refuse-requires
     enum-told
+    array-write-used
     check-rest-requires
     enum-known-rest
     refuse-requires-2

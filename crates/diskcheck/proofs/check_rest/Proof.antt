@@ -29,13 +29,14 @@ check-map-requires c κs = search needs
 returns : tie.Need-returns
 returns c =
     let s = c .before .before .before in
-    slots-refused _ _ _ _ _ _ (rw (c .before .verdict .given .1) at (s .check-slots .ensures))
+    slots-refused _ _ _ _ _ _ (rw (c .before .verdict .given .1) at (s .check-slots .ensures .0))
 
 returns-2 : tie.Need-returns-2
 returns-2 c =
     let t = c .before .before .before in
     let s = t .before .before in
-    slots-fine _ _ _ _ _ _ _ (rw (t .enum-told .given .1) at (s .check-slots .ensures)) (c .check-map .ensures) refl
+    let e = s .check-slots .ensures in
+    slots-fine _ _ _ _ _ _ _ _ (rw (t .enum-told .given .1) at (e .0)) (e .1) (c .check-map .ensures) refl
 
 pub check-rest-spec : {M : Type 1} → statement M
 check-rest-spec =

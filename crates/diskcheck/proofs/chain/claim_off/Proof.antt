@@ -13,10 +13,10 @@ returns : tie.Need-returns
 returns c = rw (c .before .place-of .ensures) (sym (off-first _ _ _ _ _ (omega arith)))
 
 returns-2 : tie.Need-returns-2
-returns-2 c = rw (c .before .before .before .place-of .ensures) (sym (off-track _ _ _ _ _ (omega arith)))
+returns-2 c = rw (c .before .before .place-of .ensures) (sym (off-track _ _ _ _ _ (omega arith)))
 
 returns-3 : tie.Need-returns-3
-returns-3 c = rw (c .before .before .before .before .before .place-of .ensures) (sym (off-zero _ _ _ _ _ (omega arith)))
+returns-3 c = rw (c .before .before .before .place-of .ensures) (sym (off-zero _ _ _ _ _ (omega arith)))
 
 returns-4 : tie.Need-returns-4
 returns-4 c = sym (off-end _ _ _ _ _ (omega arith) (omega arith) (omega arith))

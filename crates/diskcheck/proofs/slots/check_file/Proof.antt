@@ -9,8 +9,8 @@ use Rattle.diskcheck.proofs.slots.check_file.Tie as tie
 shared-slice-read-claim-chain : tie.Need-shared-slice-read-claim-chain
 shared-slice-read-claim-chain c = search needs
 
-shared-slice-read-t18 : tie.Need-shared-slice-read-t18
-shared-slice-read-t18 c = search needs
+shared-slice-read-t19 : tie.Need-shared-slice-read-t19
+shared-slice-read-t19 c = search needs
 
 add-claim-chain : tie.Need-add-claim-chain
 add-claim-chain c = search needs
@@ -39,28 +39,30 @@ element-write-ends c = search needs
 returns : tie.Need-returns
 returns c =
     let claimed = c .before .before .before .claim-chain .ensures in
-    file-refused _ _ _ _ _ _ _ (rw (c .before .claim .given .1) at claimed)
+    (file-refused _ _ _ _ _ _ _ (rw (c .before .claim .given .1) at (claimed .0)), claimed .1)
 
 returns-2 : tie.Need-returns-2
 returns-2 c =
     let s = c .before .before in
     let e = s .before .before in
     let count = s .sector-count .ensures .count in
-    file-fine _ _ _ _ _ _ _ (rw (e .claim2 .given .1) at (e .before .before .claim-chain .ensures)) (omega arith) refl refl
+    let claimed = e .before .before .claim-chain .ensures in
+    (file-fine _ _ _ _ _ _ _ (rw (e .claim2 .given .1) at (claimed .0)) (omega arith) refl refl, claimed .1)
 
 returns-3 : tie.Need-returns-3
 returns-3 c =
     let s = c .before in
     let e = s .before .before in
     let count = s .sector-count .ensures .count in
-    file-miscounted _ _ _ _ _ _ _ (rw (e .claim2 .given .1) at (e .before .before .claim-chain .ensures)) _ (λ same. c .if1 .left (omega arith))
+    let claimed = e .before .before .claim-chain .ensures in
+    (file-miscounted _ _ _ _ _ _ _ (rw (e .claim2 .given .1) at (claimed .0)) _ (λ same. c .if1 .left (omega arith)), claimed .1)
 
 pub check-file-spec : {M : Type 1} → statement M
 check-file-spec =
     tie.close
     (tie.spec
     shared-slice-read-claim-chain
-    shared-slice-read-t18
+    shared-slice-read-t19
     add-claim-chain
     claim-chain-requires
     enum-known-claim

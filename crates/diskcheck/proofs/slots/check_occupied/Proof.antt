@@ -14,15 +14,18 @@ enum-told : tie.Need-enum-told
 enum-told c = search needs
 
 check-file-requires : tie.Need-check-file-requires
-check-file-requires c κs = c .before .before .before .before .before .before .before .pre
+check-file-requires c κs = c .before .before .before .before .before .before .before .before .pre
 
 returns : tie.Need-returns
-returns c = occupied-refused _ _ _ _ _ _ _ _ (rw (c .before .entry .given .1) at (c .before .before .before .check-entry .ensures))
+returns c =
+    let e = c .before .before .before in
+    (occupied-refused _ _ _ _ _ _ _ _ (rw (c .before .entry .given .1) at (e .check-entry .ensures)), e .before .before .before .pre .3)
 
 returns-2 : tie.Need-returns-2
 returns-2 c =
-    let t = c .before .before .before in
-    occupied-file _ _ _ _ _ _ _ _ (rw (t .enum-told .given .1) at (t .before .before .check-entry .ensures)) (c .check-file .ensures)
+    let t = c .before .before .before .before in
+    let f = c .check-file .ensures in
+    (occupied-file _ _ _ _ _ _ _ _ (rw (t .enum-told .given .1) at (t .before .before .check-entry .ensures)) (f .0), f .1)
 
 pub check-occupied-spec : {M : Type 1} → statement M
 check-occupied-spec =

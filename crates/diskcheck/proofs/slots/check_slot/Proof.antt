@@ -15,26 +15,28 @@ shared-slice-read-if1 c = omega (arith, c .before .slot-of .ensures .full)
 returns : tie.Need-returns
 returns c =
     let s = c .before .before in
-    slot-empty _ _ _ _ _ _ (s .before .before .pre .0) (s .slot-of .ensures .is) (omega arith)
+    let p = s .before .before .pre in
+    (slot-empty _ _ _ _ _ _ (p .0) (s .slot-of .ensures .is) (omega arith), p .3)
 
-element-copy-out-t13 : tie.Need-element-copy-out-t13
-element-copy-out-t13 c = search needs
+element-copy-out-t14 : tie.Need-element-copy-out-t14
+element-copy-out-t14 c = search needs
 
-cast-t17 : tie.Need-cast-t17
-cast-t17 c = search needs
+cast-t18 : tie.Need-cast-t18
+cast-t18 c = search needs
 
 check-occupied-requires : tie.Need-check-occupied-requires
 check-occupied-requires c κs =
-    let s = c .before .before .before .before .before in
+    let s = c .before .before .before .before .before .before in
     let p = s .before .before .pre in
-    (record { sized = p .0 .sized; full = s .slot-of .ensures .full; slot = p .0 .within }, p .1, p .2)
+    (record { sized = p .0 .sized; full = s .slot-of .ensures .full; slot = p .0 .within }, p .1, p .2, p .3)
 
 returns-2 : tie.Need-returns-2
 returns-2 c =
-    let i = c .before .before .before .before in
+    let i = c .before .before .before .before .before in
     let s = i .before .before in
-    c .check-occupied .ensures ∙ slot-occupied _ _ _ _ _ _ (s .before .before .pre .0) (s .slot-of .ensures .is) (λ empty. i .if1 .left (omega arith))
+    let o = c .check-occupied .ensures in
+    (o .0 ∙ slot-occupied _ _ _ _ _ _ (s .before .before .pre .0) (s .slot-of .ensures .is) (λ empty. i .if1 .left (omega arith)), o .1)
 
 pub check-slot-spec : {M : Type 1} → statement M
 check-slot-spec =
-    tie.close (tie.spec slot-of-requires shared-slice-read-if1 returns element-copy-out-t13 cast-t17 check-occupied-requires returns-2)
+    tie.close (tie.spec slot-of-requires shared-slice-read-if1 returns element-copy-out-t14 cast-t18 check-occupied-requires returns-2)

@@ -5,7 +5,7 @@ use Rattle.diskcheck.proofs.slots.check_slots.Statement.{statement}
 use Rattle.diskcheck.proofs.slots.check_slots.Tie as tie
 
 check-all-requires : tie.Need-check-all-requires
-check-all-requires c κs = (search needs, counts35, firsts35)
+check-all-requires c κs = let p = c .before .before .before .before .before .before .pre in (p .0, counts35, firsts35, p .1)
 
 returns : tie.Need-returns
 returns c = search needs
