@@ -81,7 +81,7 @@ impl Met {
 
 /// Runs the first lists, and shows each call with the image before and after.
 fn each_call(mut shown: impl FnMut(&Call, &[u8], u32, &[u8])) {
-    for list in (0..105).map(List::new) {
+    for list in (0..125).map(List::new) {
         let mut image = list.start;
         for request in &list.requests {
             let before = image.clone();
@@ -165,7 +165,7 @@ fn calls_come_upon_spare_bits() {
 #[test]
 fn start_images_have_spare_bits() {
     let mut kinds = BTreeMap::new();
-    for list in (0..210).map(List::new) {
+    for list in (0..250).map(List::new) {
         *kinds.entry(list.kind).or_insert(0) += usize::from(has_spare(&list.start));
     }
     assert_eq!(kinds.remove("formatted"), Some(0));

@@ -14,13 +14,15 @@ use independent::plain::{
 use wrong::changes::{ScratchEdited, StoreEdited};
 use wrong::formatting::FormatEdited;
 use wrong::spare::CheckSees;
-use wrong::{formatting, place, reading, scratching, spare, stored, storing, usr, Row};
+use wrong::{
+    counting, formatting, masks, place, reading, scratching, spare, stored, storing, usr, Row,
+};
 
 /// Rounds within which each wrong library is to be found.
 const ROUNDS: u64 = 24;
 
 /// Lists within which a cheat is to be found by demand 3.
-const LISTS: u64 = 63;
+const LISTS: u64 = 75;
 
 /// The first difference within the rounds, and the images up to it.
 fn run(library: &dyn EntryPoints) -> (usize, Result<(), Failure>) {
@@ -80,6 +82,18 @@ fn each_wrong_about_spare_bits_is_found() {
 #[test]
 fn each_wrong_about_the_place_of_8_is_found() {
     each_is_found(place::WRONG);
+}
+
+#[test]
+fn each_wrong_about_masks_is_found() {
+    each_is_found(masks::WRONG);
+    each_is_found(masks::OTHER_CALLS);
+}
+
+#[test]
+fn each_wrong_about_counts_is_found() {
+    each_is_found(counting::WRONG);
+    each_is_found(counting::STORES);
 }
 
 /// What demand 3 finds by itself, with no independent program beside the
@@ -313,6 +327,26 @@ const CHEATS: &[(&str, &dyn EntryPoints, &[&str])] = &[
         &FormatEdited(spare::set_by_format),
         &[SPARE_BITS],
     ),
+    (
+        "check loses what comes back to a track",
+        &masks::LOSES,
+        &[OWN_CHECK],
+    ),
+    (
+        "check counts 16 bits of a track",
+        &counting::TWO_BYTES,
+        &[OWN_CHECK],
+    ),
+    (
+        "store marks the rest of a track used",
+        &StoreEdited(counting::rest_marked),
+        &[ACCEPTED],
+    ),
+    (
+        "store lowers each count by one",
+        &StoreEdited(counting::lowered_by_one),
+        &[ACCEPTED],
+    ),
 ];
 
 /// The lists on which demand 3 is broken, each with its clauses.
@@ -346,7 +380,7 @@ fn demand_3_alone_finds_cheats() {
 fn the_right_library_passes() {
     // Edits that change nothing are not what is found in the others.
     let edited = StoreEdited(stored::house_order);
-    for library in [&Faithful as &dyn EntryPoints, &edited] {
+    for library in [&Faithful as &dyn EntryPoints, &edited, &masks::RIGHT] {
         if let (_, Err(failure)) = run(library) {
             panic!("{failure}");
         }

@@ -181,5 +181,7 @@ void request_compare(struct disk *disk, const struct request *request)
     if (trace)
         fprintf(stderr, "  %u\n", number);
     remember(request, due);
+    if (request->call == CHECK && request->block == D64_BLOCK_BYTES)
+        tally_disk(disk, due, owed_answer);
     made++;
 }

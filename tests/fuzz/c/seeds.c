@@ -1,7 +1,8 @@
 /*
  * Writes the seed corpus to the folder given: for each start image the calls in turn, then damage of every sort, with
- * the map made right again and not, then full disks, USR files, bits past the last sectors, wrong bits of the map, the
- * edges of names, amounts and sizes, and bytes as they stand.
+ * the map made right again and not, then full disks, USR files, bits past the last sectors, wrong bits of the map,
+ * chains that leave a track and come back, counts and bitmaps, the edges of names, amounts and sizes, and bytes as they
+ * stand.
  */
 #include <stdio.h>
 #include <stdlib.h>
@@ -12,7 +13,7 @@
 #include "program.h"
 
 /* Start images (oracle/src/starts.rs). */
-enum { FEW_FILES = 3, FULL_DIRECTORY = 11 };
+enum { FEW_FILES = 3, SCATTERED = 5, FULL_DIRECTORY = 11 };
 
 /* Bytes that a store's kind is made of: these give 2 and 3 (decode.c). */
 enum kind { PRG = 1, USR = 7 };
@@ -240,6 +241,77 @@ static void seeds_of_map_bits(void)
     }
 }
 
+/* Leads a file on from its sector with this number, and then ends it; sectors of a formatted disk are zeros. */
+static void put_zigzag(unsigned char file, const unsigned char tracks[2], unsigned char from)
+{
+    for (unsigned char link = 0; link < 8; link++)
+        PUT(OP_LINK, IN_FILE, file, link, TO_PLACE, tracks[link % 2], (unsigned char)(from + link / 2));
+    PUT(OP_LINK, IN_FILE, file, 8, TO_END, 100, 0);
+}
+
+/* Two files that go from one track to another and back; with all repaired, a link that leads back, or off the disk. */
+static void seeds_of_chains(void)
+{
+    static const unsigned char pairs[][2] = {{1, 35}, {35, 1}, {16, 15}, {18, 19}, {1, 18}, {24, 25}, {30, 31}};
+    static const unsigned char links[][2] = {{0, 0}, {3, 1}, {5, 36}};
+    for (size_t i = 0; i < 3 * (sizeof pairs / sizeof *pairs); i++) {
+        const unsigned char *tracks = pairs[i / 3], *link = links[i % 3];
+        begin(0, 0, i % 3);
+        put_store(FROM_POOL, 0, AS_IS, 44, 0);
+        put_store(FROM_POOL, 1, AS_IS, 44, 0);
+        put_zigzag(0, tracks, 2);
+        put_zigzag(1, tracks, 8);
+        PUT(OP_REPAIR, 3);
+        if (link[1] != 0)
+            PUT(OP_LINK, IN_FILE, 1, link[0], TO_PLACE, link[1] == 1 ? tracks[1] : link[1], 2);
+        put_looks();
+        put_store(FROM_POOL, 2, AS_IS, 44, 9);
+        put_scratch(OF_FILE, 0);
+        put_scratch(OF_FILE, 0);
+    }
+}
+
+/* Gives a track one count after another, each with a check. */
+static void put_counts(unsigned char track, const unsigned char *counts, size_t many, unsigned char more)
+{
+    for (size_t i = 0; i < many; i++) {
+        PUT(OP_MAP_ENTRY, track, 0, (unsigned char)(counts[i] + more));
+        PUT(OP_CHECK, 2, 0);
+    }
+}
+
+/* On tracks of each length counts that are off by one, by eights and by more, and those of other numbers of sectors. */
+static void seeds_of_counts(void)
+{
+    static const unsigned char off[] = {1, 255, 8, 248, 16, 24, 32, 224, 64, 128}, any[] = {0, 17, 18, 19, 21, 24, 255};
+    static const unsigned char tracks[][2] = {{1, 21}, {17, 21}, {18, 17}, {24, 19}, {25, 18}, {30, 18}, {31, 17},
+                                              {35, 17}};
+    for (size_t i = 0; i < sizeof tracks / sizeof *tracks; i++) {
+        begin(0, 0, 0);
+        put_counts(tracks[i][0], off, sizeof off, tracks[i][1]);
+        put_store(FROM_POOL, 0, AS_IS, 44, 1);
+        begin(SCATTERED, 0, 0);
+        put_counts(tracks[i][0], any, sizeof any, 0);
+        put_scratch(OF_FILE, 0);
+    }
+}
+
+/* On such tracks bitmaps with their own counts, on a disk without files. */
+static void seeds_of_bitmaps(void)
+{
+    static const unsigned char bits[][4] = {{8, 255, 0, 0}, {8, 0, 255, 0}, {8, 85, 85, 0}, {8, 170, 170, 0}, {0}};
+    static const unsigned char tracks[] = {1, 17, 18, 24, 25, 30, 31, 35};
+    for (size_t i = 0; i < sizeof tracks; i++) {
+        begin(0, 0, 0);
+        for (size_t j = 0; j < sizeof bits / sizeof *bits; j++) {
+            for (unsigned char byte = 0; byte < 4; byte++)
+                PUT(OP_MAP_ENTRY, tracks[i], byte, bits[j][byte]);
+            PUT(OP_CHECK, 2, 0);
+            put_scratch(FROM_POOL, 0);
+        }
+    }
+}
+
 /* Names, kinds, answer blocks, positions, outputs and images of sizes at the edges. */
 static void seeds_of_edges(void)
 {
@@ -288,6 +360,9 @@ int main(int argc, char **argv)
     seeds_of_usr();
     seeds_of_spare();
     seeds_of_map_bits();
+    seeds_of_chains();
+    seeds_of_counts();
+    seeds_of_bitmaps();
     seeds_of_edges();
     seeds_of_images();
     finish();

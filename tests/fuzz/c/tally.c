@@ -31,6 +31,57 @@ bool tally(enum call call, uint32_t number, uint8_t sector)
     return true;
 }
 
+/*
+ * Shapes in which a count of free sectors goes wrong: accepted disks with a chain that comes back to a track, to track
+ * 18, or goes from track 35 to track 1; and a count that alone is wrong, by a multiple of eight.
+ */
+enum shape { COMES_BACK, BACK_TO_18, FROM_35_TO_1, OFF_BY_EIGHTS, SHAPES };
+static const char *const shape_names[SHAPES] = {
+    "a chain that comes back to a track", "a chain that comes back to track 18", "a chain from track 35 to track 1",
+    "a count off by a multiple of eight",
+};
+static bool shape_met[SHAPES];
+
+static void follow_chain(const struct disk *disk, const uint8_t *link)
+{
+    uint64_t left = 0; /* the tracks that the chain has left */
+    while (link[0] != 0) {
+        const uint8_t *next = disk->owed + SECTOR_BYTES * sector_number(link[0], link[1]);
+        if (next[0] != 0 && next[0] != link[0]) {
+            left |= (uint64_t)1 << link[0];
+            shape_met[FROM_35_TO_1] |= link[0] == 35 && next[0] == 1;
+            shape_met[COMES_BACK] |= left >> next[0] & 1;
+            shape_met[BACK_TO_18] |= next[0] == 18 && left >> 18 & 1;
+        }
+        link = next;
+    }
+}
+
+static void follow_chains(const struct disk *disk)
+{
+    const uint8_t *track18 = disk->owed + D64_TRACK18_OFFSET, *sector = track18 + SECTOR_BYTES;
+    for (;; sector = track18 + SECTOR_BYTES * (size_t)sector[1]) {
+        for (size_t slot = 0; slot < SECTOR_BYTES; slot += 32)
+            if (sector[slot + 2] != 0)
+                follow_chain(disk, sector + slot + 3);
+        if (sector[0] == 0)
+            return;
+    }
+}
+
+void tally_disk(const struct disk *disk, uint32_t number, const uint8_t *answer)
+{
+    bool chains = shape_met[COMES_BACK] && shape_met[BACK_TO_18] && shape_met[FROM_35_TO_1];
+    if (number == D64_DONE && !chains)
+        follow_chains(disk);
+    if (number == D64_WRONG_MAP && answer[1] == 255) {
+        const uint8_t *entry = disk->owed + D64_TRACK18_OFFSET + 4 * (size_t)answer[0];
+        int last = answer[0] < 18 ? 0x1F : answer[0] < 25 ? 7 : answer[0] < 31 ? 3 : 1;
+        int ones = __builtin_popcount(entry[1]) + __builtin_popcount(entry[2]) + __builtin_popcount(entry[3] & last);
+        shape_met[OFF_BY_EIGHTS] |= (entry[0] - ones) % 8 == 0;
+    }
+}
+
 static void print_never_met(int call, unsigned answer)
 {
     if (answer == EIGHT_WITH_255)
@@ -40,7 +91,7 @@ static void print_never_met(int call, unsigned answer)
                 answer == D64_WRONG_MAP ? " with a sector" : "");
 }
 
-/* One line for tests/fuzz/run; the answers that were never met follow it. */
+/* One line for tests/fuzz/run; the shapes and answers that were never met follow it. */
 static void print_tally(void)
 {
     uint64_t calls = 0;
@@ -53,6 +104,9 @@ static void print_tally(void)
         }
     }
     fprintf(stderr, "tally: %llu calls, %u of %u answers met\n", (unsigned long long)calls, seen, all);
+    for (int shape = 0; shape < SHAPES; shape++)
+        if (!shape_met[shape])
+            fprintf(stderr, "never met: %s\n", shape_names[shape]);
     for (int call = 0; call < CALLS; call++)
         for (unsigned number = 0; number < ANSWERS; number++)
             if ((named[call] & BIT(number)) != 0 && met[call][number] == 0)

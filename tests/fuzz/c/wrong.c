@@ -210,6 +210,77 @@ static uint32_t scratch_names_a_spare_bit(uint8_t *image, size_t len, const uint
     return number;
 }
 
+/* Puts the sectors of a file into masks: what a chain has on a track takes the place of what it had there before. */
+static void put_chain(const uint8_t *image, const uint8_t *link, uint32_t masks[36])
+{
+    uint32_t run = 0, had[36];
+    memcpy(had, masks, sizeof had);
+    while (link[0] != 0) {
+        const uint8_t *next = image + SECTOR_BYTES * sector_number(link[0], link[1]);
+        run |= 1u << link[1];
+        masks[link[0]] = had[link[0]] | run;
+        if (next[0] != link[0])
+            run = 0;
+        link = next;
+    }
+}
+
+/* 15: of a chain that comes back to a track, tracks 19 to 35 keep only the last of its visits; the check gives 8. */
+static uint32_t check_loses_masks(const uint8_t *image, size_t len, uint8_t *answer, size_t answer_len)
+{
+    uint32_t number = d64_check(image, len, answer, answer_len), masks[36] = {0};
+    const uint8_t *sector = image + D64_TRACK18_OFFSET + SECTOR_BYTES;
+    if (number != 0)
+        return number;
+    for (;; sector = image + D64_TRACK18_OFFSET + SECTOR_BYTES * (size_t)sector[1]) {
+        for (size_t slot = 0; slot < SECTOR_BYTES; slot += 32)
+            if (sector[slot + 2] != 0)
+                put_chain(image, sector + slot + 3, masks);
+        if (sector[0] == 0)
+            break;
+    }
+    for (uint8_t track = 19; track <= 35; track++) {
+        const uint8_t *entry = image + D64_TRACK18_OFFSET + 4 * (size_t)track;
+        uint32_t own = track < 25 ? 0x7FFFF : track < 31 ? 0x3FFFF : 0x1FFFF;
+        uint32_t lost = ~(entry[1] | (uint32_t)entry[2] << 8 | (uint32_t)entry[3] << 16) & own & ~masks[track];
+        if (lost != 0) {
+            answer[0] = track, answer[1] = (uint8_t)__builtin_ctz(lost);
+            return D64_WRONG_MAP;
+        }
+    }
+    return number;
+}
+
+/* 16: counts are compared modulo 32. */
+static uint32_t check_cuts_counts(const uint8_t *image, size_t len, uint8_t *answer, size_t answer_len)
+{
+    uint32_t number = d64_check(image, len, answer, answer_len);
+    if (number != D64_WRONG_MAP)
+        return number;
+    memcpy(copy, image, len);
+    for (size_t track = 1; track <= 35; track++)
+        map_entry(copy, track)[0] %= 32;
+    return d64_check(copy, len, answer, answer_len);
+}
+
+/* 17: room is counted without track 35. */
+static uint32_t store_misses_room(uint8_t *image, size_t len, const uint8_t *name, size_t name_len, uint32_t kind,
+                                  const uint8_t *data, size_t data_len, uint8_t *answer, size_t answer_len)
+{
+    if (len == D64_IMAGE_BYTES)
+        memcpy(copy, image, len);
+    uint32_t number = d64_store(image, len, name, name_len, kind, data, data_len, answer, answer_len);
+    size_t room = 0;
+    for (size_t track = 1; track < 35; track++)
+        room += track == 18 ? 0 : map_entry(copy, track)[0];
+    if (number != 0 || data_len <= 254 * room || map_entry(copy, 35)[0] == 0)
+        return number;
+    memcpy(image, copy, len);
+    memset(answer, 0, answer_len);
+    answer[2] = 255;
+    return D64_DISK_FULL;
+}
+
 const struct library *tested_library(void)
 {
     static struct library wrong;
@@ -232,6 +303,9 @@ const struct library *tested_library(void)
     case 12: wrong.check = check_names_the_highest; break;
     case 13: wrong.store = store_names_no_sector; break;
     case 14: wrong.scratch = scratch_names_a_spare_bit; break;
+    case 15: wrong.check = check_loses_masks; break;
+    case 16: wrong.check = check_cuts_counts; break;
+    case 17: wrong.store = store_misses_room; break;
     default: break;
     }
     return &wrong;

@@ -71,6 +71,7 @@ pub const FAULTS: &[(&str, Planter)] = &[
     }),
     ("3-link-to-itself", link_to_itself),
     ("3-link-to-earlier", link_to_earlier),
+    ("3-link-to-its-track", link_to_its_track),
     ("4-kind", kind),
     ("5-name-starts-with-pad", name_starts_with_pad),
     ("5-name-after-pad", name_after_pad),
@@ -79,6 +80,8 @@ pub const FAULTS: &[(&str, Planter)] = &[
     ("7-chain-cut", chain_cut),
     ("7-chain-longer", chain_longer),
     ("8-count", map::count),
+    ("8-count-by-eights", map::count_by_eights),
+    ("8-count-of-others", map::count_of_others),
     ("8-bit", map::bit),
     ("8-marked-free", map::marked_free),
     ("8-marked-used", map::marked_used),
@@ -87,6 +90,9 @@ pub const FAULTS: &[(&str, Planter)] = &[
     ("8-bits-swapped", map::bits_swapped),
     ("8-two-tracks", map::two_tracks),
     ("8-count-then-bit", map::count_then_bit),
+    ("8-bitmap", map::bitmap),
+    ("8-entry-of-fresh", map::entry_of_fresh),
+    ("8-entries-exchanged", map::entries_exchanged),
     ("8-bit-among-spare", map::bit_among_spare),
     ("8-bit-for-spare", map::bit_for_spare),
     ("8-bit-after-spare", map::bit_after_spare),
@@ -309,6 +315,34 @@ fn link_to_earlier(rng: &mut Rng, plan: &Plan) -> Option<Fault> {
     let target = rng.pick(&plan.files[earlier].chain);
     let file = &plan.files[later];
     Some(link_fault(file, rng.below(file.chain.len()), target, 3))
+}
+
+/// A link to an owned sector of the track on which it stands: this chain had
+/// it before it left the track, or the directory or an earlier file has it.
+fn link_to_its_track(rng: &mut Rng, plan: &Plan) -> Option<Fault> {
+    let (file, link) = match rng.one_in(4) {
+        true => link_on_track_18(rng, plan)?,
+        false => any_link(rng, plan)?,
+    };
+    let track = file.chain[link].0;
+    let here = |place: &(u8, u8)| place.0 == track;
+    let run = file.chain[..=link].iter().rev().take_while(|p| here(p));
+    let before = file.chain[..link + 1 - run.count()].iter();
+    let earlier = plan.files.iter().filter(|other| other.slot < file.slot);
+    let owned = earlier
+        .flat_map(|other| &other.chain)
+        .chain(before)
+        .copied();
+    let directory = plan.directory.iter().map(|&sector| (18, sector));
+    let owned: Vec<_> = owned.chain(directory).filter(here).collect();
+    let target = *owned.get(rng.below(owned.len()))?;
+    Some(link_fault(file, link, target, 3))
+}
+
+fn link_on_track_18<'a>(rng: &mut Rng, plan: &'a Plan) -> Option<(&'a Planned, usize)> {
+    let file = any_file(rng, plan)?;
+    let link = file.chain.iter().position(|place| place.0 == 18)?;
+    Some((file, link))
 }
 
 /// A link into a later file. The earlier one takes the rest of its chain;

@@ -5,7 +5,7 @@ use crate::answer::{Answer, BAD_LINK, MAP_WRONG, NONE, WRONG_SIZE};
 use crate::damage::{apply, pair, Fault, FAULTS};
 use crate::geometry::{IMAGE_BYTES, TRACK_18_BYTES, TRACK_18_OFFSET};
 use crate::rng::Rng;
-use crate::sound::{build, offset, Fill, Plan, Shape};
+use crate::sound::{build, offset, Fill, Plan, Shape, Weave};
 
 /// An image, and the check's answer where the generator knows it exactly.
 pub struct Generated {
@@ -31,6 +31,10 @@ pub const SOUND: &[&str] = &[
     "locked",
     "edge-ends",
     "any",
+    "zigzag",
+    "rounds",
+    "runs",
+    "comb",
 ];
 
 /// The other kinds, besides "fault-" followed by a name of `FAULTS`.
@@ -108,9 +112,11 @@ fn shape(kind: &str, rng: &mut Rng) -> Option<Shape> {
             (rng.pick(&[1, 3, 8 * directory]), directory)
         }
         "odd-names" | "locked" | "edge-ends" => (rng.range(1, 40), 5),
+        "zigzag" | "rounds" | "runs" | "comb" => (rng.range(1, 12), rng.range(2, 9)),
         _ => return None,
     };
     set_details(kind, rng, &mut shape);
+    set_weave(kind, rng, &mut shape);
     Some(shape)
 }
 
@@ -143,6 +149,19 @@ fn set_details(kind: &str, rng: &mut Rng, shape: &mut Shape) {
     }
 }
 
+/// Chains that leave tracks and come back, track 18 among them.
+fn set_weave(kind: &str, rng: &mut Rng, shape: &mut Shape) {
+    shape.weave = match kind {
+        "zigzag" => Some(Weave::Zigzag),
+        "rounds" => Some(Weave::Rounds),
+        "runs" => Some(Weave::Runs),
+        "comb" => Some(Weave::Comb),
+        _ => return,
+    };
+    (shape.on_track_18, shape.track_18_first) = (!rng.one_in(3), false);
+    (shape.fill, shape.any_version) = (Fill::Some, false);
+}
+
 /// A sound image to plant faults in: with files, so that most faults fit.
 pub fn ground(rng: &mut Rng) -> Plan {
     let kind = rng.pick(&[
@@ -153,6 +172,8 @@ pub fn ground(rng: &mut Rng) -> Plan {
         "full-disk",
         "track-18",
         "locked",
+        "zigzag",
+        "runs",
     ]);
     sound(kind, rng).expect("a kind of SOUND")
 }

@@ -6,6 +6,9 @@ use crate::naive::{places, position, track_length};
 use crate::rng::Rng;
 use std::collections::HashSet;
 
+mod weave;
+pub use weave::Weave;
+
 /// A file as placed.
 #[derive(Clone, Debug)]
 pub struct Planned {
@@ -44,6 +47,8 @@ pub struct Shape {
     pub directory: usize,
     pub scattered_directory: bool,
     pub scattered_chains: bool,
+    /// Chains that leave tracks and come back; it decides where it is given.
+    pub weave: Option<Weave>,
     /// Whether files may lie on track 18, and whether they go there first.
     pub on_track_18: bool,
     pub track_18_first: bool,
@@ -69,6 +74,7 @@ impl Shape {
             directory,
             scattered_directory: rng.one_in(2),
             scattered_chains: !rng.one_in(3),
+            weave: None,
             on_track_18: rng.one_in(3),
             track_18_first: rng.one_in(2),
             junk: !rng.one_in(4),
@@ -134,7 +140,9 @@ fn sector_pool(rng: &mut Rng, shape: &Shape, directory: &[u8]) -> Vec<(u8, u8)> 
     let mut pool: Vec<(u8, u8)> = places()
         .filter(|&(track, sector)| track != 18 || (shape.on_track_18 && !taken(sector)))
         .collect();
-    if shape.scattered_chains {
+    if let Some(weave) = shape.weave {
+        pool = weave::woven(rng, pool, weave);
+    } else if shape.scattered_chains {
         rng.shuffle(&mut pool);
     } else if rng.one_in(2) {
         pool.reverse();

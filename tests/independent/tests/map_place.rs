@@ -381,7 +381,7 @@ fn planted_faults_name_every_place() {
     let maps: Vec<usize> = (0..FAULTS.len())
         .filter(|at| FAULTS[*at].0.starts_with("8-"))
         .collect();
-    assert_eq!(maps.len(), 16);
+    assert_eq!(maps.len(), 21);
     let (mut sectors, mut tracks) = (BTreeSet::new(), BTreeSet::new());
     for_seeds("planted_faults_name_every_place", 120, |_, rng| {
         for &at in &maps {

@@ -7,7 +7,7 @@ use independent::calls::{read, tell, Told};
 use independent::check::{check, examine, DIRECTORY, FILES, MAP, NOBODY};
 use independent::generate::{sound, SOUND};
 use independent::listing::sleeve_output;
-use independent::naive::{contents, spare_bits, Contents, Owner};
+use independent::naive::{contents, spare_bits, track_length, Contents, Owner};
 use independent::request::lent;
 use independent::rng::for_seeds;
 use independent::sound::{Plan, Planned};
@@ -145,5 +145,58 @@ fn features_of(plan: &Plan) -> Vec<(&'static str, bool)> {
         ("full slots, track 18 taken", full && !free18),
         ("no spare bit", !spare.contains(&true)),
         ("every spare bit", !spare.contains(&false)),
+        ("every second sector free", has_comb(&plan.image)),
+        ("back to a track for a run", any(back_for_a_run)),
+        ("six times between two tracks", any(is_zigzag)),
+        ("back to track 18", any(|f| times_on(18, f) > 1)),
+        ("ten times on one track", any(ten_times_on_one)),
+        ("from track 35 to track 1", any(from_35_to_1)),
+        ("one sector number on ten tracks", any(one_number_on_ten)),
     ]
+}
+
+/// The tracks of a chain in turn, each with the sectors taken there at once.
+fn runs(file: &Planned) -> Vec<(u8, usize)> {
+    let on_one = file.chain.chunk_by(|one, two| one.0 == two.0);
+    on_one.map(|run| (run[0].0, run.len())).collect()
+}
+
+fn times_on(track: u8, file: &Planned) -> usize {
+    runs(file).iter().filter(|run| run.0 == track).count()
+}
+
+fn ten_times_on_one(file: &Planned) -> bool {
+    (1..=35).any(|track| times_on(track, file) > 9)
+}
+
+fn from_35_to_1(file: &Planned) -> bool {
+    let crosses = |w: &[(u8, u8)]| (w[0].0, w[1].0) == (35, 1);
+    file.chain.windows(2).any(crosses)
+}
+
+fn one_number_on_ten(file: &Planned) -> bool {
+    let alike = |w: &[(u8, u8)]| w.iter().all(|place| place.1 == w[0].1);
+    file.chain.windows(10).any(alike)
+}
+
+/// Two sectors or more of a track, some of another, and again two of the first.
+fn back_for_a_run(file: &Planned) -> bool {
+    let back = |w: &[(u8, usize)]| w[0].0 == w[2].0 && w[0].1 > 1 && w[2].1 > 1;
+    runs(file).windows(3).any(back)
+}
+
+fn is_zigzag(file: &Planned) -> bool {
+    let tracks: Vec<u8> = runs(file).iter().map(|run| run.0).collect();
+    let between = |w: &[u8]| w.iter().zip(&w[2..]).all(|(one, two)| one == two);
+    tracks.windows(6).any(between)
+}
+
+/// Of some track every second sector is free, and no other.
+fn has_comb(image: &[u8]) -> bool {
+    (1..=35u8).any(|track| {
+        let entry = &image[91_392 + 4 * usize::from(track)..][..4];
+        let own = (1 << track_length(track)) - 1;
+        let bits = u32::from_le_bytes([entry[1], entry[2], entry[3], 0]) & own;
+        bits == 0x55_5555 & own || bits == 0xAA_AAAA & own
+    })
 }

@@ -401,7 +401,7 @@ fn every_call_does_the_same_whatever_they_are() {
     let mut done = BTreeMap::new();
     for_seeds(
         "every_call_does_the_same_whatever_they_are",
-        20,
+        25,
         |seed, rng| {
             for kind in kinds() {
                 let image = generate(&kind, seed).unwrap().image;
@@ -415,7 +415,7 @@ fn every_call_does_the_same_whatever_they_are() {
             }
         },
     );
-    if independent::rng::seeds(20).len() >= 20 {
+    if independent::rng::seeds(25).len() >= 25 {
         let wanted = [
             "Format", "Store", "Scratch", "Read", "Listing", "Tell", "Check",
         ];

@@ -7,7 +7,7 @@ use boundary::tally::{Tally, EVERY_NUMBER};
 use independent::rng::seeds;
 use std::process::ExitCode;
 
-/// 74 images each.
+/// 84 images each.
 const ROUNDS: u64 = 1000;
 
 /// Each number that a call may give is to be met so often, and 8 so often with

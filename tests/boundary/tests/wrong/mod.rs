@@ -2,7 +2,9 @@
 //! call, or in all of them where the fault concerns the block.
 
 pub mod changes;
+pub mod counting;
 pub mod formatting;
+pub mod masks;
 pub mod place;
 pub mod reading;
 pub mod scratching;

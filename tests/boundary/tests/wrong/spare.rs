@@ -304,15 +304,19 @@ fn fault_before(image: &[u8]) -> Option<Answer> {
     Some(Answer::fault(8, track, 255, 255))
 }
 
-/// What it said where no fault of an argument comes first.
-unsafe fn fault_after_name(image: Slice, name: Slice) -> Option<Answer> {
+/// What a check says where no fault of an argument comes first.
+pub unsafe fn fault_after_name(
+    image: Slice,
+    name: Slice,
+    check: fn(&[u8]) -> Option<Answer>,
+) -> Option<Answer> {
     let (image, name) = unsafe { (image.bytes(), name.bytes()) };
     let good = (1..=16).contains(&name.len()) && !name.contains(&0xA0);
-    fault_before(image).filter(|_| good)
+    check(image).filter(|_| good)
 }
 
 wrong!(ReadStillRefuses: read(image, name, out, answer) {
-    match fault_after_name(image, name) {
+    match fault_after_name(image, name, fault_before) {
         Some(fault) => give(answer, fault),
         None => Faithful.read(image, name, out, answer),
     }
@@ -326,14 +330,14 @@ wrong!(TellStillRefuses: tell(image, position, entry, answer) {
 });
 
 wrong!(StoreStillRefuses: store(image, name, kind, data, answer) {
-    match fault_after_name(image, name) {
+    match fault_after_name(image, name, fault_before) {
         Some(fault) if (1..=2).contains(&kind) => give(answer, fault),
         _ => Faithful.store(image, name, kind, data, answer),
     }
 });
 
 wrong!(ScratchStillRefuses: scratch(image, name, answer) {
-    match fault_after_name(image, name) {
+    match fault_after_name(image, name, fault_before) {
         Some(fault) => give(answer, fault),
         None => Faithful.scratch(image, name, answer),
     }

@@ -174,7 +174,7 @@ pub fn slack_left(image: &mut [u8], change: &Change) {
 }
 
 /// Moves the stored file to the first free sectors of another order.
-fn placed(image: &mut [u8], change: &Change, order: impl Iterator<Item = Place>) {
+pub fn placed(image: &mut [u8], change: &Change, order: impl Iterator<Item = Place>) {
     let mine = |place: &Place| change.file.chain.contains(place);
     let chain: Vec<Place> = order
         .filter(|place| mine(place) || change.is_left_free(*place))

@@ -8,7 +8,9 @@ mod wrong;
 
 use boundary::calls::{EntryPoints, Slice};
 use std::sync::atomic::{AtomicUsize, Ordering};
-use wrong::{formatting, place, reading, scratching, spare, stored, storing, usr, Row};
+use wrong::{
+    counting, formatting, masks, place, reading, scratching, spare, stored, storing, usr, Row,
+};
 
 static CHOSEN: AtomicUsize = AtomicUsize::new(0);
 
@@ -22,6 +24,10 @@ fn rows() -> impl Iterator<Item = &'static Row> {
         usr::WRONG,
         spare::WRONG,
         place::WRONG,
+        masks::WRONG,
+        masks::OTHER_CALLS,
+        counting::WRONG,
+        counting::STORES,
     ]
     .into_iter()
     .flatten()

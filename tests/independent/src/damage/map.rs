@@ -32,9 +32,11 @@ impl Entry {
         }
     }
 
-    /// The right entry of any track.
+    /// The right entry of any track, those at the ends of a zone more often.
     fn any(rng: &mut Rng, plan: &Plan) -> Entry {
-        Entry::of(plan, rng.range(1, 35) as u8)
+        let any = rng.range(1, 35) as u8;
+        let end = rng.pick(&[1, 17, 18, 19, 24, 25, 30, 31, 35]);
+        Entry::of(plan, rng.pick(&[any, any, any, end]))
     }
 
     /// Flips a bit, that of a sector or a spare one; gives whether it was 1.
@@ -61,6 +63,25 @@ impl Entry {
         }
         let any = rng.byte();
         self.bytes[0] = rng.pick(&[self.bytes[0], count, count, any]);
+    }
+
+    /// The bits, bit s standing for sector s; the spare ones are among them.
+    fn bits(&self) -> u32 {
+        u32::from_le_bytes([self.bytes[1], self.bytes[2], self.bytes[3], 0])
+    }
+
+    /// The bits of the track's own sectors.
+    fn own(&self) -> u32 {
+        (1 << track_length(self.track)) - 1
+    }
+
+    /// Puts other bits in the place of the right ones; gives whether one of
+    /// the track's own is wrong.
+    fn put_bits(&mut self, bits: u32) -> bool {
+        let wrong = (self.bits() ^ bits) & self.own();
+        self.wrong = (0..24).filter(|bit| wrong >> bit & 1 == 1).collect();
+        self.bytes[1..].copy_from_slice(&bits.to_le_bytes()[..3]);
+        wrong != 0
     }
 
     /// The fault of this entry in the place of the track's own.
@@ -123,6 +144,83 @@ pub(super) fn count(rng: &mut Rng, plan: &Plan) -> Option<Fault> {
 fn spoil_count(rng: &mut Rng, entry: &mut Entry) {
     let off = rng.range(1, 255) as u8;
     entry.bytes[0] = entry.bytes[0].wrapping_add(rng.pick(&[1, 255, off]));
+}
+
+/// The count is off by eight, or by a number of that sort: its low bits are
+/// right.
+pub(super) fn count_by_eights(rng: &mut Rng, plan: &Plan) -> Option<Fault> {
+    let mut entry = Entry::any(rng, plan);
+    let off: u8 = rng.pick(&[8, 16, 24, 32, 32, 64, 64, 128, 128]);
+    let off = rng.pick(&[off, off.wrapping_neg()]);
+    entry.bytes[0] = entry.bytes[0].wrapping_add(off);
+    Some(entry.fault())
+}
+
+/// The count of something else: of the used sectors, of a part of the bits, of
+/// all 24, of another track, or the least or the greatest that a byte holds.
+pub(super) fn count_of_others(rng: &mut Rng, plan: &Plan) -> Option<Fault> {
+    let mut entry = Entry::any(rng, plan);
+    let (bits, own) = (entry.bits(), entry.own());
+    let mut parts = vec![!bits & own, !bits, bits, own, 0xFF_FFFF];
+    parts.extend([0xFF, 0xFF00, 0xFFFF, 0xFF_FF00, !1, own >> 1].map(|part| bits & own & part));
+    let mut counts: Vec<u8> = parts.iter().map(|&bits| ones(bits)).collect();
+    let beside = [entry.track - 1, entry.track + 1].map(|track| track.clamp(1, 35));
+    counts.extend(beside.map(|track| Entry::of(plan, track).bytes[0]));
+    counts.extend([0, 255]);
+    counts.retain(|&count| count != entry.bytes[0]);
+    entry.bytes[0] = rng.pick(&counts);
+    Some(entry.fault())
+}
+
+/// The ones of 24 bits.
+fn ones(bits: u32) -> u8 {
+    (bits & 0xFF_FFFF).count_ones() as u8
+}
+
+/// Another bitmap: a single byte of it, every second bit, one bit, all bits
+/// but one, the used sectors, or the right one a sector or a byte off. The
+/// count stays, follows the bits, or is one of the ends.
+pub(super) fn bitmap(rng: &mut Rng, plan: &Plan) -> Option<Fault> {
+    let mut entry = Entry::any(rng, plan);
+    let (bits, own) = (entry.bits(), entry.own());
+    let one = 1 << any_sector(rng, entry.track);
+    let byte = 0xFF << rng.pick(&[0, 8, 16]);
+    let reversed = bits.swap_bytes() >> 8;
+    let bits = rng.pick(&[
+        byte,
+        bits & byte,
+        0x55_5555,
+        0xAA_AAAA,
+        one,
+        own & !one,
+        !bits,
+        0,
+        0xFF_FFFF,
+        bits << 1,
+        bits >> 1,
+        reversed,
+    ]);
+    let wrong = entry.put_bits(bits);
+    let right = entry.bytes[0];
+    entry.bytes[0] = rng.pick(&[
+        right,
+        ones(bits & own),
+        ones(bits & own),
+        ones(bits),
+        0,
+        255,
+    ]);
+    wrong.then(|| entry.fault())
+}
+
+/// The whole entry of a track without files, or of one without room.
+pub(super) fn entry_of_fresh(rng: &mut Rng, plan: &Plan) -> Option<Fault> {
+    let mut entry = Entry::any(rng, plan);
+    let spare = entry.bits() & !entry.own();
+    let bits = rng.pick(&[entry.own(), 0]);
+    let wrong = entry.put_bits(bits | rng.pick(&[spare, 0]));
+    entry.bytes[0] = ones(bits);
+    wrong.then(|| entry.fault())
 }
 
 /// One wrong bit; the count is that of the owners.
@@ -216,6 +314,18 @@ pub(super) fn count_then_bit(rng: &mut Rng, plan: &Plan) -> Option<Fault> {
     let sector = any_sector(rng, spoilt.track);
     spoilt.spoil_all(rng, &[sector]);
     Some(both(counted, spoilt))
+}
+
+/// Two tracks have each other's entry, with as many free sectors.
+pub(super) fn entries_exchanged(rng: &mut Rng, plan: &Plan) -> Option<Fault> {
+    let mut one = Entry::any(rng, plan);
+    let all = (1..=35).map(|track| Entry::of(plan, track));
+    let alike = all.filter(|other| other.track != one.track && other.bytes[0] == one.bytes[0]);
+    let alike: Vec<u8> = alike.map(|other| other.track).collect();
+    let mut two = Entry::of(plan, *alike.get(rng.below(alike.len()))?);
+    let (bits, others) = (one.bits(), two.bits());
+    let wrong = one.put_bits(others) & two.put_bits(bits);
+    wrong.then(|| both(one, two))
 }
 
 // --- Bits past a track's last sector (02, §5) -----------------------------
