@@ -7,7 +7,7 @@
 #   make install PREFIX=..  header, archive, pkg-config file, man page, tool
 #   make bench, make peers, make fuzz FUZZ_SECONDS=..
 
-VERSION = 1.3.0
+VERSION = 1.3.1
 PREFIX ?= /usr/local
 BUILD ?= build
 ARCHIVE ?= target/staticlib/libd64.a
