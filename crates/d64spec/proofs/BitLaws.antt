@@ -1,8 +1,9 @@
--- Numbers and their bits (`bitOf`, `binary`), over any width. In order: powers of two; one bit more; the size; the bits of a number made of bits are these; the number
--- made of a number's lowest bits is its remainder, so that numbers are known by their bits; one bit changed. Assumes nothing.
+-- Numbers and their bits (`bitOf`, `binary`), over any width. In order: powers of two; one bit more; the size; the bits of a number made of bits are
+-- these; the number made of a number's lowest bits is its remainder, so that numbers are known by their bits; one bit changed. Assumes nothing.
 use Prim.Native.Nat.{ℕ, zero, suc, _+_, _*_, _/_, _%_, _^_, _≤_, _<_}
 use native.Mathlib.Omega.{arith}
-use native.Mathlib.Nat.{pow-succ', pow-le-pow-right, mul-le-mul-right, mul-add, mul-assoc, mul-comm, mul-left-comm, zero-div, div-div-eq-div-mul, mod-add-div, mod-eq-of-lt, mod-lt, add-mul-mod-self-left}
+use native.Mathlib.Nat.{pow-succ', pow-le-pow-right, mul-le-mul-right, mul-add, mul-assoc, mul-comm, mul-left-comm}
+use native.Mathlib.Nat.{zero-div, div-div-eq-div-mul, mod-add-div, mod-eq-of-lt, mod-lt, add-mul-mod-self-left}
 use mathlib.Core.Path.{_≡_, refl, sym, ap, _∙_}
 use mathlib.Core.List.{map}
 use lib.Pow.{pow-pos}

@@ -216,7 +216,8 @@ module _ {b : Bytes} {o : Result Marked} {own ss : List ℕ} {n holder next used
 module _ {b own₀ own ss : List ℕ} {n holder used : ℕ} (m : used ≡ ownedMask own 357 19) where
   module _ (k : Link) (w : Walks b (directoryWalk b own₀) own ss n holder k) where
     -- whatever the verdict is, the array is as it should be
-    walked-with : (v : Verdict) → whereFine v (record { sectors = sectorsOf ss n; table = own }) ≡ directoryWalk b own₀ → Walked b own₀ (record { verdict = v; sectors = ss; count = n; used = used }) own
+    walked-with : (v : Verdict) → whereFine v (record { sectors = sectorsOf ss n; table = own }) ≡ directoryWalk b own₀
+        → Walked b own₀ (record { verdict = v; sectors = ss; count = n; used = used }) own
     walked-with v e =
         let places : n + freePlaces own ≤ 18 = w .places in
         record { told = e; rest = w .gathered .rest; few = omega arith; inside = w .gathered .inside; used = m }

@@ -271,8 +271,8 @@ module _ {own used : List ℕ} {t m : ℕ} (k : Gathering layout35 own used t m)
   ])
 
 -- a sector of the track is claimed: its bit is gathered
-pub bit-gathered : {own used : List ℕ} {on : Track} {m s n id m′ : ℕ} → Gathering layout35 own used (on .number) m → IsTrack on → s < on .sectors → n ≡ on .first + s
-    → length own ≡ 683 → getD own n 0 ≡ 0 → 1 ≤ id → m′ ≡ m + 2 ^ s → Gathering layout35 (set own n id) used (on .number) m′
+pub bit-gathered : {own used : List ℕ} {on : Track} {m s n id m′ : ℕ} → Gathering layout35 own used (on .number) m → IsTrack on → s < on .sectors
+    → n ≡ on .first + s → length own ≡ 683 → getD own n 0 ≡ 0 → 1 ≤ id → m′ ≡ m + 2 ^ s → Gathering layout35 (set own n id) used (on .number) m′
 unfolding sectorNumber
 bit-gathered {own} {used} {on} {m} {s} k o h is long none owner more =
     let r = named o h is in

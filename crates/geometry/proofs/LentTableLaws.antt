@@ -75,7 +75,8 @@ pub record IsTrack (on : Track) : Type 0 where
   pub count : on .sectors ≡ sectorsOn layout35 (on .number)
   pub first : (s : ℕ) → onDisk layout35 (address (on .number) s) ≡ true → on .first + s ≡ sectorNumber layout35 (address (on .number) s)
 
-pub track-known : {counts firsts : List ℕ} {on : Track} {t : ℕ} → IsCounts counts → IsFirsts firsts → on ≡ trackBy counts firsts t → (on .number ≡ t) × IsTrack on
+pub track-known : {counts firsts : List ℕ} {on : Track} {t : ℕ} → IsCounts counts → IsFirsts firsts → on ≡ trackBy counts firsts t
+    → (on .number ≡ t) × IsTrack on
 unfolding numberBy
 track-known {counts} {firsts} {on} {t} cs fs is = elim (decLe 1 t) [
   | no below ↦ rw (is, trackBy-none counts firsts t (omega arith)) (

@@ -1,7 +1,6 @@
 -- A track's check as the code makes it is d64spec's `checkTrack`, where the free sectors are those whose bit is 0 in the track's number of owned ones.
--- In order: the bits of a number that are 0; tests; the bits of the two numbers; the lowest that is wrong; the count; the track; as the code compares, and several
--- tracks at once.
--- Stated once over the track's number of sectors. Assumes nothing.
+-- In order: the bits of a number that are 0; tests; the bits of the two numbers; the lowest that is wrong; the count; the track; as the code compares,
+-- and several tracks at once. Stated once over the track's number of sectors. Assumes nothing.
 use Prim.Native.Nat.{ℕ, zero, suc, _+_, _-_, _*_, _%_, _^_, _≤_, _<_}
 use native.Mathlib.Omega.{arith}
 use native.Mathlib.Nat.{mod-lt}
@@ -188,7 +187,8 @@ sectors-found bitmap own power marked free = rw (marked, free, power, own, bitma
 -- e is the entry of track t and u its owned sectors; n is how many of its marks are counted
 module _ (e : Bytes) (u t : ℕ) {counts : List ℕ} (is : IsCounts counts) {n : ℕ} (count : n ≡ freeOn counts e t) {r : Sectors}
     (found : TrackSectors e u (ownBits counts t) r) where
-  verdict-found : need (eqb (r .marked) (r .free) && eqb (byte e 0) n) (wrongMapEntry (address t (lowestDifference (r .marked) (r .free)))) ≡ trackVerdict e u t
+  verdict-found : need (eqb (r .marked) (r .free) && eqb (byte e 0) n) (wrongMapEntry (address t (lowestDifference (r .marked) (r .free))))
+      ≡ trackVerdict e u t
   unfolding trackVerdict
   verdict-found = rw (found .marked, found .free, own-sectors is t, count, is .agrees t)
 

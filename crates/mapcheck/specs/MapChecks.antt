@@ -1,5 +1,6 @@
 -- Step 4 of the check on the map sector alone, against the owned sectors of each track (01, Order of the check, 4; The map).
--- In order: where two numbers differ; an entry's check; the step, and a look at all tracks before it. Numbers made of bits: d64spec's `binary`; the owned sectors: owners' Masks.
+-- In order: where two numbers differ; an entry's check; the step, and a look at all tracks before it. Numbers made of bits: d64spec's `binary`; the
+-- owned sectors: owners' Masks.
 -- Laws: proofs/DifferenceLaws (the lowest bit that differs), TrackLaws (a track's check is d64spec's), StepLaws (so is the step).
 use Prim.Native.Nat.{ℕ, _-_, _%_, _^_}
 use mathlib.Core.Path.{_≡_}

@@ -1,5 +1,5 @@
--- The masks of owned sectors: one bit more where a sector gets an owner. In order: one bit; a track's mask; a sector gets an owner; the masks of a chain
--- under way, with the bits of the track that it is on apart; a sector by the masks alone. Assumes nothing.
+-- The masks of owned sectors. In order: one bit; a track's mask, and one bit more where a sector gets an owner; mask and table say the same; a chain
+-- under way, with the bits of the track that it is on apart. Assumes nothing.
 use Prim.Native.Nat.{ℕ, _+_, _-_, _*_, _^_, _≤_, _<_}
 use native.Mathlib.Omega.{arith}
 use native.Mathlib.Decide.{ℕ-discrete}
@@ -129,7 +129,8 @@ module _ (g : Geometry) {own used : List ℕ} {t m : ℕ} (k : Gathering g own u
       → getD own n 0 ≡ 0 → 1 ≤ id → m′ ≡ m + 2 ^ s → Gathering g (set own n id) used t m′
   gathering-more {n} {s} {id} {m′} long low high inside is within free some more = rw is (record {
     size = k .size;
-    others = λ i l h q. k .others i l h q ∙ mask-same own _ (firstOn g i) (sectorsOn g i) (λ j b. sym (getD-set-other own (firstOn g t + s) (firstOn g i + j) id 0
+    others = λ i l h q. k .others i l h q
+        ∙ mask-same own _ (firstOn g i) (sectorsOn g i) (λ j b. sym (getD-set-other own (firstOn g t + s) (firstOn g i + j) id 0
         (λ z. q (one-track g i t (firstOn g i + j) (record { low = omega arith; high = omega arith }) (record { low = omega arith; high = omega arith })))));
     here = λ l h. omega (
       arith,

@@ -1,5 +1,6 @@
 -- `directory::walk::walk_directory` meets its contract. The loop keeps `Walks`: the rest of the definition's walk, from the link to 18/next
--- that 18/holder holds, gives the outcome; and the used sectors of track 18 are the table's. What falls is the number of sectors of 18/1 to 18/18 that have no owner.
+-- that 18/holder holds, gives the outcome; and the used sectors of track 18 are the table's. What falls is the number of sectors of 18/1 to 18/18
+-- that have no owner.
 use Prim.Native.Nat.{_+_, _*_, _%_, _^_}
 use native.Mathlib.Omega.{arith}
 use mathlib.Core.Path.{_≡_}
@@ -10,7 +11,8 @@ use Rattle.d64spec.specs.Chain.{to}
 use Rattle.d64spec.proofs.BitLaws.{shifted}
 use Rattle.links.specs.Links.{linkOf}
 use Rattle.owners.specs.Masks.{ownedMask}
-use Rattle.directory.proofs.WalkLaws.{Walks, directoryWalk, freePlaces, walks-start, walks-moved, walks-again, used-moved, used-room, walked-ends, walked-bad, walked-owned}
+use Rattle.directory.proofs.WalkLaws.{Walks, directoryWalk, freePlaces, walks-start, walks-moved, walks-again, used-moved, used-room}
+use Rattle.directory.proofs.WalkLaws.{walked-ends, walked-bad, walked-owned}
 use Rattle.directory.proofs.walk.walk_directory.Statement.{statement}
 use Rattle.directory.proofs.walk.walk_directory.Tie as tie
 
