@@ -17,7 +17,7 @@ entryBit e s = bitOf (byte e (1 + s / 8)) (s % 8)
 unfoldable pub bitmapOf : Bytes → ℕ
 bitmapOf e = byte e 1 + 256 * byte e 2 + 65536 * byte e 3
 
--- how many of the first n sectors an entry marks free (01, The map: the number of ones among the track's own sectors); it has bits for 24
+-- how many of the first n sectors an entry marks free (01, The map: the number of ones among the track's own sectors); past its 24 bits none is 1
 unfoldable pub freeIn : Bytes → ℕ → ℕ
 freeIn e n = sum (map (entryBit e) (range 0 n))
 

@@ -17,6 +17,7 @@ use Rattle.d64spec.specs.Chain.{Link, to, bad, linkTo, decodeFileLink, fileLink
 use Rattle.d64spec.specs.Store.{lastOf}
 use Rattle.d64spec.proofs.BoundLaws.{sectorNumber-lt, fileLink-on, linkTo-on}
 use Rattle.d64spec.proofs.BitLaws.{power-le}
+use Rattle.d64spec.proofs.OwnerTheorem.{tracks35}
 use Rattle.d64spec.proofs.RunTheorem.{valid35, sectors35}
 use Rattle.geometry.specs.Layout.{addressOf}
 use Rattle.geometry.specs.declared.Address.{Address as CodeAddress}
@@ -36,7 +37,6 @@ use Rattle.diskcheck.specs.declared.chain.Claim.the-variants as claim
 use Rattle.diskcheck.specs.EndTable.{endOf}
 use Rattle.diskcheck.specs.Chains.{Claimed, claimOf, claimed, heldBy, claimOff, chainWalk, withMask, MaskRoom, Ready}
 use Rattle.diskcheck.proofs.EndLaws.{lastByte, walk-last}
-use Rattle.diskcheck.proofs.MaskLaws.{tracks35}
 
 -- ---- the links on the way
 

@@ -18,6 +18,7 @@ use Rattle.d64spec.specs.Owner.{claimsOf}
 use Rattle.d64spec.specs.Check.{DirectoryContents, checkDirectory, checkSlots, checkMap, checkDisk, checkImage, rightSize}
 use Rattle.d64spec.specs.Listing.{bytesOfTrack18}
 use Rattle.d64spec.proofs.BoundLaws.{sectorNumber-lt, map-on, directoryLink-on}
+use Rattle.d64spec.proofs.OwnerTheorem.{tracks35}
 use Rattle.d64spec.proofs.RunTheorem.{valid35, sectors35}
 use Rattle.d64spec.proofs.ListingTheorem.{track18-length}
 use Rattle.geometry.proofs.LentTableLaws.{tracks-of-onDisk}
@@ -41,7 +42,7 @@ use Rattle.diskcheck.specs.declared.Checked.{Checked}
 use Rattle.diskcheck.specs.EndTable.{endTable}
 use Rattle.diskcheck.specs.SlotChecks.{imageOccupied, Tables, tables, tablesWithFiles, slotsStep, SlotsReady}
 use Rattle.diskcheck.specs.ImageChecks.{Found, foundIn, directoryCount, tablesFound, ImageChecked, mapStep, restStep}
-use Rattle.diskcheck.proofs.MaskLaws.{tracks35, masks-directory}
+use Rattle.diskcheck.proofs.MaskLaws.{masks-directory}
 use Rattle.diskcheck.proofs.TrackLaws.{track18-lent, map-lent, sectorsOf-whole, occupied-by-track18}
 
 -- ---- the definition's check with the tables

@@ -10,8 +10,9 @@ use lib.Seq.{getD-set-same, getD-set-other}
 use borrow.Author.Tests.{eqb-true, eq-eqb, ne-eqb}
 use Rattle.d64spec.specs.Lists.{All, count, zeros}
 use Rattle.d64spec.specs.Answers.{address}
-use Rattle.d64spec.specs.Geometry.{layout35, total, tracks, firstOn, sectorsOn, sectorNumber, mapAddress}
+use Rattle.d64spec.specs.Geometry.{layout35, total, firstOn, sectorsOn, sectorNumber, mapAddress}
 use Rattle.d64spec.proofs.AllocationLaws.{one-track}
+use Rattle.d64spec.proofs.OwnerTheorem.{tracks35}
 use Rattle.owners.specs.OwnerTable.{directoryTable, freeBy}
 use Rattle.owners.specs.Masks.{ownedMask, Masks}
 use Rattle.owners.proofs.ClaimLaws.{directory-alike, freeBy-alike}
@@ -22,10 +23,6 @@ use Rattle.directory.proofs.Track18Laws.{number-18, sectors-18}
 first-18 : firstOn layout35 18 ≡ 357
 unfolding firstOn layout35
 first-18 = refl
-
-pub tracks35 : tracks layout35 ≡ 35
-unfolding tracks layout35
-tracks35 = refl
 
 -- ---- sectors off track 18
 

@@ -1,4 +1,4 @@
--- Tracks and numbers by lent tables (specs/Layout: entryBy, numberBy), and at the layout's own tables.
+-- Tracks and numbers by lent tables (specs/Layout: entryBy, trackBy, numberBy), and at the layout's own tables.
 -- In order: a track's entry, and a track, by cases; the two tables give the layout's counts and numbers; so do all that agree with it.
 use Prim.Native.Nat.{ℕ, suc, _+_, _-_, _≤_, _<_}
 use native.Mathlib.Omega.{arith}
