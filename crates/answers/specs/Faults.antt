@@ -7,13 +7,13 @@ use mathlib.Core.List.{[]}
 use lib.ListN.{length}
 use lib.Dec.{eqb}
 use Rattle.d64spec.specs.Lists.{Bytes}
-use Rattle.d64spec.specs.Answers.{Address, address, Result, refused, done, wrongSize, badLink, alreadyOwned, badType, badName, duplicateName, wrongCount, wrongMapEntry, badNameArgument, badKindArgument, writeForbidden, nameExists, notFound, directoryFull, diskFull, wrongBuffer, unplaced, answerOf}
+use Rattle.d64spec.specs.Answers.{Address, address, Result, refused, done, wrongSize, badLink, alreadyOwned, badType, badName, duplicateName, wrongCount, wrongMapEntry, badNameArgument, badKindArgument, writeForbidden, nameExists, notFound, directoryFull, diskFull, wrongBuffer, unknownLayout, unplaced, answerOf}
 use Rattle.d64spec.specs.Answers as answer
 use Rattle.d64spec.specs.Reply.{Reply}
 use Rattle.d64spec.specs.Host.{answerBlock}
 use Rattle.answers.specs.declared.Place.{Place}
 use Rattle.answers.specs.declared.Fault.{Fault}
-use Rattle.answers.specs.declared.Fault.the-variants.{WrongSize, BadLink, AlreadyOwned, BadType, BadName, DuplicateName, WrongCount, WrongMapEntry, BadNameArgument, BadKindArgument, WriteForbidden, NameExists, NotFound, DirectoryFull, DiskFull, WrongBuffer}
+use Rattle.answers.specs.declared.Fault.the-variants.{WrongSize, BadLink, AlreadyOwned, BadType, BadName, DuplicateName, WrongCount, WrongMapEntry, BadNameArgument, BadKindArgument, WriteForbidden, NameExists, NotFound, DirectoryFull, DiskFull, WrongBuffer, UnknownLayout}
 use Rattle.answers.specs.declared.Verdict.{Verdict}
 use Rattle.answers.specs.declared.Verdict.the-variants.{Fine, Refused}
 use Rattle.answers.specs.declared.Answer.{Answer}
@@ -41,6 +41,7 @@ faultOf NotFound = notFound
 faultOf DirectoryFull = directoryFull
 faultOf DiskFull = diskFull
 faultOf WrongBuffer = wrongBuffer
+faultOf UnknownLayout = unknownLayout
 
 -- what a verdict means
 unfoldable pub verdictOf : Verdict → Result (Unit {0})

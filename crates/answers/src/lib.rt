@@ -29,6 +29,7 @@ pub enum Fault {
     DirectoryFull,
     DiskFull,
     WrongBuffer,
+    UnknownLayout,
 }
 
 // Whether a step found nothing, or its fault.
@@ -122,6 +123,7 @@ pub fn answer_of(fault: Fault) -> Answer
         Fault::DirectoryFull => unplaced(14),
         Fault::DiskFull => unplaced(15),
         Fault::WrongBuffer => unplaced(16),
+        Fault::UnknownLayout => unplaced(17),
     }
 }
 

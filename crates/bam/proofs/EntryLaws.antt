@@ -18,7 +18,7 @@ use Rattle.d64spec.proofs.MapWriteLaws.{expected-le, expected-entry-same}
 use Rattle.bam.specs.MapEntry.{entryBit, bitmapOf, entryFrom, movedEntry}
 use Rattle.bam.proofs.BitmapLaws.{bitmap-binary}
 use Rattle.bam.proofs.ShapeLaws.{EntryShape}
-use Rattle.bam.proofs.JoinLaws.{four}
+use Rattle.bam.proofs.FourLaws.{four}
 
 -- the three lowest bytes of a number
 record LowBytes (m a b c : ℕ) : Type 0 where

@@ -3,12 +3,12 @@ pub mod BitmapLaws
 pub mod MoveLaws
 pub mod TrackLaws
 pub mod FillLaws
-pub mod JoinLaws
-pub mod LoadLaws
+pub mod FourLaws
 pub mod MapShapeLaws
+pub mod SectorLaws
+pub mod LoadLaws
 pub mod SaveLaws
 pub mod VersionLaws
-pub mod SectorLaws
 pub mod OnesLaws
 pub mod EntryLaws
 pub mod StoredLaws

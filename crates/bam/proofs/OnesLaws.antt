@@ -10,11 +10,11 @@ use lib.Count.{ones, ones-cat}
 use lib.ListN.{List·getD-eq-default}
 use Rattle.d64spec.specs.Lists.{Bytes, range, sum}
 use Rattle.d64spec.specs.Bits.{bitOf, binary}
-use Rattle.d64spec.specs.Geometry.{layout35, sectorsOn}
+use Rattle.d64spec.specs.Geometry.{Geometry, sectorsOn}
+use Rattle.d64spec.specs.Layouts.{Known}
 use Rattle.d64spec.specs.Map.{mapBit, mapOnes}
 use Rattle.d64spec.proofs.SumLaws.{sum-same, sum-map-last}
 use Rattle.d64spec.proofs.BitLaws.{zero-bit, bit-le, binary-more, binary-lt, binary-remainder}
-use Rattle.d64spec.proofs.RunTheorem.{valid35}
 use Rattle.geometry.specs.Layout.{entryBy, IsCounts}
 use Rattle.bam.specs.MapEntry.{entryBit, bitmapOf, freeIn, freeOn, ownBits}
 use Rattle.bam.specs.MapSector.{mapEntry}
@@ -86,14 +86,14 @@ module _ (e : Bytes) (shape : EntryShape e) where
 
 -- ---- the definition's count, of any map sector and track
 
-module _ (m : Bytes) (t : ℕ) where
+module _ (g : Geometry) (kn : Known g) (m : Bytes) (t : ℕ) where
   -- the entry's own bits are the map's
-  pub free-map-entry : freeIn (mapEntry layout35 m t) (sectorsOn layout35 t) ≡ mapOnes layout35 m t
+  pub free-map-entry : freeIn (mapEntry g m t) (sectorsOn g t) ≡ mapOnes g m t
   unfolding freeIn mapOnes
   free-map-entry =
-      let few = valid35 .small t in
-      sum-same (entryBit (mapEntry layout35 m t)) (mapBit layout35 m t) 0 (sectorsOn layout35 t) (λ s l h. bit-map-entry layout35 m t s (omega arith))
+      let few = kn .valid .small t in
+      sum-same (entryBit (mapEntry g m t)) (mapBit g m t) 0 (sectorsOn g t) (λ s l h. bit-map-entry g m t s (omega arith))
 
   -- THE COUNT IS THE DEFINITION'S: by the layout's counts, whoever lends them
-  pub free-on-map : {counts : List ℕ} → IsCounts counts → freeOn counts (mapEntry layout35 m t) t ≡ mapOnes layout35 m t
-  free-on-map is = ap (freeIn (mapEntry layout35 m t)) (is .agrees t) ∙ free-map-entry
+  pub free-on-map : {counts : List ℕ} → IsCounts g counts → freeOn counts (mapEntry g m t) t ≡ mapOnes g m t
+  free-on-map is = ap (freeIn (mapEntry g m t)) (is .agrees t) ∙ free-map-entry

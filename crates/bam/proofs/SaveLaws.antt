@@ -1,58 +1,108 @@
--- A map written into its sector entry by entry. What the sector then is to document 01's definitions: StoredLaws. Assumes nothing.
-use Prim.Native.Nat.{ℕ, _+_, _*_, _≤_, _<_}
+-- A map written into its sector run by run. In order: one entry more; all runs of a layout. What the sector then is to document 01's definitions:
+-- StoredLaws. Assumes nothing.
+use Prim.Native.Nat.{ℕ, zero, suc, _+_, _-_, _*_, _≤_, _<_}
 use native.Mathlib.Omega.{arith}
-use mathlib.Core.Path.{_≡_, refl, sym, ap, _∙_}
-use mathlib.Core.List.{[], _++_}
-use native.Mathlib.Numerals.{add-one}
-use lib.ListN.{length, take, getD}
-use lib.Seq.{take-all}
-use borrow.Author.Tests.{le-leb, lt-leb}
-use Rattle.d64spec.specs.Lists.{Bytes, join, splice}
-use Rattle.d64spec.proofs.SpliceLaws.{length-splice}
+use mathlib.Core.Path.{_≡_, refl, sym, ap, ap₂, _∙_}
+use mathlib.Core.List.{[]}
+use lib.ListN.{length, getD}
+use borrow.Author.Tests.{eq-eqb, ne-eqb}
+use Rattle.d64spec.specs.Lists.{Bytes, range, splice}
+use Rattle.d64spec.specs.Geometry.{Geometry}
+use Rattle.geometry.specs.declared.Layout.{Layout}
+use Rattle.geometry.specs.Layout.{geometryOf, extraOf}
+use Rattle.geometry.proofs.MapPlaceLaws.{place-low, place-high, tracks-without, tracks-with}
 use Rattle.bam.specs.MapEntry.{Entries}
-use Rattle.bam.specs.MapSector.{storedEntries}
-use Rattle.bam.proofs.JoinLaws.{Fours, join-take-more, length-join-take, splice-nil, splice-behind}
-use Rattle.bam.proofs.MapShapeLaws.{MapShape}
+use Rattle.bam.specs.MapSector.{entered, storedEntries, storedRun}
 
-pub fours : {es : Entries} → MapShape es → Fours es
-fours {es} shape i h = shape .entry i (omega (arith, shape .size)) .four
+-- ---- one entry more
 
--- the first i entries are written
-pub record Storing (es : Entries) (m m′ : Bytes) (i : ℕ) : Type 0 where
-  pub passed : i ≤ 35
-  pub size : length m′ ≡ length m
-  pub written : m′ ≡ splice m 4 (join (take i es))
+-- the entries before i are written: with those that are left the sector is the one that the whole run makes
+pub record Storing (es : Entries) (first last at : ℕ) (m₀ m : Bytes) (i : ℕ) : Type 0 where
+  pub low : first ≤ i
+  pub high : i ≤ last
+  pub size : length m ≡ length m₀
+  pub left : storedRun es i (last - i) (at + 4 * (i - first)) m ≡ storedRun es first (last - first) at m₀
 
-pub storing-start : (es : Entries) (m : Bytes) → Storing es m m 0
-storing-start es m = record { passed = omega arith; size = refl; written = sym (splice-nil m 4) }
+module _ {es : Entries} {first last at : ℕ} where
+  pub storing-start : (m : Bytes) → first ≤ last → Storing es first last at m m first
+  storing-start m order =
+      let z : at + 4 * (first - first) ≡ at = omega arith in
+      record { low = omega arith; high = order; size = refl; left = ap (λ (x : ℕ). storedRun es first (last - first) x m) z }
 
-module _ {es : Entries} (shape : MapShape es) {m : Bytes} (room : 144 ≤ length m) {m′ : Bytes} {i : ℕ} (s : Storing es m m′ i) where
-  pub storing-moved : (m″ : Bytes) → i < 35 → m″ ≡ splice m′ (4 * (i + 1)) (getD es i []) → Storing es m m″ (i + 1)
-  storing-moved m″ h e =
-      let before : Bytes = join (take i es) in
-      let entry : Bytes = getD es i [] in
-      let size : length es ≡ 35 = shape .size in
-      let length-before : length before ≡ 4 * i = length-join-take es (fours shape) i (omega arith) in
-      let length-entry : length entry ≡ 4 = shape .entry i h .four in
-      let kept : length m′ ≡ length m = s .size in
-      let at : 4 * (i + 1) ≡ 4 + length before = omega arith in
-      let more : before ++ entry ≡ join (take (i + 1) es) = rw (add-one i) (sym (join-take-more es i (omega arith))) in
+  pub storing-moved : {m₀ m m′ : Bytes} {i : ℕ} → Storing es first last at m₀ m i → i < last → {a : ℕ} → m′ ≡ splice m a (getD es i [])
+      → a ≡ at + 4 * (i - first) → length m′ ≡ length m → Storing es first last at m₀ m′ (i + 1)
+  unfolding storedRun
+  storing-moved {m₀} {m} {m′} {i} s h {a} is place size =
+      let more : last - i ≡ suc (last - (i + 1)) = omega arith in
+      let next : at + 4 * (i + 1 - first) ≡ a + 4 = omega (arith, s .low) in
+      let after : i + 1 ≡ suc i = omega arith in
       record {
-        passed = omega arith;
-        size = ap length e ∙ length-splice m′ (4 * (i + 1)) entry (omega arith) ∙ kept;
-        written =
-            e ∙ ap (λ (l : Bytes). splice l (4 * (i + 1)) entry) (s .written)
-            ∙ ap (λ (k : ℕ). splice (splice m 4 before) k entry) at
-            ∙ splice-behind m 4 before entry (omega arith)
-            ∙ ap (splice m 4) more;
+        low = omega (arith, s .low);
+        high = omega arith;
+        size = size ∙ s .size;
+        left = rw (next, after, is) (rw (more, ← place, after) at (s .left));
       }
 
-  pub storing-finished : 35 ≤ i → m′ ≡ storedEntries es m
-  unfolding storedEntries
-  storing-finished h =
-      let all : take i es ≡ es = take-all i es (omega (arith, shape .size)) in
-      s .written ∙ simp (all, le-leb 144 (length m) room)
+  pub storing-finished : {m₀ m : Bytes} {i : ℕ} → Storing es first last at m₀ m i → last ≤ i → m ≡ storedRun es first (last - first) at m₀
+  unfolding storedRun
+  storing-finished {m₀} {m} {i} s h =
+      let none : last - i ≡ 0 = omega arith in
+      ap (λ (n : ℕ). storedRun es i n (at + 4 * (i - first)) m) (sym none) ∙ s .left
 
-pub stored-short : (es : Entries) (m : Bytes) → length m < 144 → storedEntries es m ≡ m
+-- ---- a layout
+
+module _ (g : Geometry) (es : Entries) where
+  -- tracks whose entries stand behind one another
+  entered-run : (i n at : ℕ) → ((k : ℕ) → k < n → g .mapAt (suc (i + k)) ≡ at + 4 * k) → (m : Bytes) → storedRun es i n at m ≡ entered g es (range (suc i) n) m
+  unfolding storedRun
+  entered-run i zero at places m = refl
+  entered-run i (suc n) at places m =
+      let here : at ≡ g .mapAt (suc i) = (let z : i + 0 ≡ i = omega arith in omega (arith, rw z at (places 0 (omega arith)))) in
+      let self : i ≡ suc i - 1 = omega arith in
+      ap₂ (λ (x j : ℕ). storedRun es (suc i) n (at + 4) (splice m x (getD es j []))) here self
+      ∙ entered-run (suc i) n (at + 4)
+      (λ k h. let z : i + suc k ≡ suc i + k = omega arith in omega (arith, rw z at (places (suc k) (omega arith))))
+      (splice m (g .mapAt (suc i)) (getD es (suc i - 1) []))
+
+  entered-more : (a n k : ℕ) (m : Bytes) → entered g es (range (a + n) k) (entered g es (range a n) m) ≡ entered g es (range a (n + k)) m
+  entered-more a zero k m =
+      let z : a + 0 ≡ a = omega arith in
+      let y : k ≡ 0 + k = omega arith in
+      ap₂ (λ (x j : ℕ). entered g es (range x j) m) z y
+  entered-more a (suc n) k m =
+      let z : a + suc n ≡ suc a + n = omega arith in
+      ap (λ (x : ℕ). entered g es (range x k) (entered g es (range a (suc n)) m)) z
+      ∙ entered-more (suc a) n k (splice m (g .mapAt a) (getD es (a - 1) []))
+      ∙ ap (λ (j : ℕ). entered g es (range a j) m) (let y : suc (n + k) ≡ suc n + k = omega arith in y)
+
+pub stored-other : (g : Geometry) (es : Entries) (m : Bytes) → (length m ≡ 256 → ⊥) → storedEntries g es m ≡ m
 unfolding storedEntries
-stored-short es m h = simp (lt-leb 144 (length m) h)
+stored-other g es m h = simp (ne-eqb (length m) 256 h)
+
+module _ (layout : Layout) (es : Entries) (m : Bytes) (whole : length m ≡ 256) where
+  abbrev of : Geometry
+  of = geometryOf layout
+
+  front-entered : storedRun es 0 35 4 m ≡ entered of es (range 1 35) m
+  front-entered = entered-run of es 0 35 4 (λ k h. omega (arith, place-low layout (suc (0 + k)) (omega arith))) m
+
+  -- THE MAP SECTOR OF A LAYOUT with one run
+  pub stored-front : {m′ : Bytes} {a n p : ℕ} → m′ ≡ storedRun es a n p m → a ≡ 0 → n ≡ 35 → p ≡ 4 → extraOf layout ≡ 0 → m′ ≡ storedEntries of es m
+  unfolding storedEntries
+  stored-front is az nz pz none =
+      let few = tracks-without layout none in
+      (rw (az, nz, pz) at is) ∙ front-entered ∙ sym (simp (eq-eqb (length m) 256 whole, few))
+
+  -- THE MAP SECTOR OF A LAYOUT with two
+  pub stored-both : {m′ m″ : Bytes} {a n p a′ n′ p′ : ℕ} → m′ ≡ storedRun es a n p m → m″ ≡ storedRun es a′ n′ p′ m′
+      → a ≡ 0 → n ≡ 35 → p ≡ 4 → a′ ≡ 35 → n′ ≡ 5 → p′ ≡ extraOf layout → (extraOf layout ≡ 0 → ⊥)
+      → m″ ≡ storedEntries of es m
+  unfolding storedEntries
+  stored-both {m′} {m″} is is′ az nz pz az′ nz′ pz′ some =
+      let forty = tracks-with layout some in
+      let extra : ℕ = extraOf layout in
+      let front : Bytes = entered of es (range 1 35) m in
+      (rw (az′, nz′, pz′) at is′)
+      ∙ ap (storedRun es 35 5 extra) ((rw (az, nz, pz) at is) ∙ front-entered)
+      ∙ entered-run of es 35 5 extra (λ k h. omega (arith, place-high layout (suc (35 + k)) some (omega arith))) front
+      ∙ entered-more of es 1 35 5 m ∙ sym (simp (eq-eqb (length m) 256 whole, forty))

@@ -1,4 +1,4 @@
--- The block availability map held by value (01, The map, 18/0): an entry of four bytes for each of 35 tracks, entry i for track i + 1.
+-- The block availability map held by value (01, The map, 18/0): an entry of four bytes for each of up to 40 tracks, entry i for track i + 1.
 -- In order: an entry of the map; a mark asked for; a mark moved; several. Laws: proofs/FollowLaws has all that callers cite.
 use Prim.Native.Nat.{ℕ, _-_}
 use mathlib.Core.Bool.{Bool, cond, _&&_}
@@ -12,7 +12,7 @@ use Rattle.bam.specs.MapEntry.{Entries, bitmapOf, movedEntry}
 
 -- whether the map has an entry for track t
 unfoldable pub hasEntry : ℕ → Bool
-hasEntry t = leb 1 t && leb t 35
+hasEntry t = leb 1 t && leb t 40
 
 -- track t's entry
 unfoldable pub entryOf : Entries → ℕ → Bytes

@@ -6,16 +6,16 @@ use mathlib.Core.List.{List, map}
 use lib.ListN.{length}
 use Rattle.d64spec.specs.Lists.{Bytes, member}
 use Rattle.d64spec.specs.Answers.{Address}
-use Rattle.d64spec.specs.Geometry.{layout35, sectorNumber}
+use Rattle.d64spec.specs.Geometry.{Geometry, tracks, sectorNumber}
 use Rattle.d64spec.specs.Map.{expectedEntry}
 use Rattle.bam.specs.MapEntry.{Entries}
 use Rattle.bam.specs.Bam.{entryOf}
 
 -- every entry of the map is the one that these free sectors ask for, with the bits past its track's last sector that the map sector m has (02, §5)
-pub record Expects (free : Address → Bool) (m : Bytes) (es : Entries) : Type 0 where
-  pub size : length es ≡ 35
-  pub entry : (t : ℕ) → 1 ≤ t → t ≤ 35 → entryOf es t ≡ expectedEntry layout35 free m t
+pub record Expects (g : Geometry) (free : Address → Bool) (m : Bytes) (es : Entries) : Type 0 where
+  pub size : length es ≡ 40
+  pub entry : (t : ℕ) → 1 ≤ t → t ≤ tracks g → entryOf es t ≡ expectedEntry g free m t
 
 -- which sectors are free once those of a list are given back, or else taken
-unfoldable pub freeAfter : Bool → List Address → (Address → Bool) → Address → Bool
-freeAfter free l before r = cond (member (sectorNumber layout35 r) (map (sectorNumber layout35) l)) free (before r)
+unfoldable pub freeAfter : Geometry → Bool → List Address → (Address → Bool) → Address → Bool
+freeAfter g free l before r = cond (member (sectorNumber g r) (map (sectorNumber g) l)) free (before r)

@@ -1,17 +1,18 @@
-// The block availability map (document 01's map, 18/0): 35 entries of four bytes, each a count of free sectors and three bitmap bytes, which are
+// The block availability map (document 01's map, 18/0): an entry of four bytes for each track, a count of free sectors and three bitmap bytes, which are
 // one number. In order: one entry; the map by value, changed mark by mark; loaded from its sector and stored back; the same in an image.
 ghost use mathlib.Core.Path.{_≡_};
-ghost use Prim.Native.Nat.{_+_, _≤_, _<_};
+ghost use Prim.Native.Nat.{_+_, _-_, _≤_, _<_};
 ghost use lib.ListN.{length};
 ghost use Rattle.d64spec.specs.Lists.{splice};
-ghost use Rattle.d64spec.specs.Geometry.{layout35, sectorNumber, mapAddress};
+ghost use Rattle.d64spec.specs.Geometry.{sectorNumber, mapAddress};
 ghost use Rattle.d64spec.specs.Image.{disk};
 ghost use Rattle.d64spec.specs.Reply.{writable};
-ghost use Rattle.geometry.specs.Layout.{unpacked};
+ghost use Rattle.geometry.specs.Layout.{geometryOf, unpacked};
 ghost use Rattle.bam.specs.MapEntry.{bitmapOf, ownBits, freeOn, entryFrom, movedEntry};
 ghost use Rattle.bam.specs.Bam.{movedMark};
-ghost use Rattle.bam.specs.MapSector.{fourBytes, mapEntry, mapEntries, storedEntries, allowsWriting};
+ghost use Rattle.bam.specs.MapSector.{RunFits, withRun, storedRun, mapEntries, storedEntries, allowsWriting};
 ghost use Rattle.bam.specs.ImageMaps.{MapWritten};
+use geometry::Layout;
 
 // The three bitmap bytes of an entry as one number: bit s for sector s.
 pub fn bitmap_of(entry: [u8; 4]) -> u32
@@ -22,7 +23,7 @@ pub fn bitmap_of(entry: [u8; 4]) -> u32
 
 // How many bits of a track's entry are its own sectors': as many as it has sectors, and at most 24. How many sectors each track has is lent, from
 // track 1 on; a track that is not in the table has none.
-pub fn own_bits(track: u8, counts: &[u8; 35]) -> u8
+pub fn own_bits(track: u8, counts: &[u8; 40]) -> u8
     ensures { λ r. ⌜ r ≡ ownBits (now (counts .entry)) track ⌝ }
 {
     let sectors = geometry::count_by(counts, track);
@@ -31,7 +32,7 @@ pub fn own_bits(track: u8, counts: &[u8; 35]) -> u8
 
 // How many sectors of a track its entry marks free: the ones of the three bitmap bytes, counted at once, those past the track's last sector masked
 // off (02, §4).
-pub fn count_free(entry: [u8; 4], track: u8, counts: &[u8; 35]) -> u32
+pub fn count_free(entry: [u8; 4], track: u8, counts: &[u8; 40]) -> u32
     ensures { λ r. ⌜ r ≡ freeOn (now (counts .entry)) entry track ⌝ }
 {
     u32::count_ones(bitmap_of(entry) % (1 << own_bits(track, counts)))
@@ -66,14 +67,14 @@ fn moved_entry(entry: [u8; 4], sector: u8, free: bool) -> [u8; 4]
 }
 
 // Marks the sector at a place free and counts it in, or else marks it used and counts it out. Where the map has no such mark, nothing changes.
-pub fn move_mark(map: &mut [[u8; 4]; 35], place: u16, free: bool)
+pub fn move_mark(map: &mut [[u8; 4]; 40], place: u16, free: bool)
     ensures { λ _. ⌜ now (map .exit) ≡ movedMark free (unpacked place) (now (map .entry)) ⌝ }
 {
     let track = (place / 256) as usize;
     if track < 1 {
         return;
     }
-    if 35 < track {
+    if 40 < track {
         return;
     }
     let i = track - 1;
@@ -81,45 +82,45 @@ pub fn move_mark(map: &mut [[u8; 4]; 35], place: u16, free: bool)
     map[i] = moved_entry(entry, (place % 256) as u8, free);
 }
 
-// Four bytes from `at` on, with zeros past the end.
-fn short_entry(bytes: &[u8], at: usize) -> [u8; 4]
-    requires { ⌜ at < 144 ⌝ }
-    ensures { λ r. ⌜ r ≡ fourBytes (now (bytes .entry)) at ⌝ }
+// Loads the entries of the tracks first + 1 to last, which stand behind one another from `at` on.
+fn load_run(map: &mut [[u8; 4]; 40], sector: &[u8], first: usize, last: usize, at: usize)
+    requires { ⌜ RunFits (length (now sector)) first last at ⌝ }
+    ensures { λ _. ⌜ now (map .exit) ≡ withRun (now (sector .entry)) first (last - first) at (now (map .entry)) ⌝ }
 {
-    [
-        parts::byte_at(bytes, at),
-        parts::byte_at(bytes, at + 1),
-        parts::byte_at(bytes, at + 2),
-        parts::byte_at(bytes, at + 3),
-    ]
-}
-
-// The entry of track i + 1 in a map sector.
-fn load_entry(sector: &[u8], i: usize) -> [u8; 4]
-    requires { ⌜ i < 35 ⌝ }
-    ensures { λ r. ⌜ r ≡ mapEntry layout35 (now (sector .entry)) (i + 1) ⌝ }
-{
-    let a = 4 * (i + 1);
-    if a + 4 <= sector.len() {
-        [sector[a], sector[a + 1], sector[a + 2], sector[a + 3]]
-    } else {
-        // a map sector is whole, so that only this one test is made for each of its entries
-        short_entry(sector, a)
-    }
-}
-
-// The map of a map sector. Bytes past the end of a slice that is too short read as 0.
-pub fn load_map(sector: &[u8]) -> [[u8; 4]; 35]
-    ensures { λ r. ⌜ r ≡ mapEntries (now (sector .entry)) ⌝ }
-{
-    let mut map = [[0u8; 4]; 35];
-    let mut i = 0;
-    while i < 35 {
-        let entry = load_entry(sector, i);
-        map[i] = entry;
+    let mut i = first;
+    while i < last {
+        let a = at + 4 * (i - first);
+        map[i] = [sector[a], sector[a + 1], sector[a + 2], sector[a + 3]];
         i += 1;
     }
+}
+
+// The map of a whole map sector.
+fn load_whole(layout: Layout, sector: &[u8]) -> [[u8; 4]; 40]
+    requires { ⌜ length (now sector) ≡ 256 ⌝ }
+    ensures { λ r. ⌜ r ≡ mapEntries (geometryOf layout) (now (sector .entry)) ⌝ }
+{
+    let mut map = [[0u8; 4]; 40];
+    load_run(&mut map, sector, 0, 35, 4);
+    let extra = geometry::extra_entries(layout);
+    if extra != 0 {
+        load_run(&mut map, sector, 35, 40, extra);
+    }
     map
+}
+
+// The map of a map sector: an entry for each track of the layout, and zeros for those that it does not have. Bytes past the end of a slice that is
+// too short read as 0.
+pub fn load_map(layout: Layout, sector: &[u8]) -> [[u8; 4]; 40]
+    ensures { λ r. ⌜ r ≡ mapEntries (geometryOf layout) (now (sector .entry)) ⌝ }
+{
+    if sector.len() == 256 {
+        return load_whole(layout, sector);
+    }
+    // a map sector is whole, so that no test is made for each of its entries
+    let mut whole = [0u8; 256];
+    parts::overwrite(&mut whole, 0, parts::clipped(sector, 0, 256));
+    load_whole(layout, &whole)
 }
 
 // Puts an entry's four bytes at `at`.
@@ -133,17 +134,29 @@ fn store_entry(entry: [u8; 4], sector: &mut [u8], at: usize)
     sector[at + 3] = entry[3];
 }
 
-// Puts the map into a map sector, at bytes 4 to 143; no other byte changes. A slice of fewer than 144 bytes is left as it is.
-pub fn store_map(map: [[u8; 4]; 35], sector: &mut [u8])
-    ensures { λ r. ⌜ now (sector .exit) ≡ storedEntries map (now (sector .entry)) ⌝ }
+// Puts the entries of the tracks first + 1 to last behind one another, from `at` on.
+fn store_run(map: &[[u8; 4]; 40], sector: &mut [u8], first: usize, last: usize, at: usize)
+    requires { ⌜ RunFits (length (now sector)) first last at ⌝ }
+    ensures { λ _. ⌜ now (sector .exit) ≡ storedRun (now (map .entry)) first (last - first) at (now (sector .entry)) ⌝ }
 {
-    if sector.len() < 144 {
+    let mut i = first;
+    while i < last {
+        store_entry(map[i], sector, at + 4 * (i - first));
+        i += 1;
+    }
+}
+
+// Puts the map into a map sector, each entry of the layout at its place; no other byte changes. A slice that is not 256 bytes long is left as it is.
+pub fn store_map(layout: Layout, map: &[[u8; 4]; 40], sector: &mut [u8])
+    ensures { λ r. ⌜ now (sector .exit) ≡ storedEntries (geometryOf layout) (now (map .entry)) (now (sector .entry)) ⌝ }
+{
+    if sector.len() != 256 {
         return;
     }
-    let mut i = 0;
-    while i < 35 {
-        store_entry(map[i], sector, 4 * (i + 1));
-        i += 1;
+    store_run(map, sector, 0, 35, 4);
+    let extra = geometry::extra_entries(layout);
+    if extra != 0 {
+        store_run(map, sector, 35, 40, extra);
     }
 }
 
@@ -158,29 +171,29 @@ fn allows_writing(sector: &[u8]) -> bool
     version == 0
 }
 
-// The number of 18/0.
+// The number of 18/0, in every layout.
 const MAP_SECTOR: usize = 357;
 
 // The map of an image, by value.
-pub fn map_of(img: &[u8]) -> [[u8; 4]; 35]
-    ensures { λ r. ⌜ r ≡ mapEntries (disk (now (img .entry)) (sectorNumber layout35 mapAddress)) ⌝ }
+pub fn map_of(layout: Layout, img: &[u8]) -> [[u8; 4]; 40]
+    ensures { λ r. ⌜ r ≡ mapEntries (geometryOf layout) (disk (now (img .entry)) (sectorNumber (geometryOf layout) mapAddress)) ⌝ }
 {
-    load_map(sectors::sector(img, MAP_SECTOR))
+    load_map(layout, sectors::sector(img, MAP_SECTOR))
 }
 
 // Whether the DOS version of an image allows writing: $41 or $00.
-pub fn may_write(img: &[u8]) -> bool
-    ensures { λ r. ⌜ r ≡ writable layout35 (disk (now (img .entry))) ⌝ }
+pub fn may_write(layout: Layout, img: &[u8]) -> bool
+    ensures { λ r. ⌜ r ≡ writable (geometryOf layout) (disk (now (img .entry))) ⌝ }
 {
     allows_writing(sectors::sector(img, MAP_SECTOR))
 }
 
-// Puts the map into 18/0; no byte outside its 35 entries changes. An image that does not have 18/0 whole is left as it is.
-pub fn write_map(img: &mut [u8], map: [[u8; 4]; 35])
-    ensures { λ _. ⌜ MapWritten (now (img .entry)) map (now (img .exit)) ⌝ }
+// Puts the map into 18/0; no byte outside the layout's entries changes. An image that does not have 18/0 whole is left as it is.
+pub fn write_map(layout: Layout, img: &mut [u8], map: &[[u8; 4]; 40])
+    ensures { λ _. ⌜ MapWritten (geometryOf layout) (now (img .entry)) (now (map .entry)) (now (img .exit)) ⌝ }
 {
     if img.len() < 91648 {
         return;
     }
-    store_map(map, &mut img[91392..91648]);
+    store_map(layout, map, &mut img[91392..91648]);
 }

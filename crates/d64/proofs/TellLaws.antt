@@ -13,7 +13,7 @@ use borrow.Author.Tests.{le-leb, lt-leb}
 use Rattle.d64spec.specs.Lists.{Bytes, range, splice}
 use Rattle.d64spec.specs.Answers.{unplaced, answerOf, wrongBuffer, Result, refused, done, _>>=_, _>>_, need}
 use Rattle.d64spec.specs.Answers as answer
-use Rattle.d64spec.specs.Geometry.{layout35}
+use Rattle.d64spec.specs.Geometry.{Geometry}
 use Rattle.d64spec.specs.Reply.{Change, unchanged, Reply, reply}
 use Rattle.d64spec.specs.Read.{FileInformation as Information, TellReply, callTell, tellReply}
 use Rattle.d64spec.specs.Host.{littleEndian}
@@ -35,7 +35,8 @@ use Rattle.d64.specs.HostCalls.{entryAfter, EntryGiven}
 
 -- sixteen bytes, one by one
 sixteen : (l : Bytes) → length l ≡ 16 → map (λ i. getD l i 0) (range 0 16) ≡ l
-sixteen l full = ext-getD 0 (map (λ i. getD l i 0) (range 0 16)) l (sym full) (λ i h. getD-map-range (λ i. getD l i 0) 0 16 i 0 h ∙ ap (λ k. getD l k 0) (zero-add i))
+sixteen l full = ext-getD 0 (map (λ i. getD l i 0) (range 0 16)) l (sym full)
+    (λ i h. getD-map-range (λ i. getD l i 0) 0 16 i 0 h ∙ ap (λ k. getD l k 0) (zero-add i))
 
 -- the 25 bytes as the code has them: the name byte by byte, each byte of a number from the whole number
 pub entry-bytes-of : (i : Information) → length (i .nameBytes) ≡ 16 → _≡_ {A = Bytes}
@@ -61,7 +62,8 @@ unfolding verdictOf faultOf entryAfter
 given-short bs entry is short = record { verdict = rw (is, lt-leb (length bs) (length entry) short); filled = refl }
 
 -- the bytes copied to the start of the entry
-pub given-filled : {v : Verdict} (bs entry entry′ : Bytes) → v ≡ Fine → length bs ≤ length entry → entry′ ≡ take (length bs) bs ++ drop (length bs) entry → EntryGiven v bs entry Fine entry′
+pub given-filled : {v : Verdict} (bs entry entry′ : Bytes) → v ≡ Fine → length bs ≤ length entry → entry′ ≡ take (length bs) bs ++ drop (length bs) entry
+    → EntryGiven v bs entry Fine entry′
 unfolding verdictOf entryAfter
 given-filled bs entry entry′ is fits copied =
     record {
@@ -73,7 +75,8 @@ given-filled bs entry entry′ is fits copied =
 
 -- no refusal has the answer 0
 refused-is-not-done : {A : Type 0} (f : answer.Fault) → answerOf f ≡ unplaced 0 → A
-refused-is-not-done f e = absurd (let h : answerOf f .number ≡ suc (fault-number f .0) = fault-number f .1 in omega (arith, ap (λ (a : answer.Answer). a .number) e))
+refused-is-not-done f e = absurd (let h : answerOf f .number ≡ suc (fault-number f .0) = fault-number f .1 in
+    omega (arith, ap (λ (a : answer.Answer). a .number) e))
 
 module _ (img : Bytes) (entry : Bytes) where
   -- the change of a tell that is done
@@ -85,7 +88,8 @@ module _ (img : Bytes) (entry : Bytes) where
   verdictReply bs w = record { answer = answerTo w; change = record { imageAfter = img; outputAfter = entryAfter bs entry w; reportedLength = 0; reportedSectors = 0 } }
 
   -- what was told, then the length of the entry: the same refusals in the same order
-  told-then : (bs : Bytes) (fits : Bool) (w : Result (Unit {0})) (x : Result Information) → answerTo w ≡ tellReply x .answer → bs ≡ entryBytes (tellReply x .information)
+  told-then : (bs : Bytes) (fits : Bool) (w : Result (Unit {0})) (x : Result Information) → answerTo w ≡ tellReply x .answer
+      → bs ≡ entryBytes (tellReply x .information)
       → verdictReply bs (w >> need fits wrongBuffer) ≡ reply img entry (x >>= (λ i. need fits wrongBuffer >> done (filledWith (entryBytes i))))
   unfolding answerTo tellReply reply entryAfter
   told-then bs fits (refused f) (refused f′) answered built = ap (λ a. record { answer = a; change = unchanged img entry }) answered
@@ -95,10 +99,13 @@ module _ (img : Bytes) (entry : Bytes) where
   told-then bs true (done u) (done i) answered built = ap (λ b. record { answer = unplaced 0; change = filledWith b }) built
 
   -- what was told, given to the entry and reported with 0 and 0, is the reply to the tell
-  pub tell-replied : (position : ℕ) (t : Told) (bs : Bytes) (v : Verdict) (entry′ : Bytes) (report : Report) → tellReplyOf t ≡ tellReply (callTell layout35 img position)
-      → length bs ≡ 25 → bs ≡ entryBytes (informationOf (t .information)) → EntryGiven (t .verdict) bs entry v entry′ → report ≡ record { verdict = v; length = 0; sectors = 0 }
-      → replyOf report img entry′ ≡ reply img entry (tellInto layout35 img position entry)
+  pub tell-replied : (g : Geometry) (position : ℕ) (t : Told) (bs : Bytes) (v : Verdict) (entry′ : Bytes) (report : Report)
+      → tellReplyOf t ≡ tellReply (callTell g img position)
+      → length bs ≡ 25 → bs ≡ entryBytes (informationOf (t .information)) → EntryGiven (t .verdict) bs entry v entry′
+      → report ≡ record { verdict = v; length = 0; sectors = 0 }
+      → replyOf report img entry′ ≡ reply img entry (tellInto g img position entry)
   unfolding tellInto
-  tell-replied position t bs v entry′ report replied size built given reported =
+  tell-replied g position t bs v entry′ report replied size built given reported =
       rw (reported, given .filled, given .verdict, size)
-      (told-then bs (leb 25 (length entry)) (verdictOf (t .verdict)) (callTell layout35 img position) (ap (λ (r : TellReply). r .answer) replied) (built ∙ ap (λ (r : TellReply). entryBytes (r .information)) replied))
+      (told-then bs (leb 25 (length entry)) (verdictOf (t .verdict)) (callTell g img position) (ap (λ (r : TellReply). r .answer) replied)
+      (built ∙ ap (λ (r : TellReply). entryBytes (r .information)) replied))

@@ -16,13 +16,13 @@ use Rattle.d64spec.specs.Accepted.{Accepted}
 use Rattle.d64spec.specs.Reply.{Change, changed}
 use Rattle.d64spec.specs.Store.{SlotPlace, callStore, newEntry, placement, sectorsNeeded, slotPlaceFor, storedDisk, writeChain, writeSlot}
 use Rattle.d64spec.specs.Scratch.{callScratch, scratchChange, scratchedDisk}
-use Rattle.d64spec.specs.Changes.{OtherBits, ScratchWrites, ScratchedBytes, StoreWrites, StoredBytes, addedSectors}
+use Rattle.d64spec.specs.Changes.{OtherBits, OutsideKept, ScratchWrites, ScratchedBytes, StoreWrites, StoredBytes, addedSectors}
 use Rattle.d64spec.proofs.ResultLaws.{done-inj}
 use Rattle.d64spec.proofs.CallLaws.{ScratchDone, StoreDone, scratch-done, store-done}
 use Rattle.d64spec.proofs.FrameLaws.{Sound}
 use Rattle.d64spec.proofs.ImageLaws.{Whole, disk-whole}
 use Rattle.d64spec.proofs.MapBytes.{Prepared}
-use Rattle.d64spec.proofs.OtherBytes.{after-disk, after-size, after-map, after-bits, after-rest}
+use Rattle.d64spec.proofs.OtherBytes.{after-disk, after-size, after-map, after-bits, after-outside, after-rest}
 use Rattle.d64spec.proofs.ScratchLaws.{OccupiedSlot, d2, prepared2, rest2}
 use Rattle.d64spec.proofs.ScratchedLaws.{scratch-cleared, scratch-slot}
 use Rattle.d64spec.proofs.ScratchStep.{Found, found, scratch-finds, sound-of}
@@ -41,6 +41,15 @@ slot-bits g v img a o =
     let w : Whole g d = disk-whole g img (a .size) in
     let s : Sound g d = sound-of g d (a .content) in
     after-bits g v img a (d2 g v d w s o) (fileOf g d (o .slot) .sectors) (prepared2 g v d w s o)
+
+slot-outside : (g : Geometry) (v : Valid g) (img : Bytes) (a : Accepted g img) (o : OccupiedSlot g (disk img))
+    → OutsideKept g (disk img) (disk (image g (scratchedDisk g (disk img) (fileOf g (disk img) (o .slot)))))
+unfolding scratchedDisk fileOf
+slot-outside g v img a o =
+    let d : Disk = disk img in
+    let w : Whole g d = disk-whole g img (a .size) in
+    let s : Sound g d = sound-of g d (a .content) in
+    after-outside g v img a (d2 g v d w s o) (fileOf g d (o .slot) .sectors) (prepared2 g v d w s o)
 
 scratched-slot : (g : Geometry) (v : Valid g) (img : Bytes) (a : Accepted g img) → ((k : ℕ) → byte img k < 256) → (o : OccupiedSlot g (disk img))
     → ScratchedBytes g img (fileOf g (disk img) (o .slot)) (image g (scratchedDisk g (disk img) (fileOf g (disk img) (o .slot))))
@@ -96,6 +105,15 @@ scratched-file g img name ch e =
     let h : ScratchDone g img name ch = scratch-done g img name ch e in
     (h .file, scratch-finds h .0, sym (scratch-finds h .1))
 
+-- THE BYTES OF 18/0 THAT ARE IN NO MAP ENTRY of the layout are as they were (02, §8)
+pub scratched-outside : (g : Geometry) → Valid g → (img : Bytes) → Accepted g img → (name : Bytes) (ch : Change) → callScratch g img name ≡ done ch
+    → OutsideKept g (disk img) (disk (ch .imageAfter))
+scratched-outside g v img a name ch e =
+    let k = scratched-file g img name ch e in
+    let o : Found g (disk img) (k .0) = found g (disk img) (k .0) (k .1) in
+    rw (scratch-change g img a name ch e (k .0) (k .1) (k .2))
+    (subst (λ (x : File). OutsideKept g (disk img) (disk (image g (scratchedDisk g (disk img) x)))) (o .is) (slot-outside g v img a (o .place)))
+
 -- ---- store
 
 module _ (g : Geometry) (img name : Bytes) (kind : ℕ) (bs : Bytes) (ch : Change) (e : callStore g img name kind bs ≡ done ch) (place : SlotPlace) (r : Address) (l : List Address)
@@ -129,6 +147,11 @@ module _ (g : Geometry) (img name : Bytes) (kind : ℕ) (bs : Bytes) (ch : Chang
     pub stored-bits : OtherBits g (addedSectors place ++ r ∷ l) (disk img) (disk (ch .imageAfter))
     unfolding storedDisk
     stored-bits = rw store-change (after-bits g v img a e2 (addedSectors place ++ r ∷ l) (leaves .prepared))
+
+    -- THE BYTES OF 18/0 THAT ARE IN NO MAP ENTRY of the layout are as they were (02, §8)
+    pub stored-outside : OutsideKept g (disk img) (disk (ch .imageAfter))
+    unfolding storedDisk
+    stored-outside = rw store-change (after-outside g v img a e2 (addedSectors place ++ r ∷ l) (leaves .prepared))
 
     stored-place : ((k : ℕ) → byte img k < 256) → StoredBytes g img place r l name kind bs (image g (storedDisk g (disk img) place (r ∷ l) name kind bs))
     unfolding storedDisk

@@ -23,7 +23,7 @@ use Rattle.d64spec.specs.Listing.{bytesOfTrack18, callListing, digit, di
 use Rattle.d64spec.specs.Host.{answerBlock, hostCall}
 use Rattle.d64spec.specs.Run.{run}
 use Rattle.d64spec.specs.Trial.{afterCall, answerBytes, entryOn19, fieldsOf, freshImage, headOfD, imageWithA, imageWithAB, imageWithEight, lent, lentBlock, nameA, nameB, requests, sent, smallLayout, withEnds}
-use Rattle.d64spec.specs.Edges.{answersAt, bitmaps, dirtyHole, faultsAt, filledHole, firstAndLast, formatted180, holeFilled, houseNumbers, longerNumbers, manyFree, name16, onTrack18, sameBitmaps, sent600, shownFaults, writtenPart, wrongTracks}
+use Rattle.d64spec.specs.Edges.{answersAt, bitmaps, dirtyHole, faultsAt, filledHole, firstAndLast, formatted180, formatted180With, holeFilled, houseNumbers, longerNumbers, manyFree, name16, onTrack18, sameBitmaps, sent600, shownFaults, writtenPart, wrongTracks}
 use Rattle.d64spec.specs.SpareBits.{brokenEntries, entriesAfter, entryHolds, spareDisk, spareEight, spareFull, zoneRows}
 use Rattle.d64spec.specs.MapPlace.{brokenPlaces, eachNamed, namedAlone, placeHolds, placeRows}
 use Rattle.d64spec.specs.Retired.{numbers, prgC, retiring, sparing, usrA, usrB, usrDisk, usrLines}
@@ -83,7 +83,7 @@ alone-are = refl
 
 -- EVERY BYTE OF 18/0 after a format
 pub formatted-180 : formattedDisk layout35 name16 0xFF 0x80 357 ≡ formatted180
-unfolding formatted180 formattedDisk formattedMap formatHeader freeAfterFormat padded expectedEntry expectedBit bitmapByte binary mapBit bitOf ascending sectorNumber firstOn sectorsOn tracks put layout35
+unfolding formatted180With formattedDisk formattedMap formatHeader freeAfterFormat padded expectedEntry expectedBit bitmapByte binary mapBit bitOf ascending sectorNumber firstOn sectorsOn tracks put layout35
 formatted-180 = refl
 
 -- ---- calls on the small disk

@@ -1,18 +1,19 @@
--- A formatted disk has the bytes that document 01 lists, and is ready for use (01, Format). For 35 tracks, document 01's two numbers by computation.
+-- A formatted disk has the bytes that document 01 lists, and is ready for use (01, Format). The papers' numbers, for the layout of a number: 664 or 749 free.
 use Prim.Native.Nat.{ℕ, zero, suc, _+_, _-_, _/_, _%_, _≤_, _<_}
 use native.Mathlib.Omega.{arith}
 use native.Mathlib.Decide.{decLe}
 use mathlib.Core.Path.{_≡_, refl, sym, ap, ap₂, _∙_, fun-ext}
-use mathlib.Core.Bool.{Bool, false, cond}
+use mathlib.Core.Bool.{Bool, true, false, cond, not}
 use mathlib.Core.Logic.{_⊎_, inl, inr, ⊎-elim, _↔_}
-use mathlib.Core.List.{[], _∷_, _++_}
+use mathlib.Core.List.{[], _∷_, _++_, map}
 use lib.ListN.{List·getD-append, length-replicate, length, take, drop, length-take, length-drop}
 use lib.Seq.{take-at, drop-at, drop-drop, ext-getD, getD-take, getD-drop}
 use lib.Dec.{eqb, ltb}
 use borrow.Author.Tests.{eq-eqb, ltb-true, ne-eqb}
-use Rattle.d64spec.specs.Lists.{Bytes, ascending, byte, descending, filter, indicator, part, zeros}
+use Rattle.d64spec.specs.Lists.{All, Bytes, byte, count, filter, indicator, member, part, zeros}
 use Rattle.d64spec.specs.Answers.{Address, address, done}
-use Rattle.d64spec.specs.Geometry.{Geometry, Valid, allocationOrder, allocationTracks, directoryStart, firstOn, layout35, mapAddress, onDisk, sectorNumber, sectorsOfTrack, sectorsOn, total, tracks}
+use Rattle.d64spec.specs.Geometry.{Geometry, Valid, allocationOrder, directoryStart, firstOn, layout35, layout40, mapAddress, onDisk, sectorNumber, sectorsOfTrack, sectorsOn, total, tracks}
+use Rattle.d64spec.specs.Layouts.{Known, layoutNumbered, sizesOf}
 use Rattle.d64spec.specs.Image.{Disk, disk}
 use Rattle.d64spec.specs.Directory.{padded}
 use Rattle.d64spec.specs.Owner.{claimCount, freeForDirectory, freeForFiles, isFree}
@@ -22,17 +23,19 @@ use Rattle.d64spec.specs.Reply.{Change}
 use Rattle.d64spec.specs.Format.{callFormat, emptyDirectorySector, freeAfterFormat}
 use Rattle.d64spec.specs.Call.{attempt, format, outputBuffer, perform}
 use Rattle.d64spec.specs.Facts.{Formatted, FormattedMap}
+use Rattle.d64spec.proofs.ListLaws.{filter-all}
+use Rattle.d64spec.proofs.FrameLaws.{all-of-count}
 use Rattle.d64spec.proofs.BitLaws.{zero-bit}
 use Rattle.d64spec.proofs.BoundLaws.{sectorNumber-lt, map-on}
 use Rattle.d64spec.proofs.SpliceLaws.{part-same}
 use Rattle.d64spec.proofs.ImageLaws.{Whole}
 use Rattle.d64spec.proofs.MapWriteLaws.{entry-length, expected-entry-same, rewrite-accepted, rewrite-claims, rewrite-holds, rewrite-other, rewrite-past, rewrite-whole}
-use Rattle.d64spec.proofs.AllocationLaws.{one-track}
+use Rattle.d64spec.proofs.AllocationLaws.{one-track, order-18}
 use Rattle.d64spec.proofs.FormatLaws.{blankDisk, blank-claims, blank-dir, blank-map, blank-other, blank-sound, blank-whole, free-same, header, padded-length}
 use Rattle.d64spec.proofs.FormatReady.{formatted-disk, format-ready}
 use Rattle.d64spec.proofs.MapBytes.{map-other}
 use Rattle.d64spec.proofs.RefusalLaws.{zero-change}
-use Rattle.d64spec.proofs.RunTheorem.{valid35}
+use Rattle.d64spec.proofs.LayoutLaws.{by-number, known, order-in}
 
 -- ---- the header, by its offsets
 
@@ -89,13 +92,15 @@ module _ (g : Geometry) (v : Valid g) (name : Bytes) (i j : ℕ) (short : length
 
   -- a byte in no map entry is the header's
   map-byte : (k : ℕ) → ((t : ℕ) → 1 ≤ t → t ≤ tracks g → (k < g .mapAt t) ⊎ (g .mapAt t + 4 ≤ k)) → byte m k ≡ byte (header name i j) k
-  map-byte k h = map-other g v (blankDisk g name i j) (blank-whole g v name i j short .full (sectorNumber g mapAddress) map-below) k h ∙ ap (λ (x : Bytes). byte x k) (blank-map g name i j)
+  map-byte k h = map-other g v (blankDisk g name i j) (blank-whole g v name i j short .full (sectorNumber g mapAddress) map-below) k h
+      ∙ ap (λ (x : Bytes). byte x k) (blank-map g name i j)
 
   -- and so is a part before or behind them
   map-part : (k n : ℕ) → ((t : ℕ) → 1 ≤ t → t ≤ tracks g → (k + n ≤ g .mapAt t) ⊎ (g .mapAt t + 4 ≤ k)) → take n (drop k m) ≡ take n (drop k (header name i j))
   map-part k n h =
       part-same m (header name i j) k n
-      (whole .full (sectorNumber g mapAddress) map-below ∙ sym (ap length (sym (blank-map g name i j)) ∙ blank-whole g v name i j short .full (sectorNumber g mapAddress) map-below))
+      (whole .full (sectorNumber g mapAddress) map-below ∙ sym
+      (ap length (sym (blank-map g name i j)) ∙ blank-whole g v name i j short .full (sectorNumber g mapAddress) map-below))
       (λ x l u. map-byte x (λ t a b. ⊎-elim (λ c. inl (omega arith)) (λ c. inr (omega arith)) (h t a b)))
 
   -- a part from $90 to $AA
@@ -128,10 +133,12 @@ module _ (g : Geometry) (v : Valid g) (name : Bytes) (i j : ℕ) (short : length
       let e : Bytes = expectedEntry g (isFree g (blankDisk g name i j)) old t in
       let p : Bytes = take 4 (drop (g .mapAt t) m) in
       let n : g .mapAt t + 3 + 1 - g .mapAt t ≡ 4 = omega arith in
-      let size : length p ≡ 4 = length-take 4 (drop (g .mapAt t) m) ∙ omega (arith, length-drop (g .mapAt t) m, whole .full (sectorNumber g mapAddress) map-below, v .mapFits t l h) in
+      let size : length p ≡ 4 = length-take 4 (drop (g .mapAt t) m)
+      ∙ omega (arith, length-drop (g .mapAt t) m, whole .full (sectorNumber g mapAddress) map-below, v .mapFits t l h) in
       ap (λ (k : ℕ). take k (drop (g .mapAt t) m)) n
       ∙ ext-getD 0 p e (size ∙ sym (entry-length g v (isFree g (blankDisk g name i j)) old t))
-      (λ k b. getD-take 4 (drop (g .mapAt t) m) k 0 (omega arith) ∙ getD-drop (g .mapAt t) m k 0 ∙ rewrite-holds g v (blankDisk g name i j) (blank-whole g v name i j short) (blank-sound g v name i j short) t l h k (omega arith))
+      (λ k b. getD-take 4 (drop (g .mapAt t) m) k 0 (omega arith) ∙ getD-drop (g .mapAt t) m k 0
+      ∙ rewrite-holds g v (blankDisk g name i j) (blank-whole g v name i j short) (blank-sound g v name i j short) t l h k (omega arith))
       ∙ ap₂ (λ (f : Address → Bool) (x : Bytes). expectedEntry g f x t) (sym (free-same g v name i j short)) (blank-map g name i j) ∙ fresh-entry t l h
 
   claims : (n : ℕ) → claimCount g d n ≡ indicator (eqb n (sectorNumber g mapAddress)) + indicator (eqb n (sectorNumber g directoryStart))
@@ -141,7 +148,8 @@ module _ (g : Geometry) (v : Valid g) (name : Bytes) (i j : ℕ) (short : length
   same-place : (t s x : ℕ) → s < sectorsOn g t → x < sectorsOn g 18 → sectorNumber g (address t s) ≡ sectorNumber g (address 18 x) → (t ≡ 18) × (s ≡ x)
   unfolding sectorNumber
   same-place t s x b c e =
-      let z : t ≡ 18 = one-track g t 18 (firstOn g t + s) (record { low = omega arith; high = omega arith }) (record { low = omega arith; high = omega arith }) in
+      let z : t ≡ 18 = one-track g t 18 (firstOn g t + s) (record { low = omega arith; high = omega arith })
+      (record { low = omega arith; high = omega arith }) in
       (z, let y : firstOn g t ≡ firstOn g 18 = ap (firstOn g) z in omega arith)
 
   map-free : (t s : ℕ) → 1 ≤ t → t ≤ tracks g → s < sectorsOn g t → (mapBit g m t s ≡ 1) ↔ ((t ≡ 18) × (s ≤ 1) → ⊥)
@@ -150,8 +158,10 @@ module _ (g : Geometry) (v : Valid g) (name : Bytes) (i j : ℕ) (short : length
     (λ e w.
         let o : claimCount g d n ≡ 0 = mark .0 e in
         elim (decLe 1 s) [
-          | yes k ↦ let z : indicator (eqb n (sectorNumber g directoryStart)) ≡ 1 = rw (eq-eqb n (sectorNumber g directoryStart) (same w 1 (omega arith))) in omega (arith, claims n)
-          | no k ↦ let z : indicator (eqb n (sectorNumber g mapAddress)) ≡ 1 = rw (eq-eqb n (sectorNumber g mapAddress) (same w 0 (omega arith))) in omega (arith, claims n)
+          | yes k ↦ let z : indicator (eqb n (sectorNumber g directoryStart)) ≡ 1 = rw (eq-eqb n (sectorNumber g directoryStart) (same w 1 (omega arith))) in
+              omega (arith, claims n)
+          | no k ↦ let z : indicator (eqb n (sectorNumber g mapAddress)) ≡ 1 = rw (eq-eqb n (sectorNumber g mapAddress) (same w 0 (omega arith))) in
+              omega (arith, claims n)
         ]),
     (λ w. mark .1 (claims n ∙ (rw (apart 0 (omega arith) w (omega (arith, big)), apart 1 (omega arith) w big)))),
   )
@@ -200,7 +210,8 @@ module _ (g : Geometry) (v : Valid g) (name : Bytes) (i j : ℕ) (short : length
   -- the sectors that are free
   formatted-isFree : _≡_ {A = Address → Bool} (isFree g d) (freeAfterFormat g)
   formatted-isFree =
-      fun-ext (λ r. ap (λ (k : ℕ). eqb k 0) (rewrite-claims g v (blankDisk g name i j) (blank-whole g v name i j short) (blank-sound g v name i j short) (sectorNumber g r)))
+      fun-ext (λ r. ap (λ (k : ℕ). eqb k 0) (rewrite-claims g v (blankDisk g name i j) (blank-whole g v name i j short) (blank-sound g v name i j short)
+      (sectorNumber g r)))
       ∙ sym (free-same g v name i j short)
 
   -- off track 18, and on it
@@ -226,41 +237,71 @@ format-bytes g v img name id1 id2 ch e =
       ready = r;
     }
 
--- ---- 35 tracks
-
 -- the image after a format answered 0
-pub format-bytes35 : (img name : Bytes) (id1 id2 : ℕ) → perform layout35 img (format name id1 id2) .answer .number ≡ 0 → Formatted layout35 name id1 id2 (perform layout35 img (format name id1 id2) .change .imageAfter)
+pub format-answered : (g : Geometry) → Valid g → (img name : Bytes) (id1 id2 : ℕ) → perform g img (format name id1 id2) .answer .number ≡ 0
+    → Formatted g name id1 id2 (perform g img (format name id1 id2) .change .imageAfter)
 unfolding perform attempt outputBuffer
-format-bytes35 img name id1 id2 e =
-    format-bytes layout35 valid35 img name id1 id2 (perform layout35 img (format name id1 id2) .change)
-    (zero-change img [] (callFormat layout35 img name id1 id2) e)
+format-answered g v img name id1 id2 e =
+    format-bytes g v img name id1 id2 (perform g img (format name id1 id2) .change) (zero-change img [] (callFormat g img name id1 id2) e)
 
-entry18 : expectedEntry layout35 (freeAfterFormat layout35) (zeros 256) 18 ≡ 0x11 ∷ 0xFC ∷ 0xFF ∷ 0x07 ∷ []
-unfolding expectedEntry expectedBit bitmapByte binary mapBit bitOf freeAfterFormat layout35 sectorsOn sectorNumber firstOn
-entry18 = refl
+-- ---- in the layout of a number
 
-free664 : length (filter (freeAfterFormat layout35) (allocationOrder layout35)) ≡ 664
-unfolding allocationOrder allocationTracks ascending descending sectorsOfTrack tracks freeAfterFormat layout35 sectorsOn sectorNumber firstOn
-free664 = refl
+-- no sector of house order is 18/0 or 18/1, so that all of them are free
+order-free : (g : Geometry) → Valid g → All (λ r. freeAfterFormat g r ≡ true) (allocationOrder g)
+unfolding freeAfterFormat sectorNumber onDisk
+order-free g v = all-of-count g (λ m. not (member m (sectorNumber g mapAddress ∷ sectorNumber g directoryStart ∷ [])) ≡ true) (allocationOrder g) (λ m h.
+    rw (ne-eqb m (sectorNumber g mapAddress) (apart m h 0 (omega arith)), ne-eqb m (sectorNumber g directoryStart) (apart m h 1 (omega arith))) refl)
+  where
+    big : 1 < sectorsOn g 18
+    big = ltb-true 1 (sectorsOn g 18) (v .directory)
 
--- track 18's entry, at 4 * 18, is 11 FC FF 07 (01, Examples)
-pub format-entry18 : (img name : Bytes) (id1 id2 : ℕ) (ch : Change) → callFormat layout35 img name id1 id2 ≡ done ch
-    → part 0x48 0x4B (disk (ch .imageAfter) (sectorNumber layout35 mapAddress)) ≡ 0x11 ∷ 0xFC ∷ 0xFF ∷ 0x07 ∷ []
-unfolding layout35 tracks
-format-entry18 img name id1 id2 ch e = format-bytes layout35 valid35 img name id1 id2 ch e .map .entry 18 (omega arith) (omega arith) ∙ entry18
+    apart : (m : ℕ) → 0 < count m (map (sectorNumber g) (allocationOrder g)) → (x : ℕ) → x ≤ 1 → m ≡ firstOn g 18 + x → ⊥
+    apart m h x u e = omega (arith, order-18 g m (record { low = omega arith; high = omega (arith, big) }))
 
--- 664 sectors off track 18 are free (01, Examples)
-pub format-free664 : (img name : Bytes) (id1 id2 : ℕ) (ch : Change) → callFormat layout35 img name id1 id2 ≡ done ch → length (freeForFiles layout35 (disk (ch .imageAfter))) ≡ 664
-format-free664 img name id1 id2 ch e =
-    let z = formatted-disk layout35 valid35 img name id1 id2 ch e in
-    rw (z .1) (ap length (formatted-free layout35 valid35 name id1 id2 (z .0)) ∙ free664)
-
-free17 : length (filter (freeAfterFormat layout35) (sectorsOfTrack layout35 18)) ≡ 17
+-- track 18: the sectors that are free, and the entry
+free35 : length (filter (freeAfterFormat layout35) (sectorsOfTrack layout35 18)) ≡ 17
 unfolding sectorsOfTrack freeAfterFormat layout35 sectorsOn sectorNumber firstOn
-free17 = refl
+free35 = refl
 
--- 17 sectors of track 18 are free
-pub format-free17 : (img name : Bytes) (id1 id2 : ℕ) (ch : Change) → callFormat layout35 img name id1 id2 ≡ done ch → length (freeForDirectory layout35 (disk (ch .imageAfter))) ≡ 17
-format-free17 img name id1 id2 ch e =
-    let z = formatted-disk layout35 valid35 img name id1 id2 ch e in
-    rw (z .1) (ap length (formatted-free18 layout35 valid35 name id1 id2 (z .0)) ∙ free17)
+free40 : (extra : ℕ) → length (filter (freeAfterFormat (layout40 extra)) (sectorsOfTrack (layout40 extra) 18)) ≡ 17
+unfolding sectorsOfTrack freeAfterFormat layout40 sectorsOn sectorNumber firstOn
+free40 extra = refl
+
+-- the entry of track t stands where the layout has it, and is the one of a formatted disk
+abbrev Stands : Geometry → Bytes → ℕ → Type 0
+Stands g m t = part (g .mapAt t) (g .mapAt t + 3) m ≡ expectedEntry g (freeAfterFormat g) (zeros 256) t
+
+entry35 : (m : Bytes) → Stands layout35 m 18 → part 0x48 0x4B m ≡ 0x11 ∷ 0xFC ∷ 0xFF ∷ 0x07 ∷ []
+unfolding expectedEntry expectedBit bitmapByte binary mapBit bitOf freeAfterFormat layout35 sectorsOn sectorNumber firstOn
+entry35 m h = h
+
+entry40 : (extra : ℕ) (m : Bytes) → Stands (layout40 extra) m 18 → part 0x48 0x4B m ≡ 0x11 ∷ 0xFC ∷ 0xFF ∷ 0x07 ∷ []
+unfolding expectedEntry expectedBit bitmapByte binary mapBit bitOf freeAfterFormat layout40 sectorsOn sectorNumber firstOn
+entry40 extra m h = h
+
+module _ (n : ℕ) (g : Geometry) (named : layoutNumbered n ≡ done g) where
+  -- 664 sectors off track 18 are free with 35 tracks, and 749 with 40 (01, Examples; 02, §8)
+  pub format-free : (img name : Bytes) (id1 id2 : ℕ) (ch : Change) → callFormat g img name id1 id2 ≡ done ch
+      → length (freeForFiles g (disk (ch .imageAfter))) ≡ sizesOf n .freeSectors
+  format-free img name id1 id2 ch e =
+      let v : Valid g = known n g named .valid in
+      let z = formatted-disk g v img name id1 id2 ch e in
+      rw (z .1) (ap length (formatted-free g v name id1 id2 (z .0) ∙ filter-all (freeAfterFormat g) (allocationOrder g) (order-free g v)) ∙ order-in n g named)
+
+  -- 17 sectors of track 18 are free
+  pub format-free17 : (img name : Bytes) (id1 id2 : ℕ) (ch : Change) → callFormat g img name id1 id2 ≡ done ch
+      → length (freeForDirectory g (disk (ch .imageAfter))) ≡ 17
+  format-free17 img name id1 id2 ch e =
+      let v : Valid g = known n g named .valid in
+      let z = formatted-disk g v img name id1 id2 ch e in
+      rw (z .1) (ap length (formatted-free18 g v name id1 id2 (z .0))
+      ∙ by-number (λ m x. length (filter (freeAfterFormat x) (sectorsOfTrack x 18)) ≡ 17) free35 (λ m extra l h. free40 extra) n g named)
+
+  -- track 18's entry, at 4 * 18, is 11 FC FF 07 (01, Examples)
+  pub format-entry18 : (img name : Bytes) (id1 id2 : ℕ) (ch : Change) → callFormat g img name id1 id2 ≡ done ch
+      → part 0x48 0x4B (disk (ch .imageAfter) (sectorNumber g mapAddress)) ≡ 0x11 ∷ 0xFC ∷ 0xFF ∷ 0x07 ∷ []
+  format-entry18 img name id1 id2 ch e =
+      let k : Known g = known n g named in
+      by-number (λ i x. (m : Bytes) → Stands x m 18 → part 0x48 0x4B m ≡ 0x11 ∷ 0xFC ∷ 0xFF ∷ 0x07 ∷ []) entry35 (λ i extra l h. entry40 extra) n g named
+      (disk (ch .imageAfter) (sectorNumber g mapAddress)) (format-bytes g (k .valid) img name id1 id2 ch e .map .entry 18 (omega arith)
+      (omega (arith, k .many)))

@@ -1,6 +1,7 @@
 pub mod ExampleTables
 pub mod OrderTables
 pub mod EdgeTables
+pub mod LayoutTables
 pub mod ListLaws
 pub mod ChainLaws
 pub mod PigeonholeLaws
@@ -14,6 +15,7 @@ pub mod WalkLaws
 pub mod SumLaws
 pub mod BitLaws
 pub mod MapLaws
+pub mod LayoutLaws
 pub mod CheckLaws
 pub mod NamedLaws
 pub mod SpliceLaws
@@ -70,3 +72,6 @@ pub mod MapPlaceTheorem
 pub mod RoomLaws
 pub mod PlaceTheorem
 pub mod ListingTheorem
+pub mod OutsideTheorem
+pub mod LayoutOrder
+pub mod LayoutTheorem

@@ -7,7 +7,7 @@ use mathlib.Core.Bool.{Bool, true, false, cond, _&&_}
 use mathlib.Core.Logic.{∥∥₁-map}
 use mathlib.Core.List.{List, [], _∷_, _++_, map, Perm, List·Permᴰ, List·Permᴰ·nil, List·Permᴰ·cons, List·Permᴰ·swap, List·Permᴰ·trans, Permᴰ·refl}
 use lib.ListN.{getD}
-use Rattle.d64spec.specs.Lists.{count, equal, filter, range}
+use Rattle.d64spec.specs.Lists.{All, count, equal, filter, range}
 use lib.Dec.{eqb}
 use borrow.Author.Tests.{eq-eqb, eqb-true}
 
@@ -32,6 +32,11 @@ module _ {A : Type 0} (p : A → Bool) where
 
   pub filter-perm : {l m : List A} → Perm l m → Perm (filter p l) (filter p m)
   filter-perm h = ∥∥₁-map h filter-permᴰ
+
+-- where all pass the test, all are kept
+pub filter-all : {A : Type 0} (p : A → Bool) (l : List A) → All (λ x. p x ≡ true) l → filter p l ≡ l
+filter-all p [] a = refl
+filter-all p (x ∷ l) a = rw (a .0) (ap (λ (m : List _). x ∷ m) (filter-all p l (a .1)))
 
 pub count-append : (n : ℕ) (a b : List ℕ) → count n (a ++ b) ≡ count n a + count n b
 count-append n [] b = omega arith

@@ -9,7 +9,8 @@ use lib.Dec.{eqb, ltb, leb}
 use borrow.Author.Tests.{eq-eqb, ne-eqb, eqb-true, eqb-false, le-leb, ltb-true}
 use Rattle.d64spec.specs.Lists.{All, Bytes, byte, count, filter, indicator, join}
 use Rattle.d64spec.specs.Answers.{Address, Fault, address, answerOf, done, refused, wrongBuffer, wrongSize}
-use Rattle.d64spec.specs.Geometry.{Geometry, Valid, directoryStart, firstOn, layout35, mapAddress, onDisk, sectorNumber, sectorsOn}
+use Rattle.d64spec.specs.Layouts.{Known}
+use Rattle.d64spec.specs.Geometry.{Geometry, Valid, directoryStart, firstOn, mapAddress, onDisk, sectorNumber, sectorsOn}
 use Rattle.d64spec.specs.Image.{Disk}
 use Rattle.d64spec.specs.Chain.{Chain, Link, bad, decodeDirectoryLink, directoryLink, ends, linkTo, steps, to, walk}
 use Rattle.d64spec.specs.Directory.{Slot, isEmpty, occupiedIn, slotsFrom, slotsIn}
@@ -20,7 +21,6 @@ use Rattle.d64spec.proofs.PigeonholeLaws.{pigeon}
 use Rattle.d64spec.proofs.WalkLaws.{Walked, walk-sound}
 use Rattle.d64spec.proofs.BoundLaws.{directoryLink-on, map-on}
 use Rattle.d64spec.proofs.OutcomeLaws.{Refusals, OfEntry, bind-outcome, then-outcome, need-outcome, walk-refusals, listSlots-refusals}
-use Rattle.d64spec.proofs.RunTheorem.{valid35}
 
 -- ---- the directory stays on track 18
 
@@ -195,14 +195,14 @@ listing-fits g v b out h e = subst (Refusals Not16) e never refl
         (λ ds e. then-outcome Not16 (λ x. Unit {0}) (listSlots [] (slots g v b ds)) _ (listSlots-refusals Not16 [] (slots g v b ds) (entries-16 (slots g v b ds)))
         (λ x e′. rw (le-leb (length (listingText g (diskOfTrack18 g b) (slots g v b ds))) (length out) (omega (arith, text-bound g v b ds e))) tt)))
 
--- ---- 35 tracks
+-- ---- the layouts that have a number
 
-longest35 : longest layout35 ≡ 6234
-unfolding layout35 sectorsOn
-longest35 = refl
+module _ {g : Geometry} (k : Known g) where
+  longest-known : longest g ≡ 6234
+  longest-known = omega (arith, k .on18)
 
-pub listing-6234 : (b out : Bytes) (l : Listed) → callListing layout35 b out ≡ done l → l .reportedLength ≤ 6234
-listing-6234 b out l e = rw longest35 at (listing-bound layout35 valid35 b out l e)
+  pub listing-6234 : (b out : Bytes) (l : Listed) → callListing g b out ≡ done l → l .reportedLength ≤ 6234
+  listing-6234 b out l e = rw longest-known at (listing-bound g (k .valid) b out l e)
 
-pub buffer-6234 : (b out : Bytes) → 6234 ≤ length out → callListing layout35 b out ≡ refused wrongBuffer → ⊥
-buffer-6234 b out h = listing-fits layout35 valid35 b out (rw longest35 h)
+  pub buffer-6234 : (b out : Bytes) → 6234 ≤ length out → callListing g b out ≡ refused wrongBuffer → ⊥
+  buffer-6234 b out h = listing-fits g (k .valid) b out (rw longest-known h)

@@ -1,5 +1,5 @@
 -- What a listing and a tell that are done leave, and what the sleeve listing's program prints for every input (01, Tell; Sleeve listing).
--- In order: a listing and a tell; what is printed; track 18 of an image; 35 tracks.
+-- In order: a listing and a tell; what is printed; track 18 of an image; the layouts that have a number.
 use Prim.Native.Nat.{ℕ, zero, suc, _+_, _*_, _-_, _/_, _%_, _≤_, _<_}
 use native.Mathlib.Omega.{arith}
 use native.Mathlib.Nat.{le-of-eq}
@@ -12,7 +12,8 @@ use lib.Dec.{eqb, leb}
 use borrow.Author.Tests.{eq-eqb, lt-ltb, ne-eqb}
 use Rattle.d64spec.specs.Lists.{Bytes, splice, zeros}
 use Rattle.d64spec.specs.Answers.{Address, Fault, answerOf, done, refused, unplaced, wrongBuffer, wrongSize}
-use Rattle.d64spec.specs.Geometry.{Geometry, Valid, firstOn, layout35, mapAddress, sectorNumber, sectorsOn, total}
+use Rattle.d64spec.specs.Layouts.{Known}
+use Rattle.d64spec.specs.Geometry.{Geometry, Valid, mapAddress, sectorNumber, sectorsOn, total}
 use Rattle.d64spec.specs.Image.{disk}
 use Rattle.d64spec.specs.Directory.{occupied, occupiedIn}
 use Rattle.d64spec.specs.Check.{checkDirectory, rightSize}
@@ -27,7 +28,6 @@ use Rattle.d64spec.proofs.NumberLaws.{Answers, Between, answers-imp, di
 use Rattle.d64spec.proofs.FirstFault.{directory-walked}
 use Rattle.d64spec.proofs.OrderTheorem.{decided-listing, listing-exactly, listing-some-fault}
 use Rattle.d64spec.proofs.ExactTheorem.{listing-exact}
-use Rattle.d64spec.proofs.RunTheorem.{valid35}
 use Rattle.d64spec.proofs.ListingLaws.{buffer-6234}
 
 -- ---- a tell and a listing
@@ -135,58 +135,48 @@ track18-own g img n low high =
     let same : sectorNumber g mapAddress + (n - sectorNumber g mapAddress) ≡ n = omega arith in
     track18-sector g img (n - sectorNumber g mapAddress) (omega arith) ∙ ap (disk img) same
 
--- ---- 35 tracks
-
-size35 : 256 * total layout35 ≡ 174848
-unfolding layout35 total
-size35 = refl
-
-first35 : sectorNumber layout35 mapAddress ≡ 357
-unfolding layout35 sectorNumber firstOn
-first35 = refl
-
-sectors35 : sectorsOn layout35 18 ≡ 19
-unfolding layout35 sectorsOn
-sectors35 = refl
-
-module _ (input : Bytes) where
-  -- TRACK 18 of an image: 4,864 bytes
-  pub track18-length : length input ≡ 174848 → length (bytesOfTrack18 layout35 input) ≡ 4864
-  unfolding bytesOfTrack18
-  track18-length e =
-      omega (
-        arith,
-        length-take (256 * sectorsOn layout35 18) (drop (256 * sectorNumber layout35 mapAddress) input),
-        length-drop (256 * sectorNumber layout35 mapAddress) input,
-        first35,
-        sectors35,
-      )
-
-  -- the sectors 357 to 375
-  pub track18-sectors : (i : ℕ) → i < 19 → disk (bytesOfTrack18 layout35 input) i ≡ disk input (357 + i)
-  track18-sectors i h = track18-sector layout35 input i (omega (arith, sectors35)) ∙ ap (λ (n : ℕ). disk input (n + i)) first35
-
 -- what the program prints of an image of the right size
 sleeve-right : (g : Geometry) (input : Bytes) → length input ≡ 256 * total g → sleeveOutput g input ≡ listingOutput (callListing g (bytesOfTrack18 g input) (zeros 6234))
 unfolding sleeveOutput rightSize
 sleeve-right g input e = rw (eq-eqb (length input) (256 * total g) e)
 
-module _ (input : Bytes) where
+-- ---- the layouts that have a number
+
+module _ {g : Geometry} (k : Known g) (input : Bytes) where
+  -- TRACK 18 of an image: 4,864 bytes
+  pub track18-length : length input ≡ 256 * total g → length (bytesOfTrack18 g input) ≡ 4864
+  unfolding bytesOfTrack18
+  track18-length e =
+      omega (
+        arith,
+        length-take (256 * sectorsOn g 18) (drop (256 * sectorNumber g mapAddress) input),
+        length-drop (256 * sectorNumber g mapAddress) input,
+        k .map357,
+        k .on18,
+        k .past18,
+      )
+
+  -- the sectors 357 to 375
+  pub track18-sectors : (i : ℕ) → i < 19 → disk (bytesOfTrack18 g input) i ≡ disk input (357 + i)
+  track18-sectors i h = track18-sector g input i (omega (arith, k .on18)) ∙ ap (λ (n : ℕ). disk input (n + i)) (k .map357)
+
   -- THE PROGRAM, given an input of another size: 01
-  pub sleeve-size : (length input ≡ 174848 → ⊥) → sleeveOutput layout35 input ≡ 0x30 ∷ 0x31 ∷ 0x0A ∷ []
+  pub sleeve-size : (length input ≡ 256 * total g → ⊥) → sleeveOutput g input ≡ 0x30 ∷ 0x31 ∷ 0x0A ∷ []
   unfolding sleeveOutput rightSize refusalLine digit
-  sleeve-size h = rw (ne-eqb (length input) (256 * total layout35) (λ e. h (e ∙ size35)))
+  sleeve-size h = rw (ne-eqb (length input) (256 * total g) h)
 
   -- GIVEN AN IMAGE: what the listing of its track 18 says, with room for 6,234 bytes
-  pub sleeve-image : length input ≡ 174848 → sleeveOutput layout35 input ≡ listingOutput (callListing layout35 (bytesOfTrack18 layout35 input) (zeros 6234))
-  sleeve-image e = sleeve-right layout35 input (e ∙ sym size35)
+  pub sleeve-image : length input ≡ 256 * total g → sleeveOutput g input ≡ listingOutput (callListing g (bytesOfTrack18 g input) (zeros 6234))
+  sleeve-image e = sleeve-right g input e
 
   -- GIVEN AN IMAGE WHOSE TRACK 18 CAN BE LISTED: exactly the listing
-  pub sleeve-text : length input ≡ 174848 → Listable layout35 (bytesOfTrack18 layout35 input) (zeros 6234) → sleeveOutput layout35 input ≡ textOf layout35 (bytesOfTrack18 layout35 input)
-  sleeve-text e h = sleeve-image e ∙ printed-text layout35 valid35 (bytesOfTrack18 layout35 input) (zeros 6234) h
+  pub sleeve-text : length input ≡ 256 * total g → Listable g (bytesOfTrack18 g input) (zeros 6234) → sleeveOutput g input ≡ textOf g (bytesOfTrack18 g input)
+  sleeve-text e h = sleeve-image e ∙ printed-text g (k .valid) (bytesOfTrack18 g input) (zeros 6234) h
 
   -- GIVEN ANY OTHER IMAGE: the number of the first fault that track 18 shows
-  pub sleeve-refused : length input ≡ 174848 → (Listable layout35 (bytesOfTrack18 layout35 input) (zeros 6234) → ⊥) → SleeveRefused layout35 (bytesOfTrack18 layout35 input) (zeros 6234) (sleeveOutput layout35 input)
+  pub sleeve-refused : length input ≡ 256 * total g → (Listable g (bytesOfTrack18 g input) (zeros 6234) → ⊥)
+      → SleeveRefused g (bytesOfTrack18 g input) (zeros 6234) (sleeveOutput g input)
   sleeve-refused e h =
-      subst (SleeveRefused layout35 (bytesOfTrack18 layout35 input) (zeros 6234)) (sym (sleeve-image e))
-      (printed-refusal layout35 valid35 (bytesOfTrack18 layout35 input) (zeros 6234) (omega (arith, track18-length input e, sectors35)) (buffer-6234 (bytesOfTrack18 layout35 input) (zeros 6234) (le-of-eq (sym (length-replicate {A = ℕ} 6234 0)))) h)
+      subst (SleeveRefused g (bytesOfTrack18 g input) (zeros 6234)) (sym (sleeve-image e))
+      (printed-refusal g (k .valid) (bytesOfTrack18 g input) (zeros 6234) (omega (arith, track18-length e, k .on18))
+      (buffer-6234 k (bytesOfTrack18 g input) (zeros 6234) (le-of-eq (sym (length-replicate {A = ℕ} 6234 0)))) h)

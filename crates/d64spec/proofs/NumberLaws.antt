@@ -1,5 +1,5 @@
 -- Which numbers a list of conditions can answer with (01, Answer numbers; Format; Sleeve listing).
--- In order: conditions that answer only with some faults; steps 2 to 4 of the check; the listing.
+-- In order: conditions that answer only with some faults; steps 2 to 4 of the check; the listing; the calls and tell, none above 16.
 use Prim.Native.Nat.{ℕ, _≤_}
 use native.Mathlib.Omega.{arith}
 use mathlib.Core.Path.{_≡_, refl}
@@ -9,11 +9,12 @@ use lib.ListN.{length}
 use Rattle.d64spec.specs.Lists.{Bytes, range}
 use Rattle.d64spec.specs.Answers.{Address, Fault, answerOf, wrongBuffer, wrongCount}
 use Rattle.d64spec.specs.Geometry.{Geometry, directoryStart, mapAddress, sectorNumber, tracks}
-use Rattle.d64spec.specs.Image.{Disk}
+use Rattle.d64spec.specs.Image.{Disk, disk}
 use Rattle.d64spec.specs.Chain.{Link, directoryLink, fileLink, to}
 use Rattle.d64spec.specs.Directory.{Slot, countOf, directorySectors, fileOf, firstLink, nameOf, occupied}
+use Rattle.d64spec.specs.Call.{Call, check, format, read, scratch, store}
 use Rattle.d64spec.specs.Listing.{diskOfTrack18, listingText}
-use Rattle.d64spec.specs.Order.{AllHold, ChainFault, Condition, FirstFails, asks, asksChain, asksDirectory, diskConditions, entryConditions, listingConditions, listingSlots, mapConditions, slotConditions, slotsConditions}
+use Rattle.d64spec.specs.Order.{AllHold, ChainFault, Condition, FirstFails, asks, asksChain, asksDirectory, conditions, diskConditions, entryConditions, listingConditions, listingSlots, mapConditions, slotConditions, slotsConditions, tellConditions}
 use Rattle.d64spec.specs.Exact.{ListingNumber}
 use Rattle.d64spec.proofs.ConditionLaws.{firstFails-append}
 
@@ -110,3 +111,44 @@ listing-answers g b out = (
         ((λ f e. rw e (inr (inr refl))), tt),
   ),
 )
+
+-- ---- no call asks in its layout what a number above 16 answers for (02, §8: 17 is the layout's)
+
+pub listing-low : (g : Geometry) (b out : Bytes) → Answers (Between 1 16) (listingConditions g b out)
+listing-low g b out = answers-imp low (listingConditions g b out) (listing-answers g b out)
+  where
+    low : (f : Fault) → ListingNumber (answerOf f .number) → Between 1 16 f
+    low f (inl e) = omega arith
+    low f (inr (inl e)) = omega arith
+    low f (inr (inr e)) = omega arith
+
+module _ (g : Geometry) (img : Bytes) where
+  -- steps 2 to 4, and what a call asks behind them
+  checked-low : (m : List Condition) → Answers (Between 1 16) m → Answers (Between 1 16) (diskConditions g (disk img) ++ m)
+  checked-low m a =
+      answers-append (Between 1 16) (diskConditions g (disk img)) m
+      (answers-imp (λ f h. omega arith) (diskConditions g (disk img)) (disk-answers g (disk img))) a
+
+  pub call-answers : (c : Call) → Answers (Between 1 16) (conditions g img c)
+  unfolding conditions
+  call-answers check = ((λ f e. rw e (omega arith)), answers-imp (λ f h. omega arith) (diskConditions g (disk img)) (disk-answers g (disk img)))
+  call-answers (format name i j) = ((λ f e. rw e (omega arith)), ((λ f e. rw e (omega arith)), tt))
+  call-answers (read name out) =
+      ((λ f e. rw e (omega arith)), ((λ f e. rw e (omega arith)), checked-low _ ((λ f e. rw e (omega arith)), ((λ f e. rw e (omega arith)), tt))))
+  call-answers (store name kind bytes) = (
+    (λ f e. rw e (omega arith)),
+    (
+      (λ f e. rw e (omega arith)),
+      (
+        (λ f e. rw e (omega arith)),
+        checked-low _
+            ((λ f e. rw e (omega arith)), ((λ f e. rw e (omega arith)), ((λ f e. rw e (omega arith)), ((λ f e. rw e (omega arith)), tt)))),
+      ),
+    ),
+  )
+  call-answers (scratch name) =
+      ((λ f e. rw e (omega arith)), ((λ f e. rw e (omega arith)), checked-low _ ((λ f e. rw e (omega arith)), ((λ f e. rw e (omega arith)), tt))))
+
+  pub tell-answers : (position : ℕ) → Answers (Between 1 16) (tellConditions g img position)
+  unfolding tellConditions
+  tell-answers position = ((λ f e. rw e (omega arith)), checked-low _ ((λ f e. rw e (omega arith)), tt))

@@ -36,11 +36,11 @@ use Rattle.d64spec.proofs.ResultLaws.{refused≢done}
 -- ---- steps of one condition
 
 -- a condition that holds, and a step that is done
-decided-holds : {A : Type 0} (y : A) (P : Type 0) (f : Fault) → P → Decided (done y) (asks P f ∷ [])
+pub decided-holds : {A : Type 0} (y : A) (P : Type 0) (f : Fault) → P → Decided (done y) (asks P f ∷ [])
 decided-holds y P f p = decided-one (asks P f) ((λ w. p), (λ h. (y, refl))) (λ f′ e. done≢refused y f′ e) (λ f′ fails e. absurd (fails p))
 
 -- a condition that does not hold, and a step that its fault refuses
-decided-fails : {A : Type 0} (P : Type 0) (f : Fault) → (P → ⊥) → Decided {A = A} (refused f) (asks P f ∷ [])
+pub decided-fails : {A : Type 0} (P : Type 0) (f : Fault) → (P → ⊥) → Decided {A = A} (refused f) (asks P f ∷ [])
 decided-fails P f fails = decided-one (asks P f) ((λ w. refused≢done f (w .0) (w .1)), (λ h. absurd (fails h))) (λ f′ e. cc) (λ f′ h e. cc)
 
 -- the first of a list: done exactly where the list has one
@@ -64,28 +64,28 @@ decided-place g d = by (emptySlots g d) (freeForDirectory g d)
 -- ---- what the caller sees of a result
 
 -- the number of a result's answer
-abbrev numberOf : {A : Type 0} → Result A → ℕ
+abbrev pub numberOf : {A : Type 0} → Result A → ℕ
 numberOf (refused f) = answerOf f .number
 numberOf (done y) = 0
 
-reply-number : (img out : Bytes) (x : Result Change) → reply img out x .answer .number ≡ numberOf x
+pub reply-number : (img out : Bytes) (x : Result Change) → reply img out x .answer .number ≡ numberOf x
 unfolding reply
 reply-number img out (refused f) = refl
 reply-number img out (done y) = refl
 
-tell-number : (x : Result FileInformation) → tellReply x .answer .number ≡ numberOf x
+pub tell-number : (x : Result FileInformation) → tellReply x .answer .number ≡ numberOf x
 unfolding tellReply
 tell-number (refused f) = refl
 tell-number (done y) = refl
 
-listing-number : (out : Bytes) (x : Result Listed) → listingReply out x .answer .number ≡ numberOf x
+pub listing-number : (out : Bytes) (x : Result Listed) → listingReply out x .answer .number ≡ numberOf x
 unfolding listingReply
 listing-number out (refused f) = refl
 listing-number out (done y) = refl
 
 module _ {A : Type 0} {l : List Condition} where
   -- number 0 exactly when all conditions hold
-  decided-zero : (x : Result A) → Decided x l → (numberOf x ≡ 0) ↔ AllHold l
+  pub decided-zero : (x : Result A) → Decided x l → (numberOf x ≡ 0) ↔ AllHold l
   decided-zero (refused f) d = (
     (λ e. absurd (let h : answerOf f .number ≡ suc (fault-number f .0) = fault-number f .1 in omega arith)),
     (λ h. let w = d .whenDone .1 h in refused≢done f (w .0) (w .1)),
@@ -93,7 +93,7 @@ module _ {A : Type 0} {l : List Condition} where
   decided-zero (done y) d = ((λ e. d .whenDone .0 (y, refl)), (λ h. refl))
 
   -- else there is a first condition that does not hold, and its fault is the refusal
-  decided-some : (x : Result A) → Decided x l → (numberOf x ≡ 0 → ⊥) → (f : Fault) × FirstFails l f × (x ≡ refused f)
+  pub decided-some : (x : Result A) → Decided x l → (numberOf x ≡ 0 → ⊥) → (f : Fault) × FirstFails l f × (x ≡ refused f)
   decided-some (refused f) d h = (f, d .whenRefused f .0 refl, refl)
   decided-some (done y) d h = absurd (h refl)
 

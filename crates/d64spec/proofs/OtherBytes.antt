@@ -4,6 +4,7 @@ use Prim.Native.Nat.{ℕ, _+_, _*_, _/_, _%_, _<_}
 use native.Mathlib.Omega.{arith}
 use native.Mathlib.Decide.{decLe}
 use mathlib.Core.Path.{_≡_, sym, ap, _∙_}
+use mathlib.Core.Logic.{inl, inr, ⊎-elim}
 use mathlib.Core.List.{List}
 use lib.ListN.{length, take, drop, getD, length-take, List·getD-eq-default}
 use lib.Seq.{getD-take, getD-drop}
@@ -13,10 +14,11 @@ use Rattle.d64spec.specs.Geometry.{Geometry, Valid, mapAddress, sectorNu
 use Rattle.d64spec.specs.Image.{Disk, disk, image}
 use Rattle.d64spec.specs.Map.{rewriteMap}
 use Rattle.d64spec.specs.Accepted.{Accepted}
-use Rattle.d64spec.specs.Changes.{InEntryOf, MapFollows, OtherBits}
+use Rattle.d64spec.specs.Changes.{InEntryOf, MapFollows, OtherBits, OutsideKept}
+use Rattle.d64spec.proofs.BoundLaws.{sectorNumber-lt, map-on}
 use Rattle.d64spec.proofs.ImageLaws.{Whole, image-size, image-disk}
 use Rattle.d64spec.proofs.MapWriteLaws.{rewrite-whole, rewrite-follows}
-use Rattle.d64spec.proofs.MapBytes.{rewritten-bits, Prepared, rewritten-rest}
+use Rattle.d64spec.proofs.MapBytes.{map-other, rewritten-bits, Prepared, rewritten-rest}
 
 -- ---- a byte of an image is a byte of a sector
 
@@ -57,6 +59,14 @@ module _ (g : Geometry) (v : Valid g) (img : Bytes) (a : Accepted g img) (d2 : D
 
   pub after-bits : OtherBits g l (disk img) (disk after)
   after-bits = rw after-disk (rewritten-bits g v (disk img) d2 l (a .content) p)
+
+  -- the bytes of 18/0 in no map entry
+  pub after-outside : OutsideKept g (disk img) (disk after)
+  after-outside i h =
+      ap (λ (x : Disk). byte (x (sectorNumber g mapAddress)) i) after-disk
+      ∙ map-other g v d2 (p .whole .full (sectorNumber g mapAddress) (sectorNumber-lt g mapAddress (map-on g (v .directory)))) i
+      (λ t l u. ⊎-elim (λ c. inl c) (λ c. inr (omega arith)) (h t l u))
+      ∙ ap (λ (x : Bytes). byte x i) (p .unmapped)
 
   -- Writes are the places that the call writes
   pub after-rest : ((k : ℕ) → byte img k < 256) → (Writes : ℕ → ℕ → Type 0) → ((n i : ℕ) → InEntryOf g l n i → Writes n i) → ((n i : ℕ) → (Writes n i → ⊥) → byte (d2 n) i ≡ byte (disk img n) i)

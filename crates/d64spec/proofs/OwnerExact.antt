@@ -26,9 +26,9 @@ use Rattle.d64spec.proofs.CheckLaws.{slotName}
 use Rattle.d64spec.proofs.ListLaws.{equal-refl}
 use Rattle.d64spec.proofs.ScratchLaws.{claimCount-of, of-count}
 use Rattle.d64spec.proofs.NamedLaws.{name-met}
-use Rattle.d64spec.proofs.RunTheorem.{sectors35, valid35}
+use Rattle.d64spec.proofs.LayoutLaws.{sectors35, tracks35, valid35}
 use Rattle.d64spec.proofs.ExactTheorem.{check-exact}
-use Rattle.d64spec.proofs.OwnerTheorem.{claimant, count-file, one-owner, tracks35}
+use Rattle.d64spec.proofs.OwnerTheorem.{claimant, count-file, one-owner}
 
 -- ---- a chain meets no sector twice
 
@@ -190,9 +190,6 @@ module _ (g : Geometry) (v : Valid g) (img : Bytes) where
   check-owners = Iff·trans (check-exact g v img) accepted-owners
 
 -- ---- 35 tracks, 683 sectors
-
-pub accepted-owners35 : (img : Bytes) → Accepted layout35 img ↔ DemandTwo layout35 35 683 img
-accepted-owners35 img = rw (tracks35, sectors35) at (accepted-owners layout35 valid35 img)
 
 pub check-owners35 : (img : Bytes) → (perform layout35 img check .answer .number ≡ 0) ↔ DemandTwo layout35 35 683 img
 check-owners35 img = rw (tracks35, sectors35) at (check-owners layout35 valid35 img)

@@ -8,14 +8,14 @@ use mathlib.Core.Logic.{_↔_}
 use mathlib.Core.List.{List, [], _∷_, map, List·Memᴰ, List·Memᴰ·head, List·Memᴰ·tail}
 use lib.Dec.{eqb}
 use borrow.Author.Tests.{eq-eqb, eqb-true}
-use Rattle.d64spec.specs.Lists.{Bytes, count, indicator}
+use Rattle.d64spec.specs.Lists.{count, indicator}
 use Rattle.d64spec.specs.Answers.{address}
-use Rattle.d64spec.specs.Geometry.{Geometry, layout35, mapAddress, sectorNumber, sectorsOn, tracks}
-use Rattle.d64spec.specs.Image.{Disk, disk}
+use Rattle.d64spec.specs.Geometry.{Geometry, mapAddress, sectorNumber, sectorsOn, tracks}
+use Rattle.d64spec.specs.Image.{Disk}
 use Rattle.d64spec.specs.Directory.{File, directorySectors, files}
 use Rattle.d64spec.specs.Owner.{Among, Owner, Owns, claimCount, fileClaims, nobody, theDirectory, theFile, theMap}
 use Rattle.d64spec.specs.Map.{mapBit}
-use Rattle.d64spec.specs.Accepted.{Accepted, AcceptedDisk}
+use Rattle.d64spec.specs.Accepted.{AcceptedDisk}
 use Rattle.d64spec.specs.Facts.{OneOwner}
 use Rattle.d64spec.proofs.ListLaws.{count-append}
 use Rattle.d64spec.proofs.ScratchLaws.{claimCount-of}
@@ -91,16 +91,3 @@ one-owner g d a n =
 pub marked-nobody : (g : Geometry) (d : Disk) → AcceptedDisk g d → (t s : ℕ) → 1 ≤ t → t ≤ tracks g → s < sectorsOn g t
     → (mapBit g (d (sectorNumber g mapAddress)) t s ≡ 1) ↔ Owns g d nobody (sectorNumber g (address t s))
 marked-nobody g d a t s l h b = a .marks t l h .free s b
-
--- ---- 35 tracks
-
-pub tracks35 : tracks layout35 ≡ 35
-unfolding tracks layout35
-tracks35 = refl
-
-pub one-owner35 : (img : Bytes) → Accepted layout35 img → (n : ℕ) → OneOwner layout35 (disk img) n
-one-owner35 img a n = one-owner layout35 (disk img) (a .content) n
-
-pub marked-nobody35 : (img : Bytes) → Accepted layout35 img → (t s : ℕ) → 1 ≤ t → t ≤ 35 → s < sectorsOn layout35 t
-    → (mapBit layout35 (disk img (sectorNumber layout35 mapAddress)) t s ≡ 1) ↔ Owns layout35 (disk img) nobody (sectorNumber layout35 (address t s))
-marked-nobody35 img a t s l h b = marked-nobody layout35 (disk img) (a .content) t s l (rw tracks35 h) b

@@ -47,7 +47,7 @@ abbrev pub FaultFits : Fault → Type 0
 FaultFits f = AnswerFits (answerOf f)
 
 -- an answer without a place
-pub plain-fits : (n : ℕ) → n ≤ 16 → AnswerFits (unplaced n)
+pub plain-fits : (n : ℕ) → n ≤ 17 → AnswerFits (unplaced n)
 plain-fits n h = record { number = h; track = omega arith; sector = omega arith; slot = omega arith }
 
 -- a track that has a sector is one of the tracks
@@ -78,7 +78,7 @@ on-of-18 g r o = rw (o .0) (lt-ltb (r .sector) (sectorsOn g 18) (o .1))
 
 module _ (g : Geometry) (v : Valid g) (few : tracks g < 256) where
   -- an answer that names a sector of the disk
-  placed-fits : (n : ℕ) (r : Address) (s : ℕ) → n ≤ 16 → onDisk g r ≡ true → s < 256 → AnswerFits (placed n r s)
+  placed-fits : (n : ℕ) (r : Address) (s : ℕ) → n ≤ 17 → onDisk g r ≡ true → s < 256 → AnswerFits (placed n r s)
   placed-fits n r s h o b = record { number = h; track = omega (arith, track-le g r o); sector = omega (arith, sector-lt g v r o); slot = b }
 
   -- the walk's refusals

@@ -7,7 +7,7 @@ use mathlib.Core.List.{List, Perm·refl}
 use lib.Dec.{eqb}
 use lib.ListN.{length}
 use Rattle.d64spec.specs.Lists.{Bytes}
-use Rattle.d64spec.specs.Answers.{Fault, Result, alreadyOwned, answerOf, badKindArgument, badLink, badName, badNameArgument, badType, directoryFull, diskFull, done, duplicateName, nameExists, notFound, refused, writeForbidden, wrongBuffer, wrongCount, wrongMapEntry, wrongSize}
+use Rattle.d64spec.specs.Answers.{Fault, Result, alreadyOwned, answerOf, badKindArgument, badLink, badName, badNameArgument, badType, directoryFull, diskFull, done, duplicateName, nameExists, notFound, refused, writeForbidden, wrongBuffer, unknownLayout, wrongCount, wrongMapEntry, wrongSize}
 use Rattle.d64spec.specs.Geometry.{Geometry, total}
 use Rattle.d64spec.specs.Image.{disk}
 use Rattle.d64spec.specs.Directory.{PlainEntry, plainList}
@@ -37,6 +37,7 @@ fault-number notFound = (12, refl)
 fault-number directoryFull = (13, refl)
 fault-number diskFull = (14, refl)
 fault-number wrongBuffer = (15, refl)
+fault-number unknownLayout = (16, refl)
 
 -- a reply that says 0 has the change of the call
 pub zero-change : (img out : Bytes) (x : Result Change) → reply img out x .answer .number ≡ 0 → x ≡ done (reply img out x .change)

@@ -8,7 +8,8 @@ use lib.ListN.{length, getD, List·getD-append}
 use lib.Seq.{getD-append-add}
 use Rattle.d64spec.specs.Lists.{Bytes}
 use Rattle.d64spec.specs.Answers.{Address, done}
-use Rattle.d64spec.specs.Geometry.{Geometry, Valid, directoryStart, layout35, mapAddress, sectorNumber, sectorsOn}
+use Rattle.d64spec.specs.Layouts.{Known}
+use Rattle.d64spec.specs.Geometry.{Geometry, Valid, directoryStart, mapAddress, sectorNumber}
 use Rattle.d64spec.specs.Image.{Disk, disk}
 use Rattle.d64spec.specs.Chain.{directoryLink, steps, to}
 use Rattle.d64spec.specs.Directory.{Slot, directorySectors, slotIn, slotsFrom, slotsIn}
@@ -19,7 +20,6 @@ use Rattle.d64spec.proofs.ListLaws.{getD-map-range}
 use Rattle.d64spec.proofs.WalkLaws.{Walked, walk-sound}
 use Rattle.d64spec.proofs.ScratchLaws.{claimCount-of}
 use Rattle.d64spec.proofs.ListingLaws.{directory-few, slots-length}
-use Rattle.d64spec.proofs.RunTheorem.{valid35}
 
 -- ---- lists
 
@@ -69,7 +69,8 @@ slot-number-lt g d l s m =
 -- ---- the whole directory
 
 module _ (g : Geometry) (v : Valid g) (d : Disk) where
-  slots-walked : (l : List Address) → Walked g (directoryLink g) d (sectorNumber g mapAddress ∷ []) (to directoryStart) l → (s : Slot) → List·Memᴰ s (slotsFrom g d 0 l) → s .number < slotsMost g
+  slots-walked : (l : List Address) → Walked g (directoryLink g) d (sectorNumber g mapAddress ∷ []) (to directoryStart) l → (s : Slot)
+      → List·Memᴰ s (slotsFrom g d 0 l) → s .number < slotsMost g
   slots-walked l w s m = omega (arith, slot-number-lt g d l s m, directory-few g v d l w)
 
   -- a disk whose directory passes the check
@@ -81,15 +82,16 @@ module _ (g : Geometry) (v : Valid g) (d : Disk) where
   pub slots-accepted : AcceptedDisk g d → (s : Slot) → List·Memᴰ s (slotsFrom g d 0 (directorySectors g d)) → s .number < slotsMost g
   slots-accepted a = slots-walked (directorySectors g d) (record { chain = a .directory; once = λ m h. omega (arith, claimCount-of g d m, a .once m) })
 
--- ---- 35 tracks
+-- ---- the layouts that have a number
 
-slots35 : slotsMost layout35 ≡ 144
-unfolding layout35 sectorsOn
-slots35 = refl
+module _ {g : Geometry} (k : Known g) where
+  slots-known : slotsMost g ≡ 144
+  slots-known = omega (arith, k .on18)
 
--- SLOTS ARE 0 TO 143
-pub slots-accepted35 : (img : Bytes) → Accepted layout35 img → (s : Slot) → List·Memᴰ s (slotsFrom layout35 (disk img) 0 (directorySectors layout35 (disk img))) → s .number < 144
-slots-accepted35 img a s m = rw slots35 at (slots-accepted layout35 valid35 (disk img) (a .content) s m)
+  -- SLOTS ARE 0 TO 143
+  pub slots-accepted-known : (img : Bytes) → Accepted g img → (s : Slot) → List·Memᴰ s (slotsFrom g (disk img) 0 (directorySectors g (disk img)))
+      → s .number < 144
+  slots-accepted-known img a s m = rw slots-known at (slots-accepted g (k .valid) (disk img) (a .content) s m)
 
-pub slots-checked35 : (d : Disk) (l : List Address) → checkDirectory layout35 d ≡ done l → (s : Slot) → List·Memᴰ s (slotsFrom layout35 d 0 l) → s .number < 144
-slots-checked35 d l e s m = rw slots35 at (slots-checked layout35 valid35 d l e s m)
+  pub slots-checked-known : (d : Disk) (l : List Address) → checkDirectory g d ≡ done l → (s : Slot) → List·Memᴰ s (slotsFrom g d 0 l) → s .number < 144
+  slots-checked-known d l e s m = rw slots-known at (slots-checked g (k .valid) d l e s m)

@@ -6,10 +6,11 @@ use mathlib.Core.Bool.{true}
 use mathlib.Core.List.{List, [], _∷_, map}
 use lib.ListN.{length, drop, getD, length-append, length-take, length-drop, length-map}
 use lib.Dec.{eqb, leb}
-use borrow.Author.Tests.{leb-true, ne-eqb}
+use borrow.Author.Tests.{eq-eqb, leb-true, ne-eqb}
 use Rattle.d64spec.specs.Lists.{All, Bytes, byte, equal, part, sum}
 use Rattle.d64spec.specs.Answers.{Address, Answer, Fault, Result, _>>=_, _>>_, badKindArgument, badNameArgument, directoryFull, diskFull, done, first, nameExists, need, notFound, refused, writeForbidden, wrongBuffer, wrongSize}
-use Rattle.d64spec.specs.Geometry.{Geometry, Valid, layout35, onDisk, sectorNumber, sectorsOn, total, tracks}
+use Rattle.d64spec.specs.Geometry.{Geometry, Valid, onDisk, sectorNumber, sectorsOn, total, tracks}
+use Rattle.d64spec.specs.Layouts.{layoutNumbered}
 use Rattle.d64spec.specs.Image.{Disk, disk}
 use Rattle.d64spec.specs.Chain.{chainData}
 use Rattle.d64spec.specs.Directory.{File, Slot, files, nameOf, occupiedIn}
@@ -23,7 +24,7 @@ use Rattle.d64spec.specs.Store.{SlotPlace, callStore, emptySlots, inEmpt
 use Rattle.d64spec.specs.Scratch.{callScratch}
 use Rattle.d64spec.specs.Call.{Call, attempt, callCheck, check, format, outputBuffer, perform, read, scratch, store}
 use Rattle.d64spec.specs.Listing.{callListing, diskOfTrack18, listSlots, listingReply, listingText}
-use Rattle.d64spec.specs.Host.{answerBlock, hostCall}
+use Rattle.d64spec.specs.Host.{answerBlock, hostCall, hostCallIn, performIn}
 use Rattle.d64spec.specs.Facts.{AnswerFits, GivesBackReply, ReplyFits}
 use Rattle.d64spec.proofs.PigeonholeLaws.{pigeon}
 use Rattle.d64spec.proofs.BoundLaws.{file-bound, sectorNumber-lt}
@@ -31,7 +32,7 @@ use Rattle.d64spec.proofs.ReadLaws.{first-kept}
 use Rattle.d64spec.proofs.CheckLaws.{disk-sound}
 use Rattle.d64spec.proofs.FrameLaws.{all-map}
 use Rattle.d64spec.proofs.StoreStep.{placement-length, placement-taken}
-use Rattle.d64spec.proofs.RunTheorem.{valid35}
+use Rattle.d64spec.proofs.LayoutLaws.{known, layout-cases}
 use Rattle.d64spec.proofs.HostLaws.{four-bytes, right-block, two-bytes}
 use Rattle.d64spec.proofs.OutcomeLaws.{Outcome, Refusals, bind-outcome, then-outcome, need-outcome, first-refusals, listSlots-refusals}
 use Rattle.d64spec.proofs.PlaceLaws.{FaultFits, checkDirectory-fits, checkDisk-fits, entry-fits, plain-fits, slots-fit}
@@ -216,14 +217,17 @@ block-gives r f = record {
 pub host-gives : (g : Geometry) → Valid g → tracks g < 256 → (img block : Bytes) (c : Call) → length block ≡ 9 → GivesBackReply (hostCall g img block c .blockAfter) (perform g img c)
 host-gives g v few img block c h = rw (right-block g img block c h) (block-gives (perform g img c) (reply-fits g v few img c))
 
--- ---- 35 tracks
+-- ---- a call that names its layout by any number (02, §8)
 
-few35 : tracks layout35 < 256
-unfolding tracks layout35
-few35 = omega arith
+pub reply-fits-in : (n : ℕ) (img : Bytes) (c : Call) → ReplyFits (performIn n img c)
+unfolding performIn perform reply
+reply-fits-in n img c =
+    layout-cases (ReplyFits (performIn n img c)) n in-layout
+    (λ e. rw e (record { answer = plain-fits 17 (omega arith); reportedLength = omega arith; reportedSectors = omega arith }))
+  where
+    in-layout : (g : Geometry) → layoutNumbered n ≡ done g → ReplyFits (performIn n img c)
+    in-layout g e = rw e (reply-fits g (known n g e .valid) (omega (arith, known n g e .few)) img c)
 
-pub reply-fits35 : (img : Bytes) (c : Call) → ReplyFits (perform layout35 img c)
-reply-fits35 img c = reply-fits layout35 valid35 few35 img c
-
-pub host-gives35 : (img block : Bytes) (c : Call) → length block ≡ 9 → GivesBackReply (hostCall layout35 img block c .blockAfter) (perform layout35 img c)
-host-gives35 img block c h = host-gives layout35 valid35 few35 img block c h
+pub host-gives-in : (n : ℕ) (img block : Bytes) (c : Call) → length block ≡ 9 → GivesBackReply (hostCallIn n img block c .blockAfter) (performIn n img c)
+unfolding hostCallIn
+host-gives-in n img block c h = rw (eq-eqb (length block) 9 h) (block-gives (performIn n img c) (reply-fits-in n img c))

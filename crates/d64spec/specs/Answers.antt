@@ -26,6 +26,7 @@ pub data Fault : Type 0 where
   writeForbidden nameExists notFound : Fault
   directoryFull diskFull : Fault
   wrongBuffer : Fault
+  unknownLayout : Fault
 
 -- a number with its place: track, sector, slot. Number 0 is "done"
 pub record Answer : Type 0 where
@@ -60,6 +61,7 @@ answerOf notFound = unplaced 13
 answerOf directoryFull = unplaced 14
 answerOf diskFull = unplaced 15
 answerOf wrongBuffer = unplaced 16
+answerOf unknownLayout = unplaced 17
 
 -- a refusal, or what a step gives
 pub data Result (A : Type 0) : Type 0 where

@@ -30,6 +30,14 @@ pub record InEntryOf (g : Geometry) (l : List Address) (n i : ℕ) : Type 0 wher
   pub low : g .mapAt track ≤ i
   pub high : i ≤ g .mapAt track + 3
 
+-- byte i of 18/0 is in none of the layout's map entries: the bytes of another layout's entries are such (02, §8)
+abbrev pub OutsideMap : Geometry → ℕ → Type 0
+OutsideMap g i = (t : ℕ) → 1 ≤ t → t ≤ tracks g → (i < g .mapAt t) ⊎ (g .mapAt t + 3 < i)
+
+-- each such byte is as it was
+abbrev pub OutsideKept : Geometry → Disk → Disk → Type 0
+OutsideKept g before d = (i : ℕ) → OutsideMap g i → byte (d (sectorNumber g mapAddress)) i ≡ byte (before (sectorNumber g mapAddress)) i
+
 -- every map entry of the disk d is the one that its owners ask for, with the bits past the track's last sector that the disk `before` has
 abbrev pub MapFollows : Geometry → Disk → Disk → Type 0
 MapFollows g before d =

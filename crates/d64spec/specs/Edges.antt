@@ -8,7 +8,7 @@ use mathlib.Core.List.{List, [], _∷_, _++_, map}
 use lib.ListN.{drop, replicate, take}
 use lib.Dec.{eqb}
 use Rattle.d64spec.specs.Lists.{Bytes, ascending, equal, filter, join, part, range, splice, zeros}
-use Rattle.d64spec.specs.Answers.{Fault, address, wrongSize, badLink, alreadyOwned, badType, badName, duplicateName, wrongCount, wrongMapEntry, badNameArgument, badKindArgument, writeForbidden, nameExists, notFound, directoryFull, diskFull, wrongBuffer}
+use Rattle.d64spec.specs.Answers.{Fault, address, wrongSize, badLink, alreadyOwned, badType, badName, duplicateName, wrongCount, wrongMapEntry, badNameArgument, badKindArgument, writeForbidden, nameExists, notFound, directoryFull, diskFull, wrongBuffer, unknownLayout}
 use Rattle.d64spec.specs.Geometry.{layout35}
 use Rattle.d64spec.specs.Map.{mapBit}
 use Rattle.d64spec.specs.Read.{callTell, tellReply}
@@ -20,19 +20,19 @@ use Rattle.d64spec.specs.Trial.{afterCall, imageWithA, imageWithAB, lent
 
 -- ---- answers (01, Answer numbers)
 
--- the faults in the order of document 01's table, at sector s of track t and at slot n
+-- the faults in the order of document 01's table, and 02's (§8), at sector s of track t and at slot n
 abbrev pub faultsAt : ℕ → ℕ → ℕ → List Fault
 faultsAt t s n =
     wrongSize ∷ badLink (address t s) n ∷ alreadyOwned (address t s) n ∷ badType (address t s) n ∷ badName (address t s) n ∷ duplicateName (address t s) n
     ∷ wrongCount (address t s) n ∷ wrongMapEntry (address t s) ∷ badNameArgument ∷ badKindArgument ∷ writeForbidden ∷ nameExists ∷ notFound
-    ∷ directoryFull ∷ diskFull ∷ wrongBuffer ∷ []
+    ∷ directoryFull ∷ diskFull ∷ wrongBuffer ∷ unknownLayout ∷ []
 
 -- what the table gives for each
 abbrev pub answersAt : ℕ → ℕ → ℕ → List (List ℕ)
 answersAt t s n =
     (1 ∷ 0 ∷ 0 ∷ 255 ∷ []) ∷ (2 ∷ t ∷ s ∷ n ∷ []) ∷ (3 ∷ t ∷ s ∷ n ∷ []) ∷ (4 ∷ t ∷ s ∷ n ∷ []) ∷ (5 ∷ t ∷ s ∷ n ∷ []) ∷ (6 ∷ t ∷ s ∷ n ∷ [])
     ∷ (7 ∷ t ∷ s ∷ n ∷ []) ∷ (8 ∷ t ∷ s ∷ 255 ∷ []) ∷ (9 ∷ 0 ∷ 0 ∷ 255 ∷ []) ∷ (10 ∷ 0 ∷ 0 ∷ 255 ∷ []) ∷ (11 ∷ 0 ∷ 0 ∷ 255 ∷ []) ∷ (12 ∷ 0 ∷ 0 ∷ 255 ∷ [])
-    ∷ (13 ∷ 0 ∷ 0 ∷ 255 ∷ []) ∷ (14 ∷ 0 ∷ 0 ∷ 255 ∷ []) ∷ (15 ∷ 0 ∷ 0 ∷ 255 ∷ []) ∷ (16 ∷ 0 ∷ 0 ∷ 255 ∷ []) ∷ []
+    ∷ (13 ∷ 0 ∷ 0 ∷ 255 ∷ []) ∷ (14 ∷ 0 ∷ 0 ∷ 255 ∷ []) ∷ (15 ∷ 0 ∷ 0 ∷ 255 ∷ []) ∷ (16 ∷ 0 ∷ 0 ∷ 255 ∷ []) ∷ (17 ∷ 0 ∷ 0 ∷ 255 ∷ []) ∷ []
 
 -- ---- house order (01, Store)
 
@@ -66,9 +66,9 @@ wrongTracks (bits b l) = let m = sameBitmaps b in filter (λ t. not (equal (filt
 
 -- ---- a formatted disk (01, Format)
 
--- 18/0 with a name of 16 bytes and the ids FF 80: every byte
-unfoldable pub formatted180 : Bytes
-formatted180 =
+-- 18/0 with a name of 16 bytes and the ids FF 80, and these bytes from $AB on: every byte
+unfoldable pub formatted180With : Bytes → Bytes
+formatted180With behind =
     0x12 ∷ 0x01 ∷ 0x41 ∷ 0x00
     ∷ (join (replicate 17 (0x15 ∷ 0xFF ∷ 0xFF ∷ 0x1F ∷ []))
     ++ (0x11 ∷ 0xFC ∷ 0xFF ∷ 0x07
@@ -76,7 +76,11 @@ formatted180 =
     ++ (join (replicate 6 (0x12 ∷ 0xFF ∷ 0xFF ∷ 0x03 ∷ []))
     ++ (join (replicate 5 (0x11 ∷ 0xFF ∷ 0xFF ∷ 0x01 ∷ []))
     ++ (range 0xF0 16
-    ++ (0xA0 ∷ 0xA0 ∷ 0xFF ∷ 0x80 ∷ 0xA0 ∷ 0x32 ∷ 0x41 ∷ 0xA0 ∷ 0xA0 ∷ 0xA0 ∷ 0xA0 ∷ zeros 85)))))))
+    ++ (0xA0 ∷ 0xA0 ∷ 0xFF ∷ 0x80 ∷ 0xA0 ∷ 0x32 ∷ 0x41 ∷ 0xA0 ∷ 0xA0 ∷ 0xA0 ∷ 0xA0 ∷ behind)))))))
+
+-- with 35 tracks there are zeros behind
+abbrev pub formatted180 : Bytes
+formatted180 = formatted180With (zeros 85)
 
 -- ---- calls on the small disk
 

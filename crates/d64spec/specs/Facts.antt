@@ -97,7 +97,7 @@ pub record FirstFree (g : Geometry) (d : Disk) (k : ℕ) (l : List Address) : Ty
 
 -- an answer's number is one of the table's, and its place is three bytes (01, Answer numbers; Host calls)
 pub record AnswerFits (a : Answer) : Type 0 where
-  pub number : a .number ≤ 16
+  pub number : a .number ≤ 17
   pub track : a .track < 256
   pub sector : a .sector < 256
   pub slot : a .slot < 256

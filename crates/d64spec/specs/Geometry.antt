@@ -1,9 +1,9 @@
--- Tracks and sectors (01, Tracks and sectors): a record, so that another layout is another value.
--- In order: the layout; a track's sectors; a sector's number; 18/0 and 18/1; the order in which a store takes sectors.
+-- Tracks and sectors (01, Tracks and sectors; 02, §8): a record, so that another layout is another value.
+-- In order: the layouts; a track's sectors; a sector's number; 18/0 and 18/1; the order in which a store takes sectors.
 -- Tracks count from 1, sectors from 0; `0 ∷ g .counts` has a track's count at the track's own number. Laws: proofs/BoundLaws, AllocationLaws.
-use Prim.Native.Nat.{ℕ, _+_, _*_, _≤_, _<_}
+use Prim.Native.Nat.{ℕ, _+_, _-_, _*_, _≤_, _<_}
 use mathlib.Core.Path.{_≡_}
-use mathlib.Core.Bool.{Bool, true}
+use mathlib.Core.Bool.{Bool, true, cond}
 use mathlib.Core.Logic.{_⊎_}
 use mathlib.Core.List.{List, _∷_, _++_, map}
 use lib.ListN.{length, take, getD, replicate}
@@ -16,9 +16,25 @@ pub record Geometry : Type 0 where
   pub counts : List ℕ  -- the sectors of track 1, of track 2, ..
   pub mapAt : ℕ → ℕ  -- where a track's map entry starts in 18/0
 
--- document 01's table: 1-17 with 21, 18-24 with 19, 25-30 with 18, 31-35 with 17; track t's map entry is at 4t
+-- document 01's table: 1-17 with 21, 18-24 with 19, 25-30 with 18, and the n tracks from 31 on with 17
+abbrev pub zones : ℕ → List ℕ
+zones n = replicate 17 21 ++ (replicate 7 19 ++ (replicate 6 18 ++ replicate n 17))
+
+-- layout 0, document 01's: 35 tracks; track t's map entry is at 4t
 unfoldable pub layout35 : Geometry
-layout35 = record { counts = replicate 17 21 ++ (replicate 7 19 ++ (replicate 6 18 ++ replicate 5 17)); mapAt = λ t. 4 * t }
+layout35 = record { counts = zones 5; mapAt = λ t. 4 * t }
+
+-- 40 tracks (02, §8): five more with 17 sectors each, whose map entries stand from byte `extra` of 18/0 on
+unfoldable pub layout40 : ℕ → Geometry
+layout40 extra = record { counts = zones 10; mapAt = λ t. cond (ltb t 36) (4 * t) (extra + 4 * (t - 36)) }
+
+-- layout 1, SpeedDOS: $C0 + 4(t-36)
+unfoldable pub speedDos : Geometry
+speedDos = layout40 0xC0
+
+-- layout 2, Dolphin: $AC + 4(t-36)
+unfoldable pub dolphin : Geometry
+dolphin = layout40 0xAC
 
 -- how many tracks
 unfoldable pub tracks : Geometry → ℕ

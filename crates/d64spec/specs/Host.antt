@@ -1,14 +1,16 @@
--- The host calls (01, Host calls): the number that is returned, and every byte left in lent memory.
+-- The host calls (01, Host calls; 02, §8): the number that is returned, and every byte left in lent memory.
+-- In order: the answer block; a call in a layout; a call that names its layout by a number.
 use Prim.Native.Nat.{ℕ, zero, suc, _/_, _%_}
 use mathlib.Core.Bool.{cond}
 use mathlib.Core.List.{[], _∷_, _++_}
 use lib.ListN.{length}
 use lib.Dec.{eqb}
 use Rattle.d64spec.specs.Lists.{Bytes}
-use Rattle.d64spec.specs.Answers.{answerOf, wrongBuffer}
+use Rattle.d64spec.specs.Answers.{answerOf, wrongBuffer, _>>=_}
 use Rattle.d64spec.specs.Geometry.{Geometry}
-use Rattle.d64spec.specs.Reply.{Reply}
-use Rattle.d64spec.specs.Call.{Call, outputBuffer, perform}
+use Rattle.d64spec.specs.Layouts.{layoutNumbered}
+use Rattle.d64spec.specs.Reply.{Reply, reply}
+use Rattle.d64spec.specs.Call.{Call, attempt, outputBuffer, perform}
 
 -- a number in n bytes, low byte first
 abbrev pub littleEndian : ℕ → ℕ → Bytes
@@ -37,3 +39,11 @@ blockRefused img block c = record { number = answerOf wrongBuffer .number; image
 -- a host call, lent an image and an answer block
 unfoldable pub hostCall : Geometry → Bytes → Bytes → Call → HostReply
 hostCall g img block c = cond (eqb (length block) 9) (hostReply (perform g img c)) (blockRefused img block c)
+
+-- A CALL THAT NAMES A LAYOUT by its number (02, §8): 17 where there is none, and its reply
+unfoldable pub performIn : ℕ → Bytes → Call → Reply
+performIn n img c = reply img (outputBuffer c) (layoutNumbered n >>= (λ g. attempt g img c))
+
+-- the same as a host call: only the answer block's size comes before the layout
+unfoldable pub hostCallIn : ℕ → Bytes → Bytes → Call → HostReply
+hostCallIn n img block c = cond (eqb (length block) 9) (hostReply (performIn n img c)) (blockRefused img block c)

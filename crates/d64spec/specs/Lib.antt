@@ -1,6 +1,7 @@
 pub mod Lists
 pub mod Answers
 pub mod Geometry
+pub mod Layouts
 pub mod Image
 pub mod Chain
 pub mod Directory
@@ -29,4 +30,7 @@ pub mod TwoFaults
 pub mod Edges
 pub mod Retired
 pub mod SpareBits
+pub mod OutsideMap
 pub mod MapPlace
+pub mod LayoutRows
+pub mod TwoLayouts

@@ -1,22 +1,22 @@
 -- What each call asks, in document 01's order, and what answers where it does not hold (01, Answer numbers: "Where several apply").
 -- A call is done exactly when all of its conditions hold, and else refused with the fault of the first that does not: proofs/OrderTheorem.
--- In order: conditions; the fault of a chain; arguments and size; steps 2 to 4 of the check; the calls, tell and the listing.
-use Prim.Native.Nat.{ℕ, _+_, _*_, _≤_, _<_}
+-- In order: conditions; the fault of a chain; arguments and size; steps 2 to 4 of the check; the calls, tell and the listing; the layout that a call names.
+use Prim.Native.Nat.{ℕ, zero, suc, _+_, _*_, _≤_, _<_}
 use mathlib.Core.Path.{_≡_}
 use mathlib.Core.Bool.{true}
 use mathlib.Core.Logic.{_⊎_}
 use mathlib.Core.List.{List, [], _∷_, _++_, map}
 use lib.ListN.{length}
 use Rattle.d64spec.specs.Lists.{Bytes, byte, count, nameCount, range}
-use Rattle.d64spec.specs.Answers.{Address, Fault, address, wrongSize, badLink, alreadyOwned, badType, badName, duplicateName, wrongCount, wrongMapEntry, badNameArgument, badKindArgument, writeForbidden, nameExists, notFound, directoryFull, diskFull, wrongBuffer}
-use Rattle.d64spec.specs.Geometry.{Geometry, sectorNumber, sectorsOn, total, tracks, mapAddress, directoryStart}
+use Rattle.d64spec.specs.Answers.{Address, Fault, address, wrongSize, badLink, alreadyOwned, badType, badName, duplicateName, wrongCount, wrongMapEntry, badNameArgument, badKindArgument, writeForbidden, nameExists, notFound, directoryFull, diskFull, wrongBuffer, unknownLayout}
+use Rattle.d64spec.specs.Geometry.{Geometry, layout35, speedDos, dolphin, sectorNumber, sectorsOn, total, tracks, mapAddress, directoryStart}
 use Rattle.d64spec.specs.Image.{Disk, disk}
 use Rattle.d64spec.specs.Chain.{Link, to, bad, fileLink, directoryLink, steps, Chain, follow, chainData}
 use Rattle.d64spec.specs.Directory.{Slot, File, entryByte, validType, validName, nameOf, countOf, firstLink, fileOf, directorySectors, occupied, files}
 use Rattle.d64spec.specs.Owner.{freeForFiles, freeForDirectory}
 use Rattle.d64spec.specs.Map.{mapOnes}
 use Rattle.d64spec.specs.Accepted.{MarksFree, RightBit}
-use Rattle.d64spec.specs.Rules.{IsName, IsStorableKind, MayWrite}
+use Rattle.d64spec.specs.Rules.{IsName, IsStorableKind, IsLayout, MayWrite}
 use Rattle.d64spec.specs.Reply.{filesNamed}
 use Rattle.d64spec.specs.Store.{sectorsNeeded, emptySlots, lastOf}
 use Rattle.d64spec.specs.Call.{Call, check, format, read, store, scratch}
@@ -190,3 +190,20 @@ listingConditions g b out =
     ∷ asksDirectory g (diskOfTrack18 g b)
     ∷ (listingSlots [] (occupied g (diskOfTrack18 g b))
     ++ (asks (length (listingText g (diskOfTrack18 g b) (occupied g (diskOfTrack18 g b))) ≤ length out) wrongBuffer ∷ []))
+
+-- ---- a call that names its layout by a number (02, §8): 17, then what the call asks in that layout
+
+-- 17: the layout's number
+abbrev pub asksLayout : ℕ → Condition
+asksLayout n = asks (IsLayout n) unknownLayout
+
+-- what is asked in the layout of this number: 0 for 35 tracks, 1 for SpeedDOS, 2 for Dolphin
+unfoldable pub askedIn : ℕ → (Geometry → List Condition) → List Condition
+askedIn zero asked = asked layout35
+askedIn (suc zero) asked = asked speedDos
+askedIn (suc (suc zero)) asked = asked dolphin
+askedIn (suc (suc (suc n))) asked = []
+
+-- 17 before all else, for every call, tell and the listing
+abbrev pub inLayout : ℕ → (Geometry → List Condition) → List Condition
+inLayout n asked = asksLayout n ∷ askedIn n asked

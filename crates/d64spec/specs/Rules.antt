@@ -26,6 +26,10 @@ pub record HoldsName (field n : Bytes) : Type 0 where
 abbrev pub IsStorableKind : ℕ → Type 0
 IsStorableKind k = (k ≡ 1) ⊎ (k ≡ 2)
 
+-- a layout's number: 0, 1 or 2 (02, §8)
+abbrev pub IsLayout : ℕ → Type 0
+IsLayout n = (n ≡ 0) ⊎ ((n ≡ 1) ⊎ (n ≡ 2))
+
 -- the type bytes that are carried on a disk: SEQ, PRG and USR, closed, locked or not (01, The directory)
 abbrev pub typeBytes : List ℕ
 typeBytes = 0x81 ∷ 0x82 ∷ 0x83 ∷ 0xC1 ∷ 0xC2 ∷ 0xC3 ∷ []

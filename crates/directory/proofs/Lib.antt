@@ -1,7 +1,8 @@
-pub mod Track18Laws
-pub mod WalkLaws
 pub mod SlotBytesLaws
 pub mod SlotListLaws
+pub mod Track18Laws
+pub mod Layout18Laws
+pub mod WalkLaws
 pub mod RepeatLaws
 pub mod EntryLaws
 pub mod PairLaws

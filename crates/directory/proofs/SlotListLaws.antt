@@ -9,7 +9,7 @@ use lib.ListN.{length, getD, take, drop}
 use lib.Seq.{drop-cons}
 use Rattle.d64spec.specs.Lists.{Bytes, filter, range}
 use Rattle.d64spec.specs.Answers.{address}
-use Rattle.d64spec.specs.Geometry.{layout35, sectorNumber}
+use Rattle.d64spec.specs.Geometry.{Geometry, sectorNumber}
 use Rattle.d64spec.specs.Image.{disk}
 use Rattle.d64spec.specs.Directory.{Slot, isEmpty, slotIn, slotsIn, slotsFrom, occupiedIn}
 use Rattle.d64spec.specs.Listing.{diskOfTrack18}
@@ -35,13 +35,13 @@ map-ranges f h a b (suc n) e =
 -- ---- track 18
 
 -- sector s of track 18 is the s-th of its bytes
-pub disk-of-track18 : (b : Bytes) (s : ℕ) → diskOfTrack18 layout35 b (sectorNumber layout35 (address 18 s)) ≡ disk b s
+pub disk-of-track18 : (g : Geometry) (b : Bytes) (s : ℕ) → diskOfTrack18 g b (sectorNumber g (address 18 s)) ≡ disk b s
 unfolding diskOfTrack18 sectorNumber
-disk-of-track18 b s = ap (disk b) (omega arith)
+disk-of-track18 g b s = ap (disk b) (omega arith)
 
 -- ---- slots
 
-module _ (b : Bytes) (ss : List ℕ) where
+module _ (g : Geometry) (b : Bytes) (ss : List ℕ) where
   -- the j-th slot of the i-th sector
   slot-of-sector : (i j : ℕ) → j < 8 → slotAt b ss (8 * i + j) ≡ slotIn (disk b (getD ss i 0)) (address 18 (getD ss i 0)) (8 * i) (0 + j)
   unfolding slotAt
@@ -51,20 +51,22 @@ module _ (b : Bytes) (ss : List ℕ) where
       rw (d, m)
 
   -- the eight slots of the i-th sector
-  slots-of-sector : (i : ℕ) → slotsIn (diskOfTrack18 layout35 b (sectorNumber layout35 (address 18 (getD ss i 0)))) (address 18 (getD ss i 0)) (8 * i) ≡ map (slotAt b ss) (range (8 * i) 8)
+  slots-of-sector : (i : ℕ) → slotsIn (diskOfTrack18 g b (sectorNumber g (address 18 (getD ss i 0)))) (address 18 (getD ss i 0)) (8 * i)
+      ≡ map (slotAt b ss) (range (8 * i) 8)
   unfolding slotsIn
   slots-of-sector i =
-      ap (λ (s : Bytes). map (slotIn s (address 18 (getD ss i 0)) (8 * i)) (range 0 8)) (disk-of-track18 b (getD ss i 0))
+      ap (λ (s : Bytes). map (slotIn s (address 18 (getD ss i 0)) (8 * i)) (range 0 8)) (disk-of-track18 g b (getD ss i 0))
       ∙ sym (map-ranges (slotAt b ss) (slotIn (disk b (getD ss i 0)) (address 18 (getD ss i 0)) (8 * i)) (8 * i) 0 8 (λ j l. slot-of-sector i j l))
 
-  slots-from : (m i : ℕ) → i + m ≤ length ss → slotsFrom layout35 (diskOfTrack18 layout35 b) (8 * i) (map (λ s. address 18 s) (take m (drop i ss))) ≡ map (slotAt b ss) (range (8 * i) (8 * m))
+  slots-from : (m i : ℕ) → i + m ≤ length ss → slotsFrom g (diskOfTrack18 g b) (8 * i) (map (λ s. address 18 s) (take m (drop i ss)))
+      ≡ map (slotAt b ss) (range (8 * i) (8 * m))
   slots-from zero i h = refl
   slots-from (suc m) i h =
       let eight : 8 * suc m ≡ 8 + 8 * m = omega arith in
       let next : 8 * i + 8 ≡ 8 * suc i = omega arith in
-      ap (λ (l : List ℕ). slotsFrom layout35 (diskOfTrack18 layout35 b) (8 * i) (map (λ s. address 18 s) (take (suc m) l))) (drop-cons ss i 0 (omega arith))
+      ap (λ (l : List ℕ). slotsFrom g (diskOfTrack18 g b) (8 * i) (map (λ s. address 18 s) (take (suc m) l))) (drop-cons ss i 0 (omega arith))
       ∙ ap₂ (λ (x y : List Slot). x ++ y) (slots-of-sector i)
-      (ap (λ (n : ℕ). slotsFrom layout35 (diskOfTrack18 layout35 b) n (map (λ s. address 18 s) (take m (drop (suc i) ss)))) next
+      (ap (λ (n : ℕ). slotsFrom g (diskOfTrack18 g b) n (map (λ s. address 18 s) (take m (drop (suc i) ss)))) next
       ∙ slots-from m (suc i) (omega arith)
       ∙ ap (λ (n : ℕ). map (slotAt b ss) (range n (8 * m))) (sym next))
       ∙ sym (ap (λ (n : ℕ). map (slotAt b ss) (range (8 * i) n)) eight
@@ -72,9 +74,10 @@ module _ (b : Bytes) (ss : List ℕ) where
       ∙ map-append (slotAt b ss) (range (8 * i) 8) (range (8 * i + 8) (8 * m)))
 
   -- THE SLOTS of the first n sectors are the slots 0 to 8 * n - 1
-  pub slots-by-number : (n : ℕ) → n ≤ length ss → slotsFrom layout35 (diskOfTrack18 layout35 b) 0 (sectorsOf ss n) ≡ map (slotAt b ss) (range 0 (8 * n))
+  pub slots-by-number : (n : ℕ) → n ≤ length ss → slotsFrom g (diskOfTrack18 g b) 0 (sectorsOf ss n) ≡ map (slotAt b ss) (range 0 (8 * n))
   slots-by-number n h = slots-from n 0 (omega arith)
 
   -- and so are the occupied ones
-  pub occupied-by-number : (n : ℕ) → n ≤ length ss → occupiedIn layout35 (diskOfTrack18 layout35 b) (sectorsOf ss n) ≡ filter (λ s. not (isEmpty (s .bytes))) (map (slotAt b ss) (range 0 (8 * n)))
+  pub occupied-by-number : (n : ℕ) → n ≤ length ss → occupiedIn g (diskOfTrack18 g b) (sectorsOf ss n)
+      ≡ filter (λ s. not (isEmpty (s .bytes))) (map (slotAt b ss) (range 0 (8 * n)))
   occupied-by-number n h = ap (filter (λ s. not (isEmpty (s .bytes)))) (slots-by-number n h)

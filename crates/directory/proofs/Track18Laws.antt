@@ -1,23 +1,22 @@
 -- The directory lies on track 18: a walk along it reads no other sector, so that track 18's bytes alone show what the whole image shows.
--- In order: where a directory link leads; disks that agree on track 18; an image and its track 18; 35 tracks in numbers.
+-- In order: where a directory link leads; disks that agree on track 18; an image and its track 18; track 18 in numbers.
 -- The sectors of an image's track 18 one by one: d64spec's ListingTheorem (`track18-sectors`, `track18-length`).
 use Prim.Native.Nat.{ℕ, zero, suc, _+_, _≤_, _<_}
 use native.Mathlib.Omega.{arith}
 use mathlib.Core.Path.{_≡_, refl, ap, _∙_}
 use mathlib.Core.Bool.{Bool, true, false, cond, _&&_}
 use mathlib.Core.List.{List, [], _∷_}
-use lib.ListN.{set}
 use lib.Dec.{eqb, ltb}
 use borrow.Author.Tests.{ltb-true}
-use Rattle.d64spec.specs.Lists.{Bytes, byte, member, zeros}
+use Rattle.d64spec.specs.Lists.{Bytes, byte, member}
 use Rattle.d64spec.specs.Answers.{Address, address, Result, refused, done, _>>=_, alreadyOwned}
-use Rattle.d64spec.specs.Geometry.{Geometry, layout35, sectorNumber, firstOn, sectorsOn, onDisk, total, mapAddress, directoryStart}
+use Rattle.d64spec.specs.Geometry.{Geometry, sectorNumber, firstOn, sectorsOn, onDisk, mapAddress, directoryStart}
 use Rattle.d64spec.specs.Image.{Disk, disk}
 use Rattle.d64spec.specs.Chain.{Link, ends, to, bad, linkTo, decodeDirectoryLink, directoryLink, steps, walk}
 use Rattle.d64spec.specs.Check.{checkDirectory}
 use Rattle.d64spec.specs.Listing.{bytesOfTrack18, diskOfTrack18}
+use Rattle.d64spec.specs.Layouts.{Known}
 use Rattle.d64spec.proofs.ListingTheorem.{track18-own}
-use Rattle.owners.specs.OwnerTable.{mapTable, mapOwner}
 
 -- ---- where a directory link leads
 
@@ -79,32 +78,23 @@ module _ (g : Geometry) (d e : Disk) (same : SameTrack18 g d e) where
 pub image-track18 : (g : Geometry) (img : Bytes) → SameTrack18 g (diskOfTrack18 g (bytesOfTrack18 g img)) (disk img)
 image-track18 g img = track18-own g img
 
-start35 : onDisk layout35 directoryStart ≡ true
-unfolding layout35 onDisk sectorsOn
-start35 = refl
-
 -- THE DIRECTORY OF AN IMAGE is that of its track 18
-pub directory-of-track18 : (img : Bytes) → checkDirectory layout35 (diskOfTrack18 layout35 (bytesOfTrack18 layout35 img)) ≡ checkDirectory layout35 (disk img)
-directory-of-track18 img = directory-same layout35 (diskOfTrack18 layout35 (bytesOfTrack18 layout35 img)) (disk img) (image-track18 layout35 img) start35
+pub directory-of-track18 : (g : Geometry) → Known g → (img : Bytes) → checkDirectory g (diskOfTrack18 g (bytesOfTrack18 g img)) ≡ checkDirectory g (disk img)
+directory-of-track18 g kn img = directory-same g (diskOfTrack18 g (bytesOfTrack18 g img)) (disk img) (image-track18 g img) (kn .valid .directory)
 
--- ---- 35 tracks in numbers
+-- ---- track 18 in numbers
 
-pub number-18 : (s : ℕ) → sectorNumber layout35 (address 18 s) ≡ 357 + s
-unfolding layout35 sectorNumber firstOn
-number-18 s = refl
+-- where it has 19 sectors
+module _ (g : Geometry) (nineteen : sectorsOn g 18 ≡ 19) where
+  pub on-18 : (s : ℕ) → onDisk g (address 18 s) ≡ ltb s 19
+  unfolding onDisk
+  on-18 s = ap (ltb s) nineteen
 
-pub sectors-18 : sectorsOn layout35 18 ≡ 19
-unfolding layout35 sectorsOn
-sectors-18 = refl
+  pub decoded-inside18 : (t s : ℕ) → InDirectory 19 (decodeDirectoryLink g t s)
+  decoded-inside18 t s = rw nineteen at (decoded-inside g t s)
 
-pub on-18 : (s : ℕ) → onDisk layout35 (address 18 s) ≡ ltb s 19
-unfolding onDisk
-on-18 s = ap (ltb s) sectors-18
-
-pub decoded-inside35 : (t s : ℕ) → InDirectory 19 (decodeDirectoryLink layout35 t s)
-decoded-inside35 t s = rw sectors-18 at (decoded-inside layout35 t s)
-
--- the owner table before the walk
-pub mapTable35 : mapTable layout35 ≡ set (zeros 683) 357 mapOwner
-unfolding mapTable layout35 total sectorNumber firstOn
-mapTable35 = refl
+-- alike in all layouts that have a number
+module _ (g : Geometry) (kn : Known g) where
+  pub number-18 : (s : ℕ) → sectorNumber g (address 18 s) ≡ 357 + s
+  unfolding sectorNumber
+  number-18 s = omega (arith, kn .map357)

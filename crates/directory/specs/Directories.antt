@@ -9,7 +9,7 @@ use lib.ListN.{length, take, getD}
 use lib.Dec.{eqb, ltb}
 use Rattle.d64spec.specs.Lists.{Bytes, All, filter, range, zeros, nameCount}
 use Rattle.d64spec.specs.Answers.{Address, address, wrongSize, badType, badName, duplicateName, Result, refused, done, _>>_, need}
-use Rattle.d64spec.specs.Geometry.{layout35, total, sectorsOn}
+use Rattle.d64spec.specs.Geometry.{Geometry, total, sectorsOn, firstOn}
 use Rattle.d64spec.specs.Image.{disk}
 use Rattle.d64spec.specs.Directory.{Slot, isEmpty, entryByte, validType, validName, nameField, nameOf, slotIn}
 use Rattle.d64spec.specs.Check.{checkDirectory}
@@ -67,8 +67,8 @@ entryVerdict b holder number repeated = do
   need (not repeated) (duplicateName holder number)
 
 -- step 2 on track 18 alone: its size, then the directory along its links
-unfoldable pub trackDirectory : Bytes → Result (List Address)
-trackDirectory b = need (eqb (length b) (256 * sectorsOn layout35 18)) wrongSize >> checkDirectory layout35 (diskOfTrack18 layout35 b)
+unfoldable pub trackDirectory : Geometry → Bytes → Result (List Address)
+trackDirectory g b = need (eqb (length b) (256 * sectorsOn g 18)) wrongSize >> checkDirectory g (diskOfTrack18 g b)
 
 -- how many directory sectors there are: none where the walk is refused
 unfoldable pub sectorCount : Result (List Address) → ℕ
@@ -76,17 +76,16 @@ sectorCount (refused f) = 0
 sectorCount (done ds) = length ds
 
 -- the owner table after the walk: nobody's where it is refused
-unfoldable pub tableAfter : Result (List Address) → List ℕ
-tableAfter (refused f) = zeros (total layout35)
-tableAfter (done ds) = directoryTable layout35 ds
+unfoldable pub tableAfter : Geometry → Result (List Address) → List ℕ
+tableAfter g (refused f) = zeros (total g)
+tableAfter g (done ds) = directoryTable g ds
 
--- what reading the directory of track 18's bytes b gives
-pub record DirectoryRead (b : Bytes) (r : Directory) : Type 0 where
-  pub walked : whereFine (r .verdict) (sectorsOf (r .sectors) (r .count)) ≡ trackDirectory b
-  pub count : r .count ≡ sectorCount (trackDirectory b)
+-- what reading the directory of track 18's bytes b gives, in a layout whose track 18 has 19 sectors
+pub record DirectoryRead (g : Geometry) (b : Bytes) (r : Directory) : Type 0 where
+  pub walked : whereFine (r .verdict) (sectorsOf (r .sectors) (r .count)) ≡ trackDirectory g b
+  pub count : r .count ≡ sectorCount (trackDirectory g b)
   pub rest : r .sectors ≡ take (r .count) (r .sectors) ++ zeros (18 - r .count)
   pub few : r .count ≤ 18
   pub inside : All (λ s. s < 19) (r .sectors)
   pub repeated : r .repeated ≡ firstRepeated b (r .sectors) 0 (8 * r .count)
-  pub owners : r .owners ≡ tableAfter (trackDirectory b)
-  pub used : r .used ≡ ownedMask (r .owners) 357 19
+  pub used : r .used ≡ ownedMask (tableAfter g (trackDirectory g b)) (firstOn g 18) 19

@@ -1,11 +1,13 @@
 // The directory, read from track 18's bytes alone (01, The directory; Order of the check, step 2): its sectors in link order, the first
-// slot that repeats an earlier slot's name, and the owner table after the walk. The check and the sleeve listing both start here.
+// slot that repeats an earlier slot's name, and the sectors that it owns. Track 18 is the same in every layout, so that no function here takes one. The
+// check and the sleeve listing both start here.
 // Every public function takes any bytes.
 mod repeats;
 mod walk;
 
 ghost use mathlib.Core.Path.{_≡_};
 ghost use Rattle.d64spec.specs.Lists.{zeros};
+ghost use Rattle.d64spec.specs.Geometry.{Geometry, sectorsOn};
 ghost use Rattle.answers.specs.Faults.{sectorOf, verdictOf};
 ghost use Rattle.directory.specs.Directories.{DirectoryRead, IsSlot, entryVerdict};
 use answers::Fault;
@@ -13,27 +15,25 @@ use answers::Place;
 use answers::Verdict;
 
 // The directory's sectors on track 18 in link order, 18/sectors[0] to 18/sectors[count - 1], with zeros after them; the number of the
-// first slot that repeats the name field of an earlier one (8 * count where none does); who owns which sector so far; and the sectors of track 18
-// that have an owner, bit s for sector s. Where the verdict is a refusal there is no sector and no owner.
+// first slot that repeats the name field of an earlier one (8 * count where none does); and the sectors of track 18 that have an owner then, bit s for
+// sector s. Where the verdict is a refusal there is no sector and no owner.
 pub struct Directory {
     pub verdict: Verdict,
     pub sectors: [u8; 18],
     pub count: usize,
     pub repeated: usize,
-    pub owners: [u8; 683],
     pub used: u32,
 }
 
 // A refusal: no sector, no owner.
 fn refuse(fault: Fault) -> Directory
-    ensures { λ r. ⌜ r ≡ record { verdict = Verdict.Refused fault; sectors = zeros 18; count = 0; repeated = 0; owners = zeros 683; used = 0 } ⌝ }
+    ensures { λ r. ⌜ r ≡ record { verdict = Verdict.Refused fault; sectors = zeros 18; count = 0; repeated = 0; used = 0 } ⌝ }
 {
     Directory {
         verdict: Verdict::Refused(fault),
         sectors: [0u8; 18],
         count: 0,
         repeated: 0,
-        owners: [0u8; 683],
         used: 0,
     }
 }
@@ -79,14 +79,15 @@ pub fn check_entry(slot: &[u8], at: Place, repeated: bool) -> Verdict
 
 // Reads the directory of track 18: refused with 1 unless it has 4,864 bytes, else along the links from 18/1 on.
 pub fn read_directory(track18: &[u8]) -> Directory
-    ensures { λ r. ⌜ DirectoryRead (now (track18 .entry)) r ⌝ }
+    ensures { λ r. ⌜ ((g : Geometry) → sectorsOn g 18 ≡ 19 → DirectoryRead g (now (track18 .entry)) r) ⌝ }
 {
     if track18.len() != 4864 {
         return refuse(Fault::WrongSize);
     }
-    let mut owners = [0u8; 683];
-    owners[357] = 1;
-    let walked = walk::walk_directory(track18, &mut owners, 1);
+    // 18/0 is owned from the start
+    let mut own = [0u8; 19];
+    own[0] = 1;
+    let walked = walk::walk_directory(track18, &mut own, 1);
     let verdict = walked.verdict;
     match verdict {
         Verdict::Refused(fault) => refuse(fault),
@@ -99,7 +100,6 @@ pub fn read_directory(track18: &[u8]) -> Directory
                 sectors,
                 count,
                 repeated,
-                owners,
                 used: walked.used,
             }
         }

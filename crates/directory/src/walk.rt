@@ -39,10 +39,10 @@ fn walk_of(verdict: Verdict, sectors: [u8; 18], count: usize, used: u32) -> Walk
     }
 }
 
-// Walks the directory from 18/1 on. Each sector gets the directory's number in the owner table, and its bit among the used sectors of track 18; one
+// Walks the directory from 18/1 on. Each sector gets the directory's number in a table of track 18's owners, and its bit among the used sectors; one
 // that has an owner is refused.
-pub(crate) fn walk_directory(track18: &[u8], own: &mut [u8; 683], marked: u32) -> Walk
-    requires { ⌜ (length (now track18) ≡ 4864) × (length (now own) ≡ 683) × (marked ≡ ownedMask (now own) 357 19) ⌝ }
+pub(crate) fn walk_directory(track18: &[u8], own: &mut [u8; 19], marked: u32) -> Walk
+    requires { ⌜ (length (now track18) ≡ 4864) × (length (now own) ≡ 19) × (marked ≡ ownedMask (now own) 0 19) ⌝ }
     ensures { λ r. ⌜ Walked (now (track18 .entry)) (now (own .entry)) r (now (own .exit)) ⌝ }
 {
     let mut sectors = [0u8; 18];
@@ -51,7 +51,7 @@ pub(crate) fn walk_directory(track18: &[u8], own: &mut [u8; 683], marked: u32) -
     let mut next: u8 = 1;
     let mut used = marked;
     loop {
-        let n = 357 + next as usize;
+        let n = next as usize;
         if own[n] != 0 {
             return walk_of(
                 Verdict::Refused(Fault::AlreadyOwned(place_of(holder))),

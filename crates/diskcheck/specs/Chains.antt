@@ -1,6 +1,6 @@
 -- A file's chain, claimed sector by sector in the owner table (01, Chains; Order of the check, 3).
 -- In order: what a claim answers; the definition's walk with the table after it; a track's mask; what the loop may rely on. Laws: proofs/ChainLaws.
-use Prim.Native.Nat.{ℕ, _+_, _-_, _≤_, _<_}
+use Prim.Native.Nat.{ℕ, _+_, _-_, _≤_, _<_, _*_}
 use mathlib.Core.Path.{_≡_}
 use mathlib.Core.Bool.{cond, _&&_}
 use mathlib.Core.List.{List, map}
@@ -8,7 +8,7 @@ use lib.ListN.{length, getD, set}
 use lib.Dec.{eqb, ltb, leb}
 use Rattle.d64spec.specs.Lists.{Bytes}
 use Rattle.d64spec.specs.Answers.{Address, Result, refused, done}
-use Rattle.d64spec.specs.Geometry.{layout35, sectorNumber}
+use Rattle.d64spec.specs.Geometry.{Geometry, total, sectorNumber}
 use Rattle.d64spec.specs.Image.{disk}
 use Rattle.d64spec.specs.Chain.{linkTo, fileLink, steps, walk}
 use Rattle.geometry.specs.declared.Address.{Address as CodeAddress}
@@ -41,24 +41,24 @@ unfoldable pub claimOff : ℕ → ℕ → ℕ → CodeAddress → ℕ → Claim
 claimOff t s n holder slot = cond (eqb t 0 && ltb 0 s && ltb 0 n) (claim.Ended n s) (claim.Refused (BadLink (heldBy holder slot)))
 
 -- the sectors of a walk claimed for the owner `id`
-unfoldable pub claimed : Bytes → ℕ → List ℕ → Result (List Address) → Result Claimed
-claimed img id own (refused f) = refused f
-claimed img id own (done l) = done (record { count = length l; end = endOf img l; table = withOwner id (map (sectorNumber layout35) l) own })
+unfoldable pub claimed : Geometry → Bytes → ℕ → List ℕ → Result (List Address) → Result Claimed
+claimed g img id own (refused f) = refused f
+claimed g img id own (done l) = done (record { count = length l; end = endOf g img l; table = withOwner id (map (sectorNumber g) l) own })
 
 -- the definition's walk of the chain that a first link to track t, sector s starts, which the sector `holder` holds
-unfoldable pub chainWalk : Bytes → List ℕ → Address → ℕ → ℕ → ℕ → Result (List Address)
-chainWalk img own holder slot t s = walk layout35 (fileLink layout35) (disk img) (steps layout35) (owned own) holder slot (linkTo layout35 t s)
+unfoldable pub chainWalk : Geometry → Bytes → List ℕ → Address → ℕ → ℕ → ℕ → Result (List Address)
+chainWalk g img own holder slot t s = walk g (fileLink g) (disk img) (steps g) (owned own) holder slot (linkTo g t s)
 
--- the masks with these bits of a track's sectors more; a track that the disk does not have has no mask
+-- the masks with these bits of a track's sectors more; tracks 1 to 40 have one
 unfoldable pub withMask : List ℕ → ℕ → ℕ → List ℕ
-withMask used t m = cond (leb 1 t && leb t 35) (set used (t - 1) (getD used (t - 1) 0 + m)) used
+withMask used t m = cond (leb 1 t && leb t 40) (set used (t - 1) (getD used (t - 1) 0 + m)) used
 
--- where the disk has the track, its mask has room for these bits
+-- where the track has a mask, there is room for these bits in it
 pub record MaskRoom (used : List ℕ) (t m : ℕ) : Type 0 where
-  pub fits : 1 ≤ t → t ≤ 35 → getD used (t - 1) 0 + m < 16777216
+  pub fits : 1 ≤ t → t ≤ 40 → getD used (t - 1) 0 + m < 16777216
 
 -- an image and a table of the right size, and an owner that is somebody
-pub record Ready (img own : List ℕ) (id : ℕ) : Type 0 where
-  pub size : length img ≡ 174848
-  pub long : length own ≡ 683
+pub record Ready (g : Geometry) (img own : List ℕ) (id : ℕ) : Type 0 where
+  pub size : length img ≡ 256 * total g
+  pub long : length own ≡ total g
   pub owner : 1 ≤ id

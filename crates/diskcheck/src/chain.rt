@@ -1,12 +1,12 @@
 // A file's chain, claimed sector by sector in the owner table, and in the mask of each track (01, Chains; Order of the check, 3; 02, §4).
 ghost use mathlib.Core.Path.{_≡_};
-ghost use Rattle.d64spec.specs.Geometry.{layout35};
-ghost use Rattle.geometry.specs.Layout.{addressOf, IsCounts, IsFirsts};
+ghost use Rattle.geometry.specs.Layout.{geometryOf, addressOf, IsCounts, IsFirsts};
 ghost use Rattle.owners.specs.Masks.{Masks};
 ghost use Rattle.diskcheck.specs.Chains.{claimOf, claimed, chainWalk, heldBy, claimOff, withMask, MaskRoom, Ready};
 use answers::Fault;
 use answers::Place;
 use geometry::Address;
+use geometry::Layout;
 
 // What a claim answers: the number of the chain's sectors and that of the last byte used in the last of them, or a fault.
 pub(crate) enum Claim {
@@ -42,15 +42,15 @@ fn claim_off(track: u8, sector: u8, count: usize, holder: Address, slot: u8) -> 
     Claim::Ended(count, sector)
 }
 
-// Adds the bits of a track's sectors to its mask; a track that the disk does not have has no mask.
-fn add_mask(used: &mut [u32; 35], track: u8, mask: u32)
+// Adds the bits of a track's sectors to its mask; tracks 1 to 40 have one, also where the layout has no such track.
+fn add_mask(used: &mut [u32; 40], track: u8, mask: u32)
     requires { ⌜ MaskRoom (now used) track mask ⌝ }
     ensures { λ _. ⌜ now (used .exit) ≡ withMask (now (used .entry)) track mask ⌝ }
 {
     if track < 1 {
         return;
     }
-    if 35 < track {
+    if 40 < track {
         return;
     }
     let i = track as usize - 1;
@@ -62,21 +62,23 @@ fn add_mask(used: &mut [u32; 35], track: u8, mask: u32)
 // and first number are at hand, so that the next sector's number waits for no table, and its bits are gathered in `mask`. The end of a chain is found
 // among the links that are off the disk.
 pub(crate) fn claim_chain(
+    layout: Layout,
     img: &[u8],
-    own: &mut [u8; 683],
-    used: &mut [u32; 35],
+    own: &mut [u8],
+    used: &mut [u32; 40],
     id: u8,
     slot: u8,
     from: Address,
     first: Address,
-    counts: &[u8; 35],
-    firsts: &[u16; 35],
+    counts: &[u8; 40],
+    firsts: &[u16; 40],
 ) -> Claim
-    requires { ⌜ Ready (now img) (now own) id × IsCounts (now counts) × IsFirsts (now firsts) × Masks layout35 (now own) (now used) ⌝ }
+    requires { ⌜ Ready (geometryOf layout) (now img) (now own) id × IsCounts (geometryOf layout) (now counts)
+        × IsFirsts (geometryOf layout) (now firsts) × Masks (geometryOf layout) (now own) (now used) ⌝ }
     ensures { λ r. ⌜ (claimOf r (now (own .exit))
-        ≡ claimed (now (img .entry)) id (now (own .entry))
-        (chainWalk (now (img .entry)) (now (own .entry)) (addressOf from) slot (first .track) (first .sector)))
-        × Masks layout35 (now (own .exit)) (now (used .exit)) ⌝ }
+        ≡ claimed (geometryOf layout) (now (img .entry)) id (now (own .entry))
+        (chainWalk (geometryOf layout) (now (img .entry)) (now (own .entry)) (addressOf from) slot (first .track) (first .sector)))
+        × Masks (geometryOf layout) (now (own .exit)) (now (used .exit)) ⌝ }
 {
     let mut holder = from;
     let mut on = geometry::track_by(counts, firsts, first.track);

@@ -3,9 +3,9 @@ ghost use mathlib.Core.Path.{_≡_};
 ghost use Prim.Native.Nat.{_*_, _<_};
 ghost use lib.ListN.{length};
 ghost use Rattle.d64spec.specs.Lists.{All};
-ghost use Rattle.d64spec.specs.Geometry.{layout35};
+ghost use Rattle.d64spec.specs.Geometry.{total};
 ghost use Rattle.answers.specs.Faults.{sectorOf, whereFine};
-ghost use Rattle.geometry.specs.Layout.{IsCounts, IsFirsts};
+ghost use Rattle.geometry.specs.Layout.{geometryOf, IsCounts, IsFirsts};
 ghost use Rattle.owners.specs.Masks.{Masks};
 ghost use Rattle.diskcheck.specs.SlotChecks.{tables, FileReady, fileStep, occupiedStep, LentSlot, SlotReady, slotStep, SlotsReady, slotsStep};
 use crate::chain::Claim;
@@ -14,23 +14,25 @@ use answers::Fault;
 use answers::Place;
 use answers::Verdict;
 use geometry::Address;
+use geometry::Layout;
 
 // The chain of an occupied slot, link by link, and then its count of sectors.
 fn check_file(
+    layout: Layout,
     img: &[u8],
-    own: &mut [u8; 683],
-    used: &mut [u32; 35],
+    own: &mut [u8],
+    used: &mut [u32; 40],
     ends: &mut [u8; 144],
     slot: &[u8],
     at: Place,
-    counts: &[u8; 35],
-    firsts: &[u16; 35],
+    counts: &[u8; 40],
+    firsts: &[u16; 40],
 ) -> Verdict
-    requires { ⌜ FileReady (now img) (tables (now own) (now ends)) (now slot) (at .slot) × IsCounts (now counts) × IsFirsts (now firsts)
-        × Masks layout35 (now own) (now used) ⌝ }
+    requires { ⌜ FileReady (geometryOf layout) (now img) (tables (now own) (now ends)) (now slot) (at .slot)
+        × IsCounts (geometryOf layout) (now counts) × IsFirsts (geometryOf layout) (now firsts) × Masks (geometryOf layout) (now own) (now used) ⌝ }
     ensures { λ r. ⌜ (whereFine r (tables (now (own .exit)) (now (ends .exit)))
-        ≡ fileStep (now (img .entry)) (tables (now (own .entry)) (now (ends .entry))) (now (slot .entry)) (sectorOf at) (at .slot))
-        × Masks layout35 (now (own .exit)) (now (used .exit)) ⌝ }
+        ≡ fileStep (geometryOf layout) (now (img .entry)) (tables (now (own .entry)) (now (ends .entry))) (now (slot .entry)) (sectorOf at) (at .slot))
+        × Masks (geometryOf layout) (now (own .exit)) (now (used .exit)) ⌝ }
 {
     let first = Address {
         track: slot[1],
@@ -41,6 +43,7 @@ fn check_file(
         sector: at.sector,
     };
     let claim = claim_chain(
+        layout,
         img,
         own,
         used,
@@ -67,56 +70,59 @@ fn check_file(
 
 // An occupied slot: its entry, then its chain and its count.
 fn check_occupied(
+    layout: Layout,
     img: &[u8],
-    own: &mut [u8; 683],
-    used: &mut [u32; 35],
+    own: &mut [u8],
+    used: &mut [u32; 40],
     ends: &mut [u8; 144],
     slot: &[u8],
     at: Place,
     repeated: bool,
-    counts: &[u8; 35],
-    firsts: &[u16; 35],
+    counts: &[u8; 40],
+    firsts: &[u16; 40],
 ) -> Verdict
-    requires { ⌜ FileReady (now img) (tables (now own) (now ends)) (now slot) (at .slot) × IsCounts (now counts) × IsFirsts (now firsts)
-        × Masks layout35 (now own) (now used) ⌝ }
+    requires { ⌜ FileReady (geometryOf layout) (now img) (tables (now own) (now ends)) (now slot) (at .slot)
+        × IsCounts (geometryOf layout) (now counts) × IsFirsts (geometryOf layout) (now firsts) × Masks (geometryOf layout) (now own) (now used) ⌝ }
     ensures { λ r. ⌜ (whereFine r (tables (now (own .exit)) (now (ends .exit)))
-        ≡ occupiedStep (now (img .entry)) (tables (now (own .entry)) (now (ends .entry))) (now (slot .entry)) (sectorOf at) (at .slot) repeated)
-        × Masks layout35 (now (own .exit)) (now (used .exit)) ⌝ }
+        ≡ occupiedStep (geometryOf layout) (now (img .entry)) (tables (now (own .entry)) (now (ends .entry))) (now (slot .entry))
+        (sectorOf at) (at .slot) repeated)
+        × Masks (geometryOf layout) (now (own .exit)) (now (used .exit)) ⌝ }
 {
     let entry = directory::check_entry(slot, at, repeated);
     match entry {
         Verdict::Refused(fault) => Verdict::Refused(fault),
-        Verdict::Fine => check_file(img, own, used, ends, slot, at, counts, firsts),
+        Verdict::Fine => check_file(layout, img, own, used, ends, slot, at, counts, firsts),
     }
 }
 
 // Bytes 02 to 1F of slot k of an image.
-fn slot_of<'a>(img: &'a [u8], sectors: &[u8; 18], k: usize) -> &'a [u8]
-    requires { ⌜ (length (now img) ≡ 174848) × All (λ s. s < 19) (now sectors) ⌝ }
-    ensures { λ r. ⌜ LentSlot (now (img .entry)) (now (sectors .entry)) k (now r) ⌝ }
+fn slot_of<'a>(layout: Layout, img: &'a [u8], sectors: &[u8; 18], k: usize) -> &'a [u8]
+    requires { ⌜ (length (now img) ≡ 256 * total (geometryOf layout)) × All (λ s. s < 19) (now sectors) ⌝ }
+    ensures { λ r. ⌜ LentSlot (geometryOf layout) (now (img .entry)) (now (sectors .entry)) k (now r) ⌝ }
 {
     directory::slot_at(&img[91392..96256], sectors, k)
 }
 
 // Slot k: nothing where it is empty; else its entry, its chain and its count.
 fn check_slot(
+    layout: Layout,
     img: &[u8],
-    own: &mut [u8; 683],
-    used: &mut [u32; 35],
+    own: &mut [u8],
+    used: &mut [u32; 40],
     ends: &mut [u8; 144],
     sectors: &[u8; 18],
     k: usize,
     repeated: usize,
-    counts: &[u8; 35],
-    firsts: &[u16; 35],
+    counts: &[u8; 40],
+    firsts: &[u16; 40],
 ) -> Verdict
-    requires { ⌜ SlotReady (now img) (tables (now own) (now ends)) (now sectors) k repeated × IsCounts (now counts) × IsFirsts (now firsts)
-        × Masks layout35 (now own) (now used) ⌝ }
+    requires { ⌜ SlotReady (geometryOf layout) (now img) (tables (now own) (now ends)) (now sectors) k repeated
+        × IsCounts (geometryOf layout) (now counts) × IsFirsts (geometryOf layout) (now firsts) × Masks (geometryOf layout) (now own) (now used) ⌝ }
     ensures { λ r. ⌜ (whereFine r (tables (now (own .exit)) (now (ends .exit)))
-        ≡ slotStep (now (img .entry)) (tables (now (own .entry)) (now (ends .entry))) (now (sectors .entry)) k)
-        × Masks layout35 (now (own .exit)) (now (used .exit)) ⌝ }
+        ≡ slotStep (geometryOf layout) (now (img .entry)) (tables (now (own .entry)) (now (ends .entry))) (now (sectors .entry)) k)
+        × Masks (geometryOf layout) (now (own .exit)) (now (used .exit)) ⌝ }
 {
-    let slot = slot_of(img, sectors, k);
+    let slot = slot_of(layout, img, sectors, k);
     if slot[0] == 0 {
         return Verdict::Fine;
     }
@@ -127,6 +133,7 @@ fn check_slot(
         slot: k as u8,
     };
     check_occupied(
+        layout,
         img,
         own,
         used,
@@ -141,26 +148,38 @@ fn check_slot(
 
 // All slots of a directory of `count` sectors, with the layout's tables lent.
 fn check_all(
+    layout: Layout,
     img: &[u8],
-    own: &mut [u8; 683],
-    used: &mut [u32; 35],
+    own: &mut [u8],
+    used: &mut [u32; 40],
     ends: &mut [u8; 144],
     sectors: &[u8; 18],
     count: usize,
     repeated: usize,
-    counts: &[u8; 35],
-    firsts: &[u16; 35],
+    counts: &[u8; 40],
+    firsts: &[u16; 40],
 ) -> Verdict
-    requires { ⌜ SlotsReady (now img) (tables (now own) (now ends)) (now sectors) count repeated × IsCounts (now counts) × IsFirsts (now firsts)
-        × Masks layout35 (now own) (now used) ⌝ }
+    requires { ⌜ SlotsReady (geometryOf layout) (now img) (tables (now own) (now ends)) (now sectors) count repeated
+        × IsCounts (geometryOf layout) (now counts) × IsFirsts (geometryOf layout) (now firsts) × Masks (geometryOf layout) (now own) (now used) ⌝ }
     ensures { λ r. ⌜ (whereFine r (tables (now (own .exit)) (now (ends .exit)))
-        ≡ slotsStep (now (img .entry)) (tables (now (own .entry)) (now (ends .entry))) (now (sectors .entry)) 0 (8 * count))
-        × Masks layout35 (now (own .exit)) (now (used .exit)) ⌝ }
+        ≡ slotsStep (geometryOf layout) (now (img .entry)) (tables (now (own .entry)) (now (ends .entry))) (now (sectors .entry)) 0 (8 * count))
+        × Masks (geometryOf layout) (now (own .exit)) (now (used .exit)) ⌝ }
 {
     let end = 8 * count;
     let mut k: usize = 0;
     while k < end {
-        let verdict = check_slot(img, own, used, ends, sectors, k, repeated, counts, firsts);
+        let verdict = check_slot(
+            layout,
+            img,
+            own,
+            used,
+            ends,
+            sectors,
+            k,
+            repeated,
+            counts,
+            firsts,
+        );
         match verdict {
             Verdict::Fine => {}
             Verdict::Refused(fault) => {
@@ -174,20 +193,24 @@ fn check_all(
 
 // All slots of a directory of `count` sectors.
 pub(crate) fn check_slots(
+    layout: Layout,
     img: &[u8],
-    own: &mut [u8; 683],
-    used: &mut [u32; 35],
+    own: &mut [u8],
+    used: &mut [u32; 40],
     ends: &mut [u8; 144],
     sectors: &[u8; 18],
     count: usize,
     repeated: usize,
 ) -> Verdict
-    requires { ⌜ SlotsReady (now img) (tables (now own) (now ends)) (now sectors) count repeated × Masks layout35 (now own) (now used) ⌝ }
+    requires { ⌜ SlotsReady (geometryOf layout) (now img) (tables (now own) (now ends)) (now sectors) count repeated
+        × Masks (geometryOf layout) (now own) (now used) ⌝ }
     ensures { λ r. ⌜ (whereFine r (tables (now (own .exit)) (now (ends .exit)))
-        ≡ slotsStep (now (img .entry)) (tables (now (own .entry)) (now (ends .entry))) (now (sectors .entry)) 0 (8 * count))
-        × Masks layout35 (now (own .exit)) (now (used .exit)) ⌝ }
+        ≡ slotsStep (geometryOf layout) (now (img .entry)) (tables (now (own .entry)) (now (ends .entry))) (now (sectors .entry)) 0 (8 * count))
+        × Masks (geometryOf layout) (now (own .exit)) (now (used .exit)) ⌝ }
 {
+    let counts = geometry::counts_of(layout);
     check_all(
+        layout,
         img,
         own,
         used,
@@ -195,7 +218,7 @@ pub(crate) fn check_slots(
         sectors,
         count,
         repeated,
-        &geometry::SECTORS,
+        &counts,
         &geometry::FIRST,
     )
 }

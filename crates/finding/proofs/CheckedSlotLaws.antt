@@ -10,13 +10,13 @@ use lib.Dec.{eqb}
 use borrow.Author.Tests.{eq-eqb, ne-eqb}
 use Rattle.d64spec.specs.Lists.{Bytes, All}
 use Rattle.d64spec.specs.Answers.{Fault, notFound, refused, done, first}
-use Rattle.d64spec.specs.Geometry.{layout35}
+use Rattle.d64spec.specs.Geometry.{Geometry}
 use Rattle.d64spec.specs.Image.{disk}
 use Rattle.d64spec.specs.Directory.{File, validName, fileOf, files}
 use Rattle.d64spec.specs.Accepted.{ValidEntry}
 use Rattle.d64spec.specs.Reply.{validNameArgument, filesNamed}
 use Rattle.d64spec.proofs.ResultLaws.{refused≢done}
-use Rattle.d64spec.proofs.RunTheorem.{sectors35}
+use Rattle.d64spec.specs.Layouts.{Known}
 use Rattle.answers.specs.declared.Verdict.the-variants.{Fine}
 use Rattle.diskcheck.specs.declared.Checked.{Checked}
 use Rattle.diskcheck.specs.SlotChecks.{imageSlot, imageOccupied}
@@ -45,58 +45,60 @@ unfolding first
 some-first f [] {x} e = refused≢done f x e
 some-first f (y ∷ l) e = ne-eqb (length (y ∷ l)) 0 (omega arith)
 
--- A CHECKED IMAGE without a fault, as the check hands it back
-pub checked-slots : {img : Bytes} {r : Checked} → ImageChecked img r → r .verdict ≡ Fine → CheckedSlots img (r .sectors) (8 * r .count)
-checked-slots checked e =
-    let fine = fine-image checked e in
-    record {
-      size = omega (arith, fine .accepted .size, sectors35);
-      accepted = fine .accepted;
-      contents = fine .contents;
-      occupied = fine .occupied;
-      inside = checked .inside;
-      few = omega (arith, checked .few);
-    }
+module _ (g : Geometry) (kn : Known g) where
+  -- A CHECKED IMAGE without a fault, as the check hands it back
+  pub checked-slots : {img : Bytes} {r : Checked} → ImageChecked g img r → r .verdict ≡ Fine → CheckedSlots g img (r .sectors) (8 * r .count)
+  checked-slots checked e =
+      let fine = fine-image g kn checked e in
+      record {
+        size = fine .accepted .size;
+        accepted = fine .accepted;
+        contents = fine .contents;
+        occupied = fine .occupied;
+        inside = checked .inside;
+        few = omega (arith, checked .few);
+      }
 
-module _ {img : Bytes} {ss : List ℕ} {end : ℕ} (there : CheckedSlots img ss end) where
-  pub files-found : files layout35 (disk img) ≡ filesFrom img ss 0 end
-  unfolding files
-  files-found = ap (map (fileOf layout35 (disk img))) (there .occupied)
+  module _ {img : Bytes} {ss : List ℕ} {end : ℕ} (there : CheckedSlots g img ss end) where
+    pub files-found : files g (disk img) ≡ filesFrom g img ss 0 end
+    unfolding files
+    files-found = ap (map (fileOf g (disk img))) (there .occupied)
 
-  -- where the search ends at the end of the slots, and where at a slot
-  pub found-none : {k : ℕ} → k ≡ end → foundAt img ss end k ≡ refused notFound
-  unfolding foundAt
-  found-none {k} e = rw (eq-eqb k end e)
+    -- where the search ends at the end of the slots, and where at a slot
+    pub found-none : {k : ℕ} → k ≡ end → foundAt g img ss end k ≡ refused notFound
+    unfolding foundAt
+    found-none {k} e = rw (eq-eqb k end e)
 
-  pub found-some : {k : ℕ} → (k ≡ end → ⊥) → foundAt img ss end k ≡ done (fileOf layout35 (disk img) (imageSlot img ss k))
-  unfolding foundAt
-  found-some {k} e = rw (ne-eqb k end e)
+    pub found-some : {k : ℕ} → (k ≡ end → ⊥) → foundAt g img ss end k ≡ done (fileOf g (disk img) (imageSlot g img ss k))
+    unfolding foundAt
+    found-some {k} e = rw (ne-eqb k end e)
 
-  pub names-valid : All (λ s. validName (s .bytes) ≡ true) (imageOccupied img ss 0 end)
-  unfolding fileOf
-  names-valid =
-      all-of-map (ValidEntry layout35 (disk img)) (λ s. validName (s .bytes) ≡ true) (fileOf layout35 (disk img)) (λ s v. v .name) (imageOccupied img ss 0 end)
-      (rw files-found at (there .accepted .content .entry))
+    pub names-valid : All (λ s. validName (s .bytes) ≡ true) (imageOccupied g img ss 0 end)
+    unfolding fileOf
+    names-valid =
+        all-of-map (ValidEntry g (disk img)) (λ s. validName (s .bytes) ≡ true) (fileOf g (disk img)) (λ s v. v .name) (imageOccupied g img ss 0 end)
+        (rw files-found at (there .accepted .content .entry))
 
-  -- THE FILE OF A NAME
-  pub by-name : (name : Bytes) → validNameArgument name ≡ true → {k : ℕ} → k ≡ slotNamed (lentTrack18 img) ss name 0 end
-      → first notFound (filesNamed name (files layout35 (disk img))) ≡ foundAt img ss end k
-  by-name name asked is =
-      ap (λ (l : List File). first notFound (filesNamed name l)) files-found
-      ∙ named-found img ss name asked end end 0 (omega arith) names-valid
-      ∙ ap (foundAt img ss end) (sym (is ∙ ap (λ (b : Bytes). slotNamed b ss name 0 end) (track18-lent img)))
+    -- THE FILE OF A NAME
+    pub by-name : (name : Bytes) → validNameArgument name ≡ true → {k : ℕ} → k ≡ slotNamed (lentTrack18 img) ss name 0 end
+        → first notFound (filesNamed name (files g (disk img))) ≡ foundAt g img ss end k
+    by-name name asked is =
+        ap (λ (l : List File). first notFound (filesNamed name l)) files-found
+        ∙ named-found g img ss name asked end end 0 (omega arith) names-valid
+        ∙ ap (foundAt g img ss end) (sym (is ∙ ap (λ (b : Bytes). slotNamed b ss name 0 end) (track18-lent g kn img)))
 
-  -- whether a file has the name
-  module _ (name : Bytes) (asked : validNameArgument name ≡ true) {k : ℕ} (is : k ≡ slotNamed (lentTrack18 img) ss name 0 end) where
-    pub name-free : k ≡ end → eqb (length (filesNamed name (files layout35 (disk img)))) 0 ≡ true
-    name-free e = none-first notFound (filesNamed name (files layout35 (disk img))) (by-name name asked is ∙ found-none e)
+    -- whether a file has the name
+    module _ (name : Bytes) (asked : validNameArgument name ≡ true) {k : ℕ} (is : k ≡ slotNamed (lentTrack18 img) ss name 0 end) where
+      pub name-free : k ≡ end → eqb (length (filesNamed name (files g (disk img)))) 0 ≡ true
+      name-free e = none-first notFound (filesNamed name (files g (disk img))) (by-name name asked is ∙ found-none e)
 
-    pub name-used : (k ≡ end → ⊥) → eqb (length (filesNamed name (files layout35 (disk img)))) 0 ≡ false
-    name-used e = some-first notFound (filesNamed name (files layout35 (disk img))) (by-name name asked is ∙ found-some e)
+      pub name-used : (k ≡ end → ⊥) → eqb (length (filesNamed name (files g (disk img)))) 0 ≡ false
+      name-used e = some-first notFound (filesNamed name (files g (disk img))) (by-name name asked is ∙ found-some e)
 
-  -- THE FILE AT A POSITION
-  pub by-position : (position : ℕ) {k : ℕ} → k ≡ slotPlaced (lentTrack18 img) ss position 0 end → first notFound (drop position (files layout35 (disk img))) ≡ foundAt img ss end k
-  by-position position is =
-      ap (λ (l : List File). first notFound (drop position l)) files-found
-      ∙ placed-found img ss end end position 0 (omega arith)
-      ∙ ap (foundAt img ss end) (sym (is ∙ ap (λ (b : Bytes). slotPlaced b ss position 0 end) (track18-lent img)))
+    -- THE FILE AT A POSITION
+    pub by-position : (position : ℕ) {k : ℕ} → k ≡ slotPlaced (lentTrack18 img) ss position 0 end
+        → first notFound (drop position (files g (disk img))) ≡ foundAt g img ss end k
+    by-position position is =
+        ap (λ (l : List File). first notFound (drop position l)) files-found
+        ∙ placed-found g img ss end end position 0 (omega arith)
+        ∙ ap (foundAt g img ss end) (sym (is ∙ ap (λ (b : Bytes). slotPlaced b ss position 0 end) (track18-lent g kn img)))

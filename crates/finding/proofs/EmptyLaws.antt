@@ -8,7 +8,8 @@ use mathlib.Core.List.{List, [], _∷_, map}
 use lib.ListN.{length}
 use Rattle.d64spec.specs.Lists.{Bytes, filter, range}
 use Rattle.d64spec.specs.Answers.{Address}
-use Rattle.d64spec.specs.Geometry.{layout35}
+use Rattle.d64spec.specs.Geometry.{Geometry}
+use Rattle.d64spec.specs.Layouts.{Known}
 use Rattle.d64spec.specs.Image.{disk}
 use Rattle.d64spec.specs.Directory.{Slot, isEmpty, slotsFrom, directorySectors}
 use Rattle.d64spec.specs.Listing.{bytesOfTrack18}
@@ -30,7 +31,8 @@ module _ (b ss : List ℕ) where
   none-from zero k h = refl
   none-from (suc n) k h = go (isEmpty (slotBytes b ss k)) h (λ l. none-from n (suc k) l)
     where
-      go : (t : Bool) {next : ℕ} → k + suc n ≤ cond t k next → (suc k + n ≤ next → emptyFrom (suc k) n ≡ []) → cond t (slotAt b ss k ∷ emptyFrom (suc k) n) (emptyFrom (suc k) n) ≡ []
+      go : (t : Bool) {next : ℕ} → k + suc n ≤ cond t k next → (suc k + n ≤ next → emptyFrom (suc k) n ≡ [])
+          → cond t (slotAt b ss k ∷ emptyFrom (suc k) n) (emptyFrom (suc k) n) ≡ []
       go true h rest = absurd (omega arith)
       go false h rest = rest (omega arith)
 
@@ -43,25 +45,27 @@ module _ (b ss : List ℕ) where
       go true h rest = (emptyFrom (suc k) n, refl)
       go false h rest = rest (omega arith)
 
--- ---- the image
+module _ (g : Geometry) (kn : Known g) where
+  -- ---- the image
 
-module _ {img ss : List ℕ} (count : ℕ) (there : CheckedSlots img ss (8 * count)) (sectors : sectorsOf ss count ≡ directorySectors layout35 (disk img)) (whole : count ≤ length ss) where
-  slots-empty : emptySlots layout35 (disk img) ≡ emptyFrom (bytesOfTrack18 layout35 img) ss 0 (8 * count)
-  unfolding emptySlots
-  slots-empty =
-      ap (λ (ds : List Address). filter (λ s. isEmpty (s .bytes)) (slotsFrom layout35 (disk img) 0 ds)) (sym sectors)
-      ∙ ap (filter (λ s. isEmpty (s .bytes))) (slots-by-track18 img ss count (there .inside) whole)
+  module _ {img ss : List ℕ} (count : ℕ) (there : CheckedSlots g img ss (8 * count))
+      (sectors : sectorsOf ss count ≡ directorySectors g (disk img)) (whole : count ≤ length ss) where
+    slots-empty : emptySlots g (disk img) ≡ emptyFrom (bytesOfTrack18 g img) ss 0 (8 * count)
+    unfolding emptySlots
+    slots-empty =
+        ap (λ (ds : List Address). filter (λ s. isEmpty (s .bytes)) (slotsFrom g (disk img) 0 ds)) (sym sectors)
+        ∙ ap (filter (λ s. isEmpty (s .bytes))) (slots-by-track18 g kn img ss count (there .inside) whole)
 
-  module _ {k : ℕ} (is : k ≡ slotEmpty (lentTrack18 img) ss 0 (8 * count)) where
-    same : k ≡ slotEmpty (bytesOfTrack18 layout35 img) ss 0 (8 * count)
-    same = is ∙ ap (λ (b : Bytes). slotEmpty b ss 0 (8 * count)) (track18-lent img)
+    module _ {k : ℕ} (is : k ≡ slotEmpty (lentTrack18 img) ss 0 (8 * count)) where
+      same : k ≡ slotEmpty (bytesOfTrack18 g img) ss 0 (8 * count)
+      same = is ∙ ap (λ (b : Bytes). slotEmpty b ss 0 (8 * count)) (track18-lent g kn img)
 
-    -- NO SLOT IS EMPTY
-    pub empty-none : 8 * count ≤ k → emptySlots layout35 (disk img) ≡ []
-    empty-none h = slots-empty ∙ none-from (bytesOfTrack18 layout35 img) ss (8 * count) 0 (omega (arith, same))
+      -- NO SLOT IS EMPTY
+      pub empty-none : 8 * count ≤ k → emptySlots g (disk img) ≡ []
+      empty-none h = slots-empty ∙ none-from (bytesOfTrack18 g img) ss (8 * count) 0 (omega (arith, same))
 
-    -- THE FIRST EMPTY SLOT
-    pub empty-some : k < 8 * count → (l : List Slot) × (emptySlots layout35 (disk img) ≡ imageSlot img ss k ∷ l)
-    empty-some h =
-        let s = some-from (bytesOfTrack18 layout35 img) ss (8 * count) 0 (omega (arith, same)) in
-        (s .0, slots-empty ∙ s .1 ∙ ap (λ (i : ℕ). imageSlot img ss i ∷ s .0) (sym same))
+      -- THE FIRST EMPTY SLOT
+      pub empty-some : k < 8 * count → (l : List Slot) × (emptySlots g (disk img) ≡ imageSlot g img ss k ∷ l)
+      empty-some h =
+          let s = some-from (bytesOfTrack18 g img) ss (8 * count) 0 (omega (arith, same)) in
+          (s .0, slots-empty ∙ s .1 ∙ ap (λ (i : ℕ). imageSlot g img ss i ∷ s .0) (sym same))

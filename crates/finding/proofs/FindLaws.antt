@@ -11,7 +11,7 @@ use lib.Dec.{eqb}
 use borrow.Author.Tests.{eq-eqb, ne-eqb}
 use Rattle.d64spec.specs.Lists.{Bytes, All, equal}
 use Rattle.d64spec.specs.Answers.{notFound, Result, refused, done, first}
-use Rattle.d64spec.specs.Geometry.{layout35}
+use Rattle.d64spec.specs.Geometry.{Geometry}
 use Rattle.d64spec.specs.Image.{disk}
 use Rattle.d64spec.specs.Directory.{Slot, File, isEmpty, nameField, padded, validName, fileOf}
 use Rattle.d64spec.specs.Listing.{bytesOfTrack18}
@@ -106,65 +106,68 @@ module _ (b ss : List ℕ) where
 -- ---- the file found
 
 -- the file of slot i, or 13 where i is the end of the slots
-unfoldable pub foundAt : Bytes → List ℕ → ℕ → ℕ → Result File
-foundAt img ss end i = cond (eqb i end) (refused notFound) (done (fileOf layout35 (disk img) (imageSlot img ss i)))
+unfoldable pub foundAt : Geometry → Bytes → List ℕ → ℕ → ℕ → Result File
+foundAt g img ss end i = cond (eqb i end) (refused notFound) (done (fileOf g (disk img) (imageSlot g img ss i)))
 
-module _ (img : Bytes) (ss : List ℕ) where
+module _ (g : Geometry) (img : Bytes) (ss : List ℕ) where
   -- the files of the occupied slots among the n from k on
   abbrev pub filesFrom : ℕ → ℕ → List File
-  filesFrom k n = map (fileOf layout35 (disk img)) (imageOccupied img ss k n)
+  filesFrom k n = map (fileOf g (disk img)) (imageOccupied g img ss k n)
 
-  pub named-found : (name : Bytes) → validNameArgument name ≡ true → (end n k : ℕ) → k + n ≡ end → All (λ s. validName (s .bytes) ≡ true) (imageOccupied img ss k n)
-      → first notFound (filesNamed name (filesFrom k n)) ≡ foundAt img ss end (slotNamed (bytesOfTrack18 layout35 img) ss name k n)
+  pub named-found : (name : Bytes) → validNameArgument name ≡ true → (end n k : ℕ) → k + n ≡ end
+      → All (λ s. validName (s .bytes) ≡ true) (imageOccupied g img ss k n)
+      → first notFound (filesNamed name (filesFrom k n)) ≡ foundAt g img ss end (slotNamed (bytesOfTrack18 g img) ss name k n)
   unfolding foundAt filesNamed fileOf first holdsFile occupiedFrom
   named-found name asked end zero k e valid = rw (eq-eqb k end (omega arith))
   named-found name asked end (suc n) k e valid = go (isEmpty (x .bytes)) valid (λ a. named-found name asked end n (suc k) (omega arith) a)
     where
       x : Slot
-      x = imageSlot img ss k
+      x = imageSlot g img ss k
 
       rest : List Slot
-      rest = imageOccupied img ss (suc k) n
+      rest = imageOccupied g img ss (suc k) n
 
       next : ℕ
-      next = slotNamed (bytesOfTrack18 layout35 img) ss name (suc k) n
+      next = slotNamed (bytesOfTrack18 g img) ss name (suc k) n
 
       named : (t : Bool) → equal (nameField (x .bytes)) (padded name) ≡ t → validName (x .bytes) ≡ true
-          → first notFound (filesNamed name (map (fileOf layout35 (disk img)) rest)) ≡ foundAt img ss end next
-          → first notFound (filesNamed name (map (fileOf layout35 (disk img)) (x ∷ rest))) ≡ foundAt img ss end (cond t k next)
+          → first notFound (filesNamed name (map (fileOf g (disk img)) rest)) ≡ foundAt g img ss end next
+          → first notFound (filesNamed name (map (fileOf g (disk img)) (x ∷ rest))) ≡ foundAt g img ss end (cond t k next)
       named true is v ih = rw (sym (equal-nameField-padded (x .bytes) name v asked) ∙ is) (rw (ne-eqb k end (omega arith)))
       named false is v ih = rw (sym (equal-nameField-padded (x .bytes) name v asked) ∙ is) ih
 
       go : (b : Bool) → All (λ s. validName (s .bytes) ≡ true) (cond (not b) (x ∷ rest) rest)
-          → (All (λ s. validName (s .bytes) ≡ true) rest → first notFound (filesNamed name (map (fileOf layout35 (disk img)) rest)) ≡ foundAt img ss end next)
-          → first notFound (filesNamed name (map (fileOf layout35 (disk img)) (cond (not b) (x ∷ rest) rest)))
-          ≡ foundAt img ss end (cond (not b && equal (nameField (x .bytes)) (padded name)) k next)
+          → (All (λ s. validName (s .bytes) ≡ true) rest → first notFound (filesNamed name (map (fileOf g (disk img)) rest)) ≡ foundAt g img ss end next)
+          → first notFound (filesNamed name (map (fileOf g (disk img)) (cond (not b) (x ∷ rest) rest)))
+          ≡ foundAt g img ss end (cond (not b && equal (nameField (x .bytes)) (padded name)) k next)
       go true a ih = ih a
       go false a ih = named (equal (nameField (x .bytes)) (padded name)) refl (a .0) (ih (a .1))
 
   pub placed-found : (end n position k : ℕ) → k + n ≡ end
-      → first notFound (drop position (filesFrom k n)) ≡ foundAt img ss end (slotPlaced (bytesOfTrack18 layout35 img) ss position k n)
+      → first notFound (drop position (filesFrom k n)) ≡ foundAt g img ss end (slotPlaced (bytesOfTrack18 g img) ss position k n)
   unfolding foundAt first occupiedFrom
   placed-found end zero zero k e = rw (eq-eqb k end (omega arith))
   placed-found end zero (suc p) k e = rw (eq-eqb k end (omega arith))
-  placed-found end (suc n) zero k e = go (isEmpty (imageSlot img ss k .bytes)) (placed-found end n zero (suc k) (omega arith))
+  placed-found end (suc n) zero k e = go (isEmpty (imageSlot g img ss k .bytes)) (placed-found end n zero (suc k) (omega arith))
     where
       rest : List Slot
-      rest = imageOccupied img ss (suc k) n
+      rest = imageOccupied g img ss (suc k) n
 
-      go : (b : Bool) → first notFound (map (fileOf layout35 (disk img)) rest) ≡ foundAt img ss end (slotPlaced (bytesOfTrack18 layout35 img) ss zero (suc k) n)
-          → first notFound (map (fileOf layout35 (disk img)) (cond (not b) (imageSlot img ss k ∷ rest) rest))
-          ≡ foundAt img ss end (cond b (slotPlaced (bytesOfTrack18 layout35 img) ss zero (suc k) n) k)
+      go : (b : Bool) → first notFound (map (fileOf g (disk img)) rest) ≡ foundAt g img ss end (slotPlaced (bytesOfTrack18 g img) ss zero (suc k) n)
+          → first notFound (map (fileOf g (disk img)) (cond (not b) (imageSlot g img ss k ∷ rest) rest))
+          ≡ foundAt g img ss end (cond b (slotPlaced (bytesOfTrack18 g img) ss zero (suc k) n) k)
       go true ih = ih
       go false ih = rw (ne-eqb k end (omega arith))
-  placed-found end (suc n) (suc p) k e = go (isEmpty (imageSlot img ss k .bytes)) (placed-found end n (suc p) (suc k) (omega arith)) (placed-found end n p (suc k) (omega arith))
+  placed-found end (suc n) (suc p) k e =
+      go (isEmpty (imageSlot g img ss k .bytes)) (placed-found end n (suc p) (suc k) (omega arith)) (placed-found end n p (suc k) (omega arith))
     where
       rest : List Slot
-      rest = imageOccupied img ss (suc k) n
+      rest = imageOccupied g img ss (suc k) n
 
-      go : (b : Bool) → first notFound (drop (suc p) (map (fileOf layout35 (disk img)) rest)) ≡ foundAt img ss end (slotPlaced (bytesOfTrack18 layout35 img) ss (suc p) (suc k) n)
-          → first notFound (drop p (map (fileOf layout35 (disk img)) rest)) ≡ foundAt img ss end (slotPlaced (bytesOfTrack18 layout35 img) ss p (suc k) n)
-          → first notFound (drop (suc p) (map (fileOf layout35 (disk img)) (cond (not b) (imageSlot img ss k ∷ rest) rest)))
-          ≡ foundAt img ss end (cond b (slotPlaced (bytesOfTrack18 layout35 img) ss (suc p) (suc k) n) (slotPlaced (bytesOfTrack18 layout35 img) ss p (suc k) n))
+      go : (b : Bool)
+          → first notFound (drop (suc p) (map (fileOf g (disk img)) rest)) ≡ foundAt g img ss end (slotPlaced (bytesOfTrack18 g img) ss (suc p) (suc k) n)
+          → first notFound (drop p (map (fileOf g (disk img)) rest)) ≡ foundAt g img ss end (slotPlaced (bytesOfTrack18 g img) ss p (suc k) n)
+          → first notFound (drop (suc p) (map (fileOf g (disk img)) (cond (not b) (imageSlot g img ss k ∷ rest) rest)))
+          ≡ foundAt g img ss end (cond b (slotPlaced (bytesOfTrack18 g img) ss (suc p) (suc k) n) (slotPlaced (bytesOfTrack18 g img) ss p (suc k) n))
       go true same ih = same
       go false same ih = ih

@@ -1,13 +1,13 @@
 -- The slot of a file by its name or its position, the first empty slot, and the slots of a checked image (01, Read; Tell; Store; Scratch).
 -- `b` are track 18's bytes and `ss` the directory's sectors on it. Laws: proofs/WordLaws, FindLaws, CheckedSlotLaws, EmptyLaws.
-use Prim.Native.Nat.{ℕ, zero, suc, _≤_, _<_}
+use Prim.Native.Nat.{ℕ, zero, suc, _≤_, _<_, _*_}
 use mathlib.Core.Path.{_≡_}
 use mathlib.Core.Bool.{Bool, cond, not, _&&_}
 use mathlib.Core.List.{List}
 use lib.ListN.{length}
 use Rattle.d64spec.specs.Lists.{Bytes, All, byte, equal}
 use Rattle.d64spec.specs.Answers.{done}
-use Rattle.d64spec.specs.Geometry.{layout35}
+use Rattle.d64spec.specs.Geometry.{Geometry, total}
 use Rattle.d64spec.specs.Image.{disk}
 use Rattle.d64spec.specs.Directory.{isEmpty, nameField, padded, directorySectors, files}
 use Rattle.d64spec.specs.Directory as directory
@@ -53,10 +53,10 @@ slotEmpty b ss k zero = k
 slotEmpty b ss k (suc n) = cond (isEmpty (slotBytes b ss k)) k (slotEmpty b ss (suc k) n)
 
 -- an image in which the check finds no fault, and its occupied slots, those of the `end` slots of the sectors ss (01, Order of the check; Read)
-pub record CheckedSlots (img ss : List ℕ) (end : ℕ) : Type 0 where
-  pub size : length img ≡ 174848
-  pub accepted : Accepted layout35 img
-  pub contents : checkImage layout35 img ≡ done (record { walked = directorySectors layout35 (disk img); found = files layout35 (disk img) })
-  pub occupied : directory.occupied layout35 (disk img) ≡ imageOccupied img ss 0 end
+pub record CheckedSlots (g : Geometry) (img ss : List ℕ) (end : ℕ) : Type 0 where
+  pub size : length img ≡ 256 * total g
+  pub accepted : Accepted g img
+  pub contents : checkImage g img ≡ done (record { walked = directorySectors g (disk img); found = files g (disk img) })
+  pub occupied : directory.occupied g (disk img) ≡ imageOccupied g img ss 0 end
   pub inside : All (λ s. s < 19) ss
   pub few : end ≤ 144

@@ -1,18 +1,18 @@
 -- The image of a fresh disk, as the code writes it (01, Format): zeros, then 18/1, then 18/0. For every layout.
 use Prim.Native.Nat.{ℕ, _+_, _*_, _≤_, _<_}
 use native.Mathlib.Omega.{arith}
-use mathlib.Core.Path.{_≡_, refl, sym, ap, ap₂, _∙_}
+use mathlib.Core.Path.{_≡_, sym, ap, ap₂, _∙_}
 use mathlib.Core.Bool.{cond}
 use lib.ListN.{length, length-replicate}
 use lib.Dec.{eqb}
 use Rattle.d64spec.specs.Lists.{Bytes, join, zeros}
-use Rattle.d64spec.specs.Geometry.{Geometry, Valid, directoryStart, firstOn, layout35, mapAddress, sectorNumber, total}
+use Rattle.d64spec.specs.Geometry.{Geometry, Valid, directoryStart, mapAddress, sectorNumber, total}
 use Rattle.d64spec.specs.Image.{Disk, disk, image, put}
 use Rattle.d64spec.specs.Format.{emptyDirectorySector, formattedDisk, formattedMap}
 use Rattle.d64spec.proofs.BoundLaws.{sectorNumber-lt, map-on}
 use Rattle.d64spec.proofs.FormatLaws.{part-zeros}
 use Rattle.d64spec.proofs.InPlaceLaws.{disk-image}
-use Rattle.d64spec.proofs.RunTheorem.{sectors35}
+use Rattle.d64spec.specs.Layouts.{Known}
 use Rattle.d64spec.proofs.SplitLaws.{map-range}
 use Rattle.sectors.specs.Sectors.{withSector}
 use Rattle.sectors.proofs.SectorLaws.{disk-withSector, length-withSector}
@@ -50,17 +50,15 @@ module _ (g : Geometry) (v : Valid g) (name : Bytes) (i j : ℕ) where
       sym (disk-image g z₂ size₂) ∙ ap (image g) d₂
       ∙ image-same g (put (put (disk z) a s) b t) (put (put (λ n. zeros 256) a s) b t)
       (λ n h. put-both (disk z) (λ n. zeros 256) a b s t n (ap (λ (x : Bytes). disk x n) zero ∙ disk-zeros (256 * total g) n (omega arith)))
-      ∙ ap (image g) (ap₂ (λ (x : ℕ) (y : Bytes). put (put (λ n. zeros 256) x y) b t) at empty ∙ ap₂ (λ (x : ℕ) (y : Bytes). put (put (λ n. zeros 256) (sectorNumber g directoryStart) emptyDirectorySector) x y) bt built)
+      ∙ ap (image g) (ap₂ (λ (x : ℕ) (y : Bytes). put (put (λ n. zeros 256) x y) b t) at empty
+      ∙ ap₂ (λ (x : ℕ) (y : Bytes). put (put (λ n. zeros 256) (sectorNumber g directoryStart) emptyDirectorySector) x y) bt built)
 
--- ---- 35 tracks
+-- ---- the sectors by number, alike in all layouts
 
-pub map-number : 357 ≡ sectorNumber layout35 mapAddress
-unfolding sectorNumber firstOn layout35
-map-number = refl
+module _ (g : Geometry) (kn : Known g) where
+  pub map-number : 357 ≡ sectorNumber g mapAddress
+  map-number = sym (kn .map357)
 
-pub directory-number : 358 ≡ sectorNumber layout35 directoryStart
-unfolding sectorNumber firstOn layout35
-directory-number = refl
-
-pub size35 : {n : ℕ} → n ≡ 174848 → n ≡ 256 * total layout35
-size35 e = omega (arith, sectors35)
+  pub directory-number : 358 ≡ sectorNumber g directoryStart
+  unfolding sectorNumber
+  directory-number = omega (arith, kn .map357)

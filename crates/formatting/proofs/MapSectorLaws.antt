@@ -1,29 +1,33 @@
 -- 18/0 of a fresh disk, as the code puts it together (01, Format). In order: the runs of bytes beside the map; the map's entries; 18/0 with them.
-use Prim.Native.Nat.{ℕ, suc, _+_, _-_, _≤_}
+use Prim.Native.Nat.{ℕ, zero, suc, _+_, _-_, _/_, _%_, _≤_}
 use native.Mathlib.Omega.{arith}
-use mathlib.Core.Path.{_≡_, refl, sym, ap, ap₂, _∙_}
+use mathlib.Core.Path.{_≡_, refl, sym, ap, ap₂, _∙_, fun-ext}
 use mathlib.Core.Bool.{Bool, true, false, cond}
 use mathlib.Core.List.{List, [], _∷_, _++_, map}
-use lib.ListN.{length, take, length-replicate}
+use lib.ListN.{length, take, getD, length-replicate}
 use lib.Seq.{take-all}
-use Rattle.d64spec.specs.Lists.{Bytes, ascending, equal, range, splice, zeros}
-use Rattle.d64spec.specs.Answers.{Address}
-use Rattle.d64spec.specs.Geometry.{layout35, tracks}
+use Rattle.d64spec.specs.Lists.{Bytes, byte, ascending, equal, range, splice, zeros}
+use Rattle.d64spec.specs.Bits.{bitOf}
+use Rattle.d64spec.specs.Answers.{Address, address}
+use Rattle.d64spec.specs.Geometry.{Geometry, speedDos, tracks, sectorsOn, sectorNumber, mapAddress, directoryStart}
+use Rattle.d64spec.specs.Layouts.{Known}
 use Rattle.d64spec.specs.Directory.{padded}
-use Rattle.d64spec.specs.Map.{expectedEntry, withEntries}
+use Rattle.d64spec.specs.Map.{mapBit, expectedBit, bitmapByte, expectedEntry, withEntries}
 use Rattle.d64spec.specs.Format.{formatHeader, formattedMap, freeAfterFormat}
 use Rattle.d64spec.proofs.ListLaws.{eq-of-equal, getD-map-range}
 use Rattle.d64spec.proofs.SpliceLaws.{length-splice}
 use Rattle.d64spec.proofs.FormatLaws.{header-same, padded-length}
+use Rattle.d64spec.proofs.BitLaws.{zero-bit}
 use Rattle.d64spec.proofs.FormatTheorem.{fresh-entry}
-use Rattle.d64spec.proofs.RunTheorem.{valid35}
+use Rattle.geometry.specs.declared.Layout.the-variants.{SpeedDos}
+use Rattle.geometry.proofs.TableLaws.{Fronts, fronts, count-at, first-at}
+use Rattle.geometry.proofs.MapPlaceLaws.{tracks-with}
 use Rattle.parts.specs.Overwrites.{overwritten}
 use Rattle.parts.proofs.OverwriteLaws.{overwritten-inside}
 use Rattle.bam.specs.MapEntry.{Entries}
 use Rattle.bam.specs.MapSector.{storedEntries}
 use Rattle.bam.specs.Bam.{entryOf}
 use Rattle.bam.specs.Expected.{Expects}
-use Rattle.bam.proofs.FillLaws.{length-map-range}
 use Rattle.bam.proofs.StoredLaws.{stored-follows}
 
 -- ---- the runs of bytes
@@ -40,7 +44,8 @@ runs-written s a b c {s₁} {s₂} {s₃} size la lb lc e₁ e₂ e₃ =
 
 module _ (name : Bytes) (i j : ℕ) (short : length name ≤ 16) where
   -- 18/0 BUT FOR THE MAP: document 01's runs of bytes, with the name filled up
-  pub header-written : {p m₁ m₂ m₃ : Bytes} → m₁ ≡ overwritten (zeros 256) 0x00 (0x12 ∷ 0x01 ∷ 0x41 ∷ 0x00 ∷ []) → p ≡ take 16 (padded name) → m₂ ≡ overwritten m₁ 0x90 p
+  pub header-written : {p m₁ m₂ m₃ : Bytes} → m₁ ≡ overwritten (zeros 256) 0x00 (0x12 ∷ 0x01 ∷ 0x41 ∷ 0x00 ∷ [])
+      → p ≡ take 16 (padded name) → m₂ ≡ overwritten m₁ 0x90 p
       → m₃ ≡ overwritten m₂ 0xA0 (0xA0 ∷ 0xA0 ∷ i ∷ j ∷ 0xA0 ∷ 0x32 ∷ 0x41 ∷ 0xA0 ∷ 0xA0 ∷ 0xA0 ∷ 0xA0 ∷ []) → m₃ ≡ formatHeader name i j
   unfolding formatHeader
   header-written {p} {m₁} {m₂} {m₃} e₁ named e₂ e₃ =
@@ -51,51 +56,100 @@ module _ (name : Bytes) (i j : ℕ) (short : length name ≤ 16) where
 
 -- ---- the map
 
--- the tracks, from t on, whose entry is not that of a fresh disk
+-- the entry of track t on a fresh disk of 40 tracks
+abbrev longest : ℕ → Bytes
+longest t = expectedEntry speedDos (freeAfterFormat speedDos) (zeros 256) t
+
+-- the tracks, from t on, whose entry is not that
 unfoldable pub wrongTracks : ℕ → Entries → List ℕ
 wrongTracks t [] = []
-wrongTracks t (e ∷ es) = cond (equal e (expectedEntry layout35 (freeAfterFormat layout35) (zeros 256) t)) [] (t ∷ []) ++ wrongTracks (suc t) es
+wrongTracks t (e ∷ es) = cond (equal e (longest t)) [] (t ∷ []) ++ wrongTracks (suc t) es
 
-entries-from : (t : ℕ) (es : Entries) → wrongTracks t es ≡ [] → es ≡ map (expectedEntry layout35 (freeAfterFormat layout35) (zeros 256)) (range t (length es))
+entries-from : (t : ℕ) (es : Entries) → wrongTracks t es ≡ [] → es ≡ map longest (range t (length es))
 unfolding wrongTracks
 entries-from t [] none = refl
-entries-from t (e ∷ es) none = go (equal e x) refl (entries-from (suc t) es) none
+entries-from t (e ∷ es) none = go (equal e (longest t)) refl (entries-from (suc t) es) none
   where
-    x : Bytes
-    x = expectedEntry layout35 (freeAfterFormat layout35) (zeros 256) t
-
     rest : Entries
-    rest = map (expectedEntry layout35 (freeAfterFormat layout35) (zeros 256)) (range (suc t) (length es))
+    rest = map longest (range (suc t) (length es))
 
-    go : (b : Bool) → equal e x ≡ b → (wrongTracks (suc t) es ≡ [] → es ≡ rest) → cond b [] (t ∷ []) ++ wrongTracks (suc t) es ≡ [] → _≡_ {A = Entries} (e ∷ es) (x ∷ rest)
-    go true same more h = ap₂ (λ (y : Bytes) (l : Entries). y ∷ l) (eq-of-equal e x same) (more h)
+    go : (b : Bool) → equal e (longest t) ≡ b → (wrongTracks (suc t) es ≡ [] → es ≡ rest) → cond b [] (t ∷ []) ++ wrongTracks (suc t) es ≡ []
+        → _≡_ {A = Entries} (e ∷ es) (longest t ∷ rest)
+    go true same more h = ap₂ (λ (y : Bytes) (l : Entries). y ∷ l) (eq-of-equal e (longest t) same) (more h)
     go false same more h = absurd (let z : _≡_ {A = ℕ} 0 1 = cc in omega arith)
 
--- THE MAP OF A FRESH DISK: 35 entries, none of them wrong
-pub fresh-entries : (es : Entries) → length es ≡ 35 → wrongTracks 1 es ≡ []
-    → es ≡ map (expectedEntry layout35 (freeAfterFormat layout35) (zeros 256)) (range 1 35)
-fresh-entries es size none = entries-from 1 es none ∙ ap (λ (n : ℕ). map (expectedEntry layout35 (freeAfterFormat layout35) (zeros 256)) (range 1 n)) size
+longest-tracks : tracks speedDos ≡ 40
+longest-tracks = tracks-with SpeedDos (λ e. omega arith)
+
+-- a map sector of zeros has no mark
+zeros-byte : (n k : ℕ) → byte (zeros n) k ≡ 0
+zeros-byte zero k = refl
+zeros-byte (suc n) zero = refl
+zeros-byte (suc n) (suc k) = zeros-byte n k
+
+zeros-bit : (g : Geometry) (t s : ℕ) → mapBit g (zeros 256) t s ≡ 0
+unfolding mapBit
+zeros-bit g t s = ap (λ (x : ℕ). bitOf x (s % 8)) (zeros-byte 256 (g .mapAt t + 1 + s / 8)) ∙ zero-bit (s % 8)
+
+-- in every layout a track that it has is the longest layout's: its sectors, and their numbers
+module _ (g : Geometry) (kn : Known g) (f : Fronts g) where
+  same-count : (t : ℕ) → 1 ≤ t → t ≤ tracks g → sectorsOn g t ≡ sectorsOn speedDos t
+  same-count t low high = count-at g f t low high ∙ sym (count-at speedDos (fronts SpeedDos) t low (omega (arith, longest-tracks, f .few)))
+
+  same-number : (r : Address) → 1 ≤ r .track → r .track ≤ tracks g → sectorNumber g r ≡ sectorNumber speedDos r
+  unfolding sectorNumber
+  same-number r low high =
+      ap (λ (n : ℕ). n + r .sector)
+      (first-at g f (r .track) low high ∙ sym (first-at speedDos (fronts SpeedDos) (r .track) low (omega (arith, longest-tracks, f .few))))
+
+  same-free : (r : Address) → 1 ≤ r .track → r .track ≤ tracks g → freeAfterFormat g r ≡ freeAfterFormat speedDos r
+  unfolding freeAfterFormat
+  same-free r low high =
+      rw (
+        same-number r low high,
+        same-number mapAddress (omega arith) (omega (arith, kn .many)),
+        same-number directoryStart (omega arith) (omega (arith, kn .many)),
+      )
+
+  same-bit : (t s : ℕ) → 1 ≤ t → t ≤ tracks g
+      → expectedBit g (freeAfterFormat g) (zeros 256) t s ≡ expectedBit speedDos (freeAfterFormat speedDos) (zeros 256) t s
+  unfolding expectedBit
+  same-bit t s low high =
+      rw (same-count t low high, same-free (address t s) low high, zeros-bit g t s, zeros-bit speedDos t s) refl
+
+  same-entry : (t : ℕ) → 1 ≤ t → t ≤ tracks g → expectedEntry g (freeAfterFormat g) (zeros 256) t ≡ longest t
+  unfolding expectedEntry bitmapByte
+  same-entry t low high =
+      let bits : expectedBit g (freeAfterFormat g) (zeros 256) t ≡ expectedBit speedDos (freeAfterFormat speedDos) (zeros 256) t
+      = fun-ext (λ s. same-bit t s low high) in
+      rw (bits, same-count t low high) refl
+
+  -- THE MAP OF A FRESH DISK: 40 entries, none of them wrong
+  pub fresh-entries : (es : Entries) → length es ≡ 40 → wrongTracks 1 es ≡ [] → Expects g (freeAfterFormat g) (zeros 256) es
+  unfolding entryOf
+  fresh-entries es size none = record {
+    size = size;
+    entry = λ t low high.
+        let z : 1 + (t - 1) ≡ t = omega arith in
+        ap (λ (l : Entries). getD l (t - 1) []) (entries-from 1 es none ∙ ap (λ (n : ℕ). map longest (range 1 n)) size)
+        ∙ getD-map-range longest 1 40 (t - 1) [] (omega (arith, f .few)) ∙ ap longest z ∙ sym (same-entry t low high);
+  }
 
 -- ---- 18/0 with the map
 
-all-tracks : ascending 1 (tracks layout35) ≡ range 1 (tracks layout35)
-unfolding ascending tracks layout35
-all-tracks = refl
-
-module _ (name : Bytes) (i j : ℕ) (short : length name ≤ 16) where
+module _ (g : Geometry) (kn : Known g) (name : Bytes) (i j : ℕ) (short : length name ≤ 16) where
   -- 18/0 WITH THE MAP, its entries stored over the header
-  pub map-stored : {h m : Bytes} {es : Entries} → length h ≡ 256 → h ≡ formatHeader name i j
-      → es ≡ map (expectedEntry layout35 (freeAfterFormat layout35) (zeros 256)) (range 1 35) → m ≡ storedEntries es h
-      → m ≡ formattedMap layout35 name i j
-  unfolding formattedMap entryOf tracks layout35
+  pub map-stored : {h m : Bytes} {es : Entries} → length h ≡ 256 → h ≡ formatHeader name i j → Expects g (freeAfterFormat g) (zeros 256) es
+      → m ≡ storedEntries g es h
+      → m ≡ formattedMap g name i j
+  unfolding formattedMap ascending
   map-stored {h} {m} {es} size e built stored =
-      let free : Address → Bool = freeAfterFormat layout35 in
-      let expects : Expects free h es = record {
-        size = ap length built ∙ length-map-range (expectedEntry layout35 free (zeros 256)) 1 35;
+      let free : Address → Bool = freeAfterFormat g in
+      let expects : Expects g free h es = record {
+        size = built .size;
         entry = λ t low high.
-            let z : 1 + (t - 1) ≡ t = omega arith in
-            ap (λ (l : Entries). entryOf l t) built ∙ getD-map-range (expectedEntry layout35 free (zeros 256)) 1 35 (t - 1) [] (omega arith)
-            ∙ ap (expectedEntry layout35 free (zeros 256)) z ∙ sym (fresh-entry layout35 valid35 name i j short t low high)
-            ∙ ap (λ (x : Bytes). expectedEntry layout35 free x t) (sym (e ∙ header-same name i j short));
+            built .entry t low high ∙ sym (fresh-entry g (kn .valid) name i j short t low high)
+            ∙ ap (λ (x : Bytes). expectedEntry g free x t) (sym (e ∙ header-same name i j short));
       } in
-      stored ∙ stored-follows free h expects (omega arith) ∙ ap₂ (λ (x : Bytes) (l : List ℕ). withEntries layout35 free x l) e (sym all-tracks)
+      let all : tracks g ≡ tracks g + 1 - 1 = omega arith in
+      stored ∙ stored-follows g (kn .valid) free h expects size ∙ ap₂ (λ (x : Bytes) (n : ℕ). withEntries g free x (range 1 n)) e all

@@ -1,11 +1,11 @@
 -- The decoders of links case by case, as the code's tests tell the cases apart. They hold for every layout.
 use Prim.Native.Nat.{ℕ, zero, suc, _≤_, _<_}
 use native.Mathlib.Omega.{arith}
-use mathlib.Core.Path.{_≡_, refl}
+use mathlib.Core.Path.{_≡_, refl, _∙_}
 use mathlib.Core.Bool.{true, false}
 use borrow.Author.Tests.{ne-eqb, lt-ltb, le-ltb}
 use Rattle.d64spec.specs.Answers.{address}
-use Rattle.d64spec.specs.Geometry.{Geometry, onDisk}
+use Rattle.d64spec.specs.Geometry.{Geometry, sectorsOn, onDisk}
 use Rattle.d64spec.specs.Chain.{ends, to, bad, linkTo, decodeFileLink, decodeDirectoryLink}
 
 module _ (g : Geometry) (t s : ℕ) where
@@ -35,6 +35,15 @@ module _ (g : Geometry) (t s : ℕ) where
   pub directory-to : t ≡ 18 → 1 ≤ s → decodeDirectoryLink g t s ≡ linkTo g t s
   unfolding decodeDirectoryLink
   directory-to e h = simp (e, lt-ltb 0 s h)
+
+  -- where track 18 has 19 sectors
+  pub directory-inside : sectorsOn g 18 ≡ 19 → t ≡ 18 → 1 ≤ s → s < 19 → decodeDirectoryLink g t s ≡ to (address t s)
+  unfolding onDisk
+  directory-inside on e h k = directory-to e h ∙ linkTo-at (rw (e, on) (lt-ltb s 19 k))
+
+  pub directory-past : sectorsOn g 18 ≡ 19 → t ≡ 18 → 19 ≤ s → decodeDirectoryLink g t s ≡ bad
+  unfolding onDisk
+  directory-past on e k = directory-to e (omega arith) ∙ linkTo-off (rw (e, on) (le-ltb s 19 k))
 
 pub file-ends : (g : Geometry) (t s : ℕ) → t < 1 → 1 ≤ s → decodeFileLink g t s ≡ ends
 unfolding decodeFileLink

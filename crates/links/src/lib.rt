@@ -1,8 +1,9 @@
-// One link of the directory, decoded from its two bytes (01, The directory): it ends the chain, goes on at a sector of the disk, or is bad.
-// Not here: a file's links; the loops along a chain keep the two bytes. Their laws: proofs/LinkLaws.
+// One link of the directory, decoded from its two bytes (01, The directory): it ends the chain, goes on at a sector of track 18, or is bad.
+// It says the same in every layout whose track 18 has 19 sectors. Not here: a file's links; the loops along a chain keep the two bytes. Their laws:
+// proofs/LinkLaws.
 ghost use mathlib.Core.Path.{_≡_};
-ghost use Rattle.d64spec.specs.Geometry.{layout35};
-ghost use Rattle.d64spec.specs.Chain.{linkTo, decodeDirectoryLink};
+ghost use Rattle.d64spec.specs.Geometry.{Geometry, sectorsOn};
+ghost use Rattle.d64spec.specs.Chain.{decodeDirectoryLink};
 ghost use Rattle.links.specs.Links.{linkOf};
 use geometry::Address;
 
@@ -13,20 +14,9 @@ pub enum Link {
     Bad,
 }
 
-// A link to a track and a sector: bad unless the disk has that sector.
-fn link_to(track: u8, sector: u8) -> Link
-    ensures { λ r. ⌜ linkOf r ≡ linkTo layout35 track sector ⌝ }
-{
-    let at = Address { track, sector };
-    if geometry::on_disk(at) {
-        return Link::To(at);
-    }
-    Link::Bad
-}
-
 // The link in a directory sector: track 0 ends the directory, whatever the second byte is; any other must name 18/1 to 18/18.
 pub fn directory_link(track: u8, sector: u8) -> Link
-    ensures { λ r. ⌜ linkOf r ≡ decodeDirectoryLink layout35 track sector ⌝ }
+    ensures { λ r. ⌜ ((g : Geometry) → sectorsOn g 18 ≡ 19 → linkOf r ≡ decodeDirectoryLink g track sector) ⌝ }
 {
     if track < 1 {
         return Link::Ends;
@@ -38,5 +28,8 @@ pub fn directory_link(track: u8, sector: u8) -> Link
     if sector < 1 {
         return Link::Bad;
     }
-    link_to(track, sector)
+    if 18 < sector {
+        return Link::Bad;
+    }
+    Link::To(Address { track, sector })
 }

@@ -17,13 +17,13 @@ use borrow.Author.Tests.{eqb-true, eq-eqb, ne-eqb}
 use Rattle.d64spec.specs.Lists.{Bytes, byte, indicator}
 use Rattle.d64spec.specs.Bits.{bitOf, binary}
 use Rattle.d64spec.specs.Answers.{Address, address, done, need, refused, wrongMapEntry}
-use Rattle.d64spec.specs.Geometry.{layout35, sectorsOn}
+use Rattle.d64spec.specs.Geometry.{Geometry, sectorsOn}
+use Rattle.d64spec.specs.Layouts.{Known}
 use Rattle.d64spec.specs.Map.{mapBit, mapOnes, wrongBits, lowestWrong, entryCorrect}
 use Rattle.d64spec.specs.Check.{checkTrack}
 use Rattle.d64spec.proofs.MapLaws.{OwnRight, bits-of-none, lowest-at, lowest-none, none-of-bits}
 use Rattle.d64spec.proofs.SumLaws.{indicator-le}
 use Rattle.d64spec.proofs.BitLaws.{bit-le, binary-more, binary-lt, binary-bit, binary-remainder, number-known}
-use Rattle.d64spec.proofs.RunTheorem.{valid35}
 use Rattle.geometry.specs.Layout.{IsCounts}
 use Rattle.owners.specs.Masks.{unmarked}
 use Rattle.bam.specs.MapEntry.{bitmapOf, ownBits, freeIn, freeOn}
@@ -79,16 +79,16 @@ both-false true true never = absurd (never refl refl)
 both-false true false never = refl
 both-false false b never = refl
 
-module _ (m : Bytes) (used : List ℕ) (t : ℕ) where
+module _ (g : Geometry) (kn : Known g) (m : Bytes) (used : List ℕ) (t : ℕ) where
   -- what the definitions ask; the track's sectors, its entry and its number of owned sectors
   abbrev free : Address → Bool
   free = unmarked used
 
   abbrev sectors : ℕ
-  sectors = sectorsOn layout35 t
+  sectors = sectorsOn g t
 
   abbrev entry : Bytes
-  entry = mapEntry layout35 m t
+  entry = mapEntry g m t
 
   abbrev owned : ℕ
   owned = getD used (t - 1) 0
@@ -113,56 +113,56 @@ module _ (m : Bytes) (used : List ℕ) (t : ℕ) where
 
   module _ (shape : EntryShape entry) where
     -- and in the other where it is marked free
-    marked-bit : (s : ℕ) → s < sectors → bitOf marked s ≡ mapBit layout35 m t s
+    marked-bit : (s : ℕ) → s < sectors → bitOf marked s ≡ mapBit g m t s
     marked-bit s h =
-        let below : s < 24 = omega (arith, valid35 .small t) in
+        let below : s < 24 = omega (arith, kn .valid .small t) in
         ap (λ (x : ℕ). bitOf x s) (sym (binary-remainder (bitmapOf entry) sectors))
         ∙ binary-bit (bitOf (bitmapOf entry)) (bit-le (bitmapOf entry)) sectors s h
-        ∙ bit-bitmap entry shape s below ∙ bit-map-entry layout35 m t s below
+        ∙ bit-bitmap entry shape s below ∙ bit-map-entry g m t s below
 
     -- equal numbers, right bits
-    bits-of-same : marked ≡ others → OwnRight layout35 free m t
+    bits-of-same : marked ≡ others → OwnRight g free m t
     bits-of-same e s h = sym (marked-bit s h) ∙ ap (λ (x : ℕ). bitOf x s) e ∙ others-bit s h
 
     -- right bits, equal numbers
-    same-of-bits : OwnRight layout35 free m t → marked ≡ others
+    same-of-bits : OwnRight g free m t → marked ≡ others
     same-of-bits bit =
         number-known marked others sectors (mod-lt (bitmapOf entry) (pow-pos sectors)) others-lt
         (λ s h. marked-bit s h ∙ bit s h ∙ sym (others-bit s h))
 
     -- the one test is the other
-    bitmap-test : eqb marked others ≡ eqb (length (wrongBits layout35 free m t)) 0
+    bitmap-test : eqb marked others ≡ eqb (length (wrongBits g free m t)) 0
     bitmap-test =
         test-same _ _
-        (λ e. eq-eqb _ 0 (none-of-bits layout35 free m t (bits-of-same (eqb-true _ _ e))))
-        (λ e. eq-eqb _ _ (same-of-bits (bits-of-none layout35 free m t (eqb-true _ 0 e))))
+        (λ e. eq-eqb _ 0 (none-of-bits g free m t (bits-of-same (eqb-true _ _ e))))
+        (λ e. eq-eqb _ _ (same-of-bits (bits-of-none g free m t (eqb-true _ 0 e))))
 
     -- ---- the lowest wrong bit
 
     -- where the numbers differ, in the lowest of these bits
-    lowest-other : (marked ≡ others → ⊥) → lowestWrong layout35 free m t ≡ trailingZeros 32 (bitXor marked others)
+    lowest-other : (marked ≡ others → ⊥) → lowestWrong g free m t ≡ trailingZeros 32 (bitXor marked others)
     lowest-other other =
-        let low = lowest-different 32 sectors _ _ (omega (arith, valid35 .small t)) (mod-lt (bitmapOf entry) (pow-pos sectors)) others-lt other in
-        lowest-at layout35 free m t _ (low .below)
+        let low = lowest-different 32 sectors _ _ (omega (arith, kn .valid .small t)) (mod-lt (bitmapOf entry) (pow-pos sectors)) others-lt other in
+        lowest-at g free m t _ (low .below)
         (λ e. low .other (marked-bit _ (low .below) ∙ e ∙ sym (others-bit _ (low .below))))
         (λ i h. let below : i < sectors = omega (arith, low .below) in sym (marked-bit i below) ∙ low .lower i h ∙ others-bit i below)
 
     -- the sector that is named is the lowest wrong one, and 255 where there is none
-    lowest-same : lowestDifference marked others ≡ lowestWrong layout35 free m t
+    lowest-same : lowestDifference marked others ≡ lowestWrong g free m t
     unfolding lowestDifference
     lowest-same = elim (ℕ-discrete marked others) [
-      | yes e ↦ rw (eq-eqb _ _ e) (sym (lowest-none layout35 free m t (bits-of-same e)))
+      | yes e ↦ rw (eq-eqb _ _ e) (sym (lowest-none g free m t (bits-of-same e)))
       | no other ↦ rw (ne-eqb _ _ other) (sym (lowest-other other))
     ]
 
     -- ---- the count
 
     -- the count byte against the marks counted
-    count-test : eqb (byte entry 0) (freeIn entry sectors) ≡ eqb (byte m (layout35 .mapAt t)) (mapOnes layout35 m t)
-    count-test = ap₂ eqb (count-map-entry layout35 m t) (free-map-entry m t)
+    count-test : eqb (byte entry 0) (freeIn entry sectors) ≡ eqb (byte m (g .mapAt t)) (mapOnes g m t)
+    count-test = ap₂ eqb (count-map-entry g m t) (free-map-entry g kn m t)
 
     -- THE TRACK'S CHECK IS THE DEFINITION'S: numbers of bits are compared as document 01 compares the bits, and the place is document 02's
-    pub track-same : trackVerdict entry owned t ≡ checkTrack layout35 free m t
+    pub track-same : trackVerdict g entry owned t ≡ checkTrack g free m t
     unfolding trackVerdict entryCorrect
     track-same =
         ap₂ (λ (b : Bool) (s : ℕ). need b (wrongMapEntry (address t s)))
@@ -175,9 +175,9 @@ pub rest-le : (a : ℕ) {p : ℕ} → 0 < p → a % p ≤ p - 1
 rest-le a h = let below = mod-lt a h in omega arith
 
 -- a track's own bits are its sectors
-pub own-sectors : {counts : List ℕ} → IsCounts counts → (t : ℕ) → ownBits counts t ≡ sectorsOn layout35 t
+pub own-sectors : (g : Geometry) (kn : Known g) → {counts : List ℕ} → IsCounts g counts → (t : ℕ) → ownBits counts t ≡ sectorsOn g t
 unfolding ownBits
-own-sectors is t = omega (arith, is .agrees t, valid35 .small t)
+own-sectors g kn is t = omega (arith, is .agrees t, kn .valid .small t)
 
 -- e is an entry, b its bitmap and u the owned sectors of its track; k is how many bits are compared, and p their power
 pub sectors-found : {e : Bytes} {u n b k p x y : ℕ} → b ≡ bitmapOf e → k ≡ n → p ≡ 2 ^ k → x ≡ b % p → y ≡ p - 1 - u % p
@@ -185,22 +185,22 @@ pub sectors-found : {e : Bytes} {u n b k p x y : ℕ} → b ≡ bitmapOf e → k
 sectors-found bitmap own power marked free = rw (marked, free, power, own, bitmap) (record { marked = refl; free = refl })
 
 -- e is the entry of track t and u its owned sectors; n is how many of its marks are counted
-module _ (e : Bytes) (u t : ℕ) {counts : List ℕ} (is : IsCounts counts) {n : ℕ} (count : n ≡ freeOn counts e t) {r : Sectors}
+module _ (g : Geometry) (kn : Known g) (e : Bytes) (u t : ℕ) {counts : List ℕ} (is : IsCounts g counts) {n : ℕ} (count : n ≡ freeOn counts e t) {r : Sectors}
     (found : TrackSectors e u (ownBits counts t) r) where
   verdict-found : need (eqb (r .marked) (r .free) && eqb (byte e 0) n) (wrongMapEntry (address t (lowestDifference (r .marked) (r .free))))
-      ≡ trackVerdict e u t
+      ≡ trackVerdict g e u t
   unfolding trackVerdict
-  verdict-found = rw (found .marked, found .free, own-sectors is t, count, is .agrees t)
+  verdict-found = rw (found .marked, found .free, own-sectors g kn is t, count, is .agrees t)
 
   -- the entry is right where both agree
-  pub track-right : r .marked ≡ r .free → byte e 0 ≡ n → done tt ≡ trackVerdict e u t
+  pub track-right : r .marked ≡ r .free → byte e 0 ≡ n → done tt ≡ trackVerdict g e u t
   track-right same counted = rw (eq-eqb _ _ same, eq-eqb _ _ counted) at verdict-found
 
   -- and refused where one of them does not
   pub track-wrong : {t′ s x y : ℕ} → s ≡ lowestDifference x y → t′ ≡ t → x ≡ r .marked → y ≡ r .free → (r .marked ≡ r .free → byte e 0 ≡ n → ⊥)
-      → refused (wrongMapEntry (address t′ s)) ≡ trackVerdict e u t
-  track-wrong named same-track marked free wrong =
-      ap₂ (λ (i j : ℕ). refused (wrongMapEntry (address i j))) same-track (named ∙ ap₂ lowestDifference marked free)
+      → refused (wrongMapEntry (address t′ s)) ≡ trackVerdict g e u t
+  track-wrong named track-is marked free wrong =
+      ap₂ (λ (i j : ℕ). refused (wrongMapEntry (address i j))) track-is (named ∙ ap₂ lowestDifference marked free)
       ∙ rw (both-false (eqb (r .marked) (r .free)) (eqb (byte e 0) n) (λ i j. wrong (eqb-true _ _ i) (eqb-true _ _ j))) at verdict-found
 
 -- ---- several tracks at once

@@ -15,7 +15,7 @@ use borrow.Author.Tests.{ltb-true, eq-eqb, ne-eqb}
 use Rattle.d64spec.specs.Lists.{indicator}
 use Rattle.d64spec.specs.Bits.{bitOf}
 use Rattle.d64spec.specs.Answers.{Address}
-use Rattle.d64spec.specs.Geometry.{Geometry, tracks, total, firstOn, sectorsOn, sectorNumber, onDisk}
+use Rattle.d64spec.specs.Geometry.{Geometry, total, firstOn, sectorsOn, sectorNumber, onDisk}
 use Rattle.d64spec.proofs.SumLaws.{indicator-le}
 use Rattle.d64spec.proofs.BitLaws.{zero-bit, binary-lt, binary-same, binary-bit, binary-remainder, binary-set}
 use Rattle.d64spec.proofs.AllocationLaws.{one-track}
@@ -82,7 +82,7 @@ mask-bit own first n s h =
     go false = refl
 
 -- MASK AND TABLE SAY THE SAME of each sector of the disk
-pub masks-free : (g : Geometry) {own used : List ℕ} → Masks g own used → (r : Address) → onDisk g r ≡ true → 1 ≤ r .track → r .track ≤ tracks g
+pub masks-free : (g : Geometry) {own used : List ℕ} → Masks g own used → (r : Address) → onDisk g r ≡ true → 1 ≤ r .track → r .track ≤ 40
     → unmarked used r ≡ freeBy g own r
 unfolding unmarked freeBy sectorNumber onDisk
 masks-free g {own} {used} m r on low high =
@@ -93,9 +93,9 @@ masks-free g {own} {used} m r on low high =
 
 -- the masks where the bits m of track t's sectors are not added yet: added, they are the table's
 pub record Gathering (g : Geometry) (own used : List ℕ) (t m : ℕ) : Type 0 where
-  pub size : length used ≡ tracks g
-  pub others : (i : ℕ) → 1 ≤ i → i ≤ tracks g → (i ≡ t → ⊥) → getD used (i - 1) 0 ≡ ownedMask own (firstOn g i) (sectorsOn g i)
-  pub here : 1 ≤ t → t ≤ tracks g → getD used (t - 1) 0 + m ≡ ownedMask own (firstOn g t) (sectorsOn g t)
+  pub size : length used ≡ 40
+  pub others : (i : ℕ) → 1 ≤ i → i ≤ 40 → (i ≡ t → ⊥) → getD used (i - 1) 0 ≡ ownedMask own (firstOn g i) (sectorsOn g i)
+  pub here : 1 ≤ t → t ≤ 40 → getD used (t - 1) 0 + m ≡ ownedMask own (firstOn g t) (sectorsOn g t)
 
 -- nothing is gathered yet, on whatever track
 pub gathering-start : (g : Geometry) {own used : List ℕ} (t : ℕ) {m : ℕ} → Masks g own used → m ≡ 0 → Gathering g own used t m
@@ -107,11 +107,11 @@ gathering-start g {own} {used} t k none = record {
 
 module _ (g : Geometry) {own used : List ℕ} {t m : ℕ} (k : Gathering g own used t m) where
   -- the sum is a mask of the track's sectors
-  pub gathering-lt : 1 ≤ t → t ≤ tracks g → getD used (t - 1) 0 + m < 2 ^ sectorsOn g t
+  pub gathering-lt : 1 ≤ t → t ≤ 40 → getD used (t - 1) 0 + m < 2 ^ sectorsOn g t
   gathering-lt low high = omega (arith, k .here low high, mask-lt own (firstOn g t) (sectorsOn g t))
 
   -- added, they are the masks
-  pub gathering-added : {v : ℕ} → 1 ≤ t → t ≤ tracks g → v ≡ getD used (t - 1) 0 + m → Masks g own (set used (t - 1) v)
+  pub gathering-added : {v : ℕ} → 1 ≤ t → t ≤ 40 → v ≡ getD used (t - 1) 0 + m → Masks g own (set used (t - 1) v)
   gathering-added {v} low high is = record {
     size = length-set used (t - 1) v ∙ k .size;
     mask = λ i l h. elim (ℕ-discrete i t) [
@@ -120,12 +120,12 @@ module _ (g : Geometry) {own used : List ℕ} {t m : ℕ} (k : Gathering g own u
     ];
   }
 
-  -- where the disk has no such track, they are the masks already
-  pub gathering-off : (1 ≤ t → t ≤ tracks g → ⊥) → Masks g own used
+  -- where there is no mask of such a track, they are the masks already
+  pub gathering-off : (1 ≤ t → t ≤ 40 → ⊥) → Masks g own used
   gathering-off off = record { size = k .size; mask = λ i l h. k .others i l h (λ z. off (omega arith) (omega arith)) }
 
   -- a sector of the track gets an owner: one bit more is gathered
-  pub gathering-more : {n s id m′ : ℕ} → length own ≡ total g → 1 ≤ t → t ≤ tracks g → s < sectorsOn g t → n ≡ firstOn g t + s → n < total g
+  pub gathering-more : {n s id m′ : ℕ} → length own ≡ total g → 1 ≤ t → t ≤ 40 → s < sectorsOn g t → n ≡ firstOn g t + s → n < total g
       → getD own n 0 ≡ 0 → 1 ≤ id → m′ ≡ m + 2 ^ s → Gathering g (set own n id) used t m′
   gathering-more {n} {s} {id} {m′} long low high inside is within free some more = rw is (record {
     size = k .size;

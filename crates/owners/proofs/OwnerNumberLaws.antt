@@ -12,18 +12,18 @@ use lib.Dec.{eqb}
 use borrow.Author.Tests.{ne-eqb, eq-eqb}
 use Rattle.d64spec.specs.Lists.{Bytes, count, indicator, zeros}
 use Rattle.d64spec.specs.Answers.{Address}
-use Rattle.d64spec.specs.Geometry.{Geometry, Valid, layout35, sectorNumber, total, mapAddress}
+use Rattle.d64spec.specs.Layouts.{Known}
+use Rattle.d64spec.specs.Geometry.{Geometry, Valid, sectorNumber, total, mapAddress}
 use Rattle.d64spec.specs.Image.{Disk, disk}
 use Rattle.d64spec.specs.Directory.{Slot, File, directorySectors, slotsFrom, occupied, fileOf, files}
 use Rattle.d64spec.specs.Owner.{Among, Owner, Owns, claimCount, claimList, fileClaims, nobody, theDirectory, theFile, theMap}
 use Rattle.d64spec.specs.Accepted.{Accepted, AcceptedDisk}
 use Rattle.d64spec.proofs.BoundLaws.{claims-on, map-on, sectorNumber-lt}
 use Rattle.d64spec.proofs.ScratchLaws.{claimCount-of, of-count}
-use Rattle.d64spec.proofs.SlotBounds.{mem-at, slots-numbered, slots-accepted35}
+use Rattle.d64spec.proofs.SlotBounds.{mem-at, slots-numbered, slots-accepted-known}
 use Rattle.d64spec.proofs.SplitLaws.{mem-filter, mem-map}
 use Rattle.d64spec.proofs.ListingLaws.{slots-length}
 use Rattle.d64spec.proofs.OwnerTheorem.{claims-some, count-file, map-claims, one-owner}
-use Rattle.d64spec.proofs.RunTheorem.{valid35}
 use Rattle.owners.specs.OwnerTable.{mapOwner, directoryOwner, fileOwner, ownerNumber, OwnerOf, withOwner, withFiles, mapTable, directoryTable, ownerTable}
 use Rattle.owners.proofs.TableLaws.{length-withOwner}
 use Rattle.owners.proofs.ClaimLaws.{length-mapTable, length-directoryTable}
@@ -193,15 +193,11 @@ module _ (g : Geometry) (v : Valid g) (d : Disk) where
         entry-of-owner n (a .once n) o,
       )
 
--- ---- 35 tracks
+-- ---- the layouts that have a number: numbers are 0 to 146
 
-pub table-names-owner35 : (img : Bytes) → Accepted layout35 img → (n : ℕ) (o : Owner) → OwnerOf layout35 (disk img) o
-    → (getD (ownerTable layout35 (directorySectors layout35 (disk img)) (files layout35 (disk img))) n 0 ≡ ownerNumber o) ↔ Owns layout35 (disk img) o n
-table-names-owner35 img a = table-names-owner layout35 valid35 (disk img) (a .content)
-
--- numbers are 0 to 146
-pub ownerNumber-le35 : (img : Bytes) → Accepted layout35 img → (o : Owner) → OwnerOf layout35 (disk img) o → ownerNumber o ≤ 146
-ownerNumber-le35 img a nobody m = omega arith
-ownerNumber-le35 img a theMap m = omega arith
-ownerNumber-le35 img a theDirectory m = omega arith
-ownerNumber-le35 img a (theFile f) m = omega (arith, slots-accepted35 img a (f .slot) (slot-of-file layout35 (disk img) f m .0))
+module _ {g : Geometry} (k : Known g) where
+  pub ownerNumber-le : (img : Bytes) → Accepted g img → (o : Owner) → OwnerOf g (disk img) o → ownerNumber o ≤ 146
+  ownerNumber-le img a nobody m = omega arith
+  ownerNumber-le img a theMap m = omega arith
+  ownerNumber-le img a theDirectory m = omega arith
+  ownerNumber-le img a (theFile f) m = omega (arith, slots-accepted-known k img a (f .slot) (slot-of-file g (disk img) f m .0))

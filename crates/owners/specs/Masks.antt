@@ -9,7 +9,7 @@ use lib.Dec.{eqb}
 use Rattle.d64spec.specs.Lists.{indicator}
 use Rattle.d64spec.specs.Bits.{bitOf, binary}
 use Rattle.d64spec.specs.Answers.{Address}
-use Rattle.d64spec.specs.Geometry.{Geometry, tracks, firstOn, sectorsOn}
+use Rattle.d64spec.specs.Geometry.{Geometry, firstOn, sectorsOn}
 
 -- 1 where somebody owns the sector s past number `first`, else 0
 unfoldable pub ownedBit : List ℕ → ℕ → ℕ → ℕ
@@ -19,10 +19,11 @@ ownedBit own first s = indicator (not (eqb (getD own (first + s) 0) 0))
 unfoldable pub ownedMask : List ℕ → ℕ → ℕ → ℕ
 ownedMask own first n = binary (ownedBit own first) n
 
--- MASK AND TABLE: a number for each track, from track 1 on, whose bits are those of its sectors that have an owner in the table
+-- MASK AND TABLE: a number for each of 40 tracks, from track 1 on, whose bits are those of its sectors that have an owner in the table; a track that the
+-- layout does not have has no sector, and 0
 pub record Masks (g : Geometry) (own used : List ℕ) : Type 0 where
-  pub size : length used ≡ tracks g
-  pub mask : (t : ℕ) → 1 ≤ t → t ≤ tracks g → getD used (t - 1) 0 ≡ ownedMask own (firstOn g t) (sectorsOn g t)
+  pub size : length used ≡ 40
+  pub mask : (t : ℕ) → 1 ≤ t → t ≤ 40 → getD used (t - 1) 0 ≡ ownedMask own (firstOn g t) (sectorsOn g t)
 
 -- nobody owns the sector: its bit in its track's number is 0
 unfoldable pub unmarked : List ℕ → Address → Bool

@@ -73,15 +73,19 @@ module _ {at : List ℕ} {have want : ℕ} (room : TrackRoom at have want) where
       placed-stores (x ∷ []) (x ∷ []) (rw z (ap (λ (l : List Address). x ∷ l) (take-nil (want - have - 1)))) (omega arith)
 
   -- the sectors of one list, and behind them those of another
-  pub placed-both : {a b : List Address} {m r : ℕ} {at′ at″ : List ℕ} → PlacedBehind a at have want m at′ → PlacedBehind b at′ m want r at″ → PlacedBehind (a ++ b) at have want r at″
+  pub placed-both : {a b : List Address} {m r : ℕ} {at′ at″ : List ℕ} → PlacedBehind a at have want m at′ → PlacedBehind b at′ m want r at″
+      → PlacedBehind (a ++ b) at have want r at″
   placed-both {a} {b} {m} {r} {at′} {at″} p q =
       let left : want - have - length (take (want - have) a) ≡ want - m = omega (arith, p .count) in
       let all : take (want - have) (a ++ b) ≡ take (want - have) a ++ take (want - m) b
       = take-both (want - have) a b ∙ ap (λ (n : ℕ). take (want - have) a ++ take n b) left in
       let next : m ≡ have + length (places (want - have) a) = omega (arith, p .count, length-places (want - have) a) in
       let stores : at″ ≡ sets at have (map packed (take (want - have) a ++ take (want - m) b))
-      = q .places ∙ sym (sets-splice at′ m (places (want - m) b) (let k = room-placed p in omega (arith, k .room, k .few, length-places (want - m) b, length-take (want - m) b)))
+      = q .places
+      ∙ sym (sets-splice at′ m (places (want - m) b)
+      (let k = room-placed p in omega (arith, k .room, k .few, length-places (want - m) b, length-take (want - m) b)))
       ∙ ap₂ (λ (l : List ℕ) (k : ℕ). sets l k (places (want - m) b)) (p .places ∙ sym (as-stores a)) next
       ∙ sym (sets-both at have (places (want - have) a) (places (want - m) b))
       ∙ ap (sets at have) (sym (map-append packed (take (want - have) a) (take (want - m) b))) in
-      rw stores (placed-stores (a ++ b) (take (want - have) a ++ take (want - m) b) all (omega (arith, p .count, q .count, length-append (take (want - have) a) (take (want - m) b))))
+      rw stores (placed-stores (a ++ b) (take (want - have) a ++ take (want - m) b) all
+      (omega (arith, p .count, q .count, length-append (take (want - have) a) (take (want - m) b))))

@@ -9,16 +9,16 @@ use lib.ListN.{length, take, getD}
 use lib.Dec.{eqb}
 use Rattle.d64spec.specs.Lists.{Bytes, filter, splice}
 use Rattle.d64spec.specs.Answers.{Address}
-use Rattle.d64spec.specs.Geometry.{layout35, sectorsOfTrack, allocationTracks, allocationOrder}
+use Rattle.d64spec.specs.Geometry.{Geometry, tracks, sectorsOfTrack, allocationTracks, allocationOrder}
 use Rattle.geometry.specs.Layout.{packed}
 use Rattle.bam.specs.MapEntry.{Entries, bitmapOf}
 use Rattle.bam.specs.Bam.{markedFree}
 
--- t is the track at index i of the allocation order, one of the 35 (01, Store: house order)
-pub record OrderTrack (i t : ℕ) : Type 0 where
-  pub track : t ≡ getD (allocationTracks layout35) i 0
+-- t is the track at index i of the allocation order, one of the layout's (01, Store: house order)
+pub record OrderTrack (g : Geometry) (i t : ℕ) : Type 0 where
+  pub track : t ≡ getD (allocationTracks g) i 0
   pub low : 1 ≤ t
-  pub high : t ≤ 35
+  pub high : t ≤ tracks g
 
 -- the first of these sectors stand in the array behind the `have` places that it has, up to `want` places in all; the rest of it is as it was, and it
 -- has r places then
@@ -31,8 +31,8 @@ unfoldable pub markedIn : ℕ → Address → Bool
 markedIn m r = eqb (m / 2 ^ r .sector % 2) 1
 
 -- the sectors of track t that its bitmap marks free, upward
-unfoldable pub freeOnTrack : ℕ → ℕ → List Address
-freeOnTrack m t = filter (markedIn m) (sectorsOfTrack layout35 t)
+unfoldable pub freeOnTrack : Geometry → ℕ → ℕ → List Address
+freeOnTrack g m t = filter (markedIn m) (sectorsOfTrack g t)
 
 -- the array has room for `want` places, and has `have` of them
 pub record TrackRoom (at : List ℕ) (have want : ℕ) : Type 0 where
@@ -40,21 +40,21 @@ pub record TrackRoom (at : List ℕ) (have want : ℕ) : Type 0 where
   pub room : want ≤ length at
 
 -- a track's free sectors stand behind the places that there are
-abbrev pub TrackPlaced : Bytes → ℕ → List ℕ → ℕ → ℕ → ℕ → List ℕ → Type 0
-TrackPlaced e t at have want r at′ = PlacedBehind (freeOnTrack (bitmapOf e) t) at have want r at′
+abbrev pub TrackPlaced : Geometry → Bytes → ℕ → List ℕ → ℕ → ℕ → ℕ → List ℕ → Type 0
+TrackPlaced g e t at have want r at′ = PlacedBehind (freeOnTrack g (bitmapOf e) t) at have want r at′
 
 -- the sectors off track 18 that the map marks free, in the order in which a store takes them
-unfoldable pub freePlaces : Entries → List Address
-freePlaces es = filter (markedFree es) (allocationOrder layout35)
+unfoldable pub freePlaces : Geometry → Entries → List Address
+freePlaces g es = filter (markedFree es) (allocationOrder g)
 
 -- the first of them: as many as are wanted, and as there is room for
-unfoldable pub firstPlaces : Entries → ℕ → ℕ → List Address
-firstPlaces es wanted room = take (min wanted room) (freePlaces es)
+unfoldable pub firstPlaces : Geometry → Entries → ℕ → ℕ → List Address
+firstPlaces g es wanted room = take (min wanted room) (freePlaces g es)
 
 -- they stand at the start of the array, the rest of it as it was, and r is how many they are
-pub record Placed (es : Entries) (wanted : ℕ) (at : List ℕ) (r : ℕ) (at′ : List ℕ) : Type 0 where
-  pub count : r ≡ length (firstPlaces es wanted (length at))
-  pub places : at′ ≡ splice at 0 (map packed (firstPlaces es wanted (length at)))
+pub record Placed (g : Geometry) (es : Entries) (wanted : ℕ) (at : List ℕ) (r : ℕ) (at′ : List ℕ) : Type 0 where
+  pub count : r ≡ length (firstPlaces g es wanted (length at))
+  pub places : at′ ≡ splice at 0 (map packed (firstPlaces g es wanted (length at)))
 
 -- the first of these sectors as a number, or 0 where there is none
 unfoldable pub firstPacked : List Address → ℕ
@@ -62,5 +62,5 @@ firstPacked [] = 0
 firstPacked (r ∷ l) = packed r
 
 -- the lowest sector of track 18 that the map marks free, or 0 where none is
-unfoldable pub directoryPlace : Entries → ℕ
-directoryPlace es = firstPacked (filter (markedFree es) (sectorsOfTrack layout35 18))
+unfoldable pub directoryPlace : Geometry → Entries → ℕ
+directoryPlace g es = firstPacked (filter (markedFree es) (sectorsOfTrack g 18))

@@ -8,12 +8,11 @@ use mathlib.Core.List.{List, [], _∷_}
 use lib.ListN.{length, take, drop}
 use Rattle.d64spec.specs.Lists.{Bytes, byte}
 use Rattle.d64spec.specs.Answers.{Address}
-use Rattle.d64spec.specs.Geometry.{Geometry, layout35, onDisk, sectorNumber}
+use Rattle.d64spec.specs.Geometry.{Geometry, total, onDisk, sectorNumber}
 use Rattle.d64spec.specs.Image.{Disk, disk}
 use Rattle.d64spec.specs.Chain.{Link, ends, to, bad, linkTo, decodeFileLink, fileLink, steps, Chain, follow}
 use Rattle.d64spec.proofs.BoundLaws.{sectorNumber-lt}
 use Rattle.d64spec.proofs.ChainLaws.{chain-follow}
-use Rattle.d64spec.proofs.RunTheorem.{sectors35}
 use Rattle.sectors.specs.Sectors.{Inside}
 use Rattle.sectors.proofs.SectorLaws.{length-disk, sector-lent}
 use Rattle.links.proofs.LinkLaws.{file-bad, file-ends, file-to}
@@ -27,15 +26,15 @@ follow-length g link d (suc n) bad = omega arith
 follow-length g link d (suc n) (to r) = omega (arith, follow-length g link d n (link (d (sectorNumber g r))))
 
 -- no chain that is met is longer than the disk's sectors and one
-pub sectorsFrom-le : (img : Bytes) (r : Address) → length (sectorsFrom img r) ≤ 684
+pub sectorsFrom-le : (g : Geometry) (img : Bytes) (r : Address) → length (sectorsFrom g img r) ≤ suc (total g)
 unfolding sectorsFrom
-sectorsFrom-le img r = omega (arith, follow-length layout35 (fileLink layout35) (disk img) (steps layout35) (to r), sectors35)
+sectorsFrom-le g img r = follow-length g (fileLink g) (disk img) (steps g) (to r)
 
 -- a chain that is no longer is what is met
-sectorsFrom-chain : (img : Bytes) (r : Address) (l : List Address) → Chain layout35 (fileLink layout35) (disk img) (to r) l → length l ≤ 684
-    → sectorsFrom img r ≡ l
+sectorsFrom-chain : (g : Geometry) (img : Bytes) (r : Address) (l : List Address) → Chain g (fileLink g) (disk img) (to r) l → length l ≤ suc (total g)
+    → sectorsFrom g img r ≡ l
 unfolding sectorsFrom
-sectorsFrom-chain img r l c h = chain-follow layout35 (fileLink layout35) (disk img) (steps layout35) (to r) l c (omega (arith, sectors35))
+sectorsFrom-chain g img r l c h = chain-follow g (fileLink g) (disk img) (steps g) (to r) l c h
 
 -- ---- links that start no chain, and those that do
 
@@ -60,41 +59,41 @@ module _ (g : Geometry) (link : Bytes → Link) (d : Disk) where
 -- ---- the step
 
 -- n is the number of the sector r, which lies whole in the image
-pub record Visited (img : Bytes) (r : Address) (n : ℕ) : Type 0 where
-  pub number : n ≡ sectorNumber layout35 r
+pub record Visited (g : Geometry) (img : Bytes) (r : Address) (n : ℕ) : Type 0 where
+  pub number : n ≡ sectorNumber g r
   pub inside : Inside img n
 
 -- as the code lends it
-pub visited-lent : {img : Bytes} {r : Address} {n : ℕ} → Visited img r n
-    → take (256 * n + 256 - 256 * n) (drop (256 * n) img) ≡ disk img (sectorNumber layout35 r)
-visited-lent {img} {r} {n} v = sector-lent img n refl ∙ ap (disk img) (v .number)
+pub visited-lent : {g : Geometry} {img : Bytes} {r : Address} {n : ℕ} → Visited g img r n
+    → take (256 * n + 256 - 256 * n) (drop (256 * n) img) ≡ disk img (sectorNumber g r)
+visited-lent {img = img} {n = n} v = sector-lent img n refl ∙ ap (disk img) (v .number)
 
 -- the sector q follows r
-pub record Follows (img : Bytes) (r q : Address) : Type 0 where
-  pub rest : ChainFrom img q
-  pub sectors : sectorsFrom img r ≡ r ∷ sectorsFrom img q
+pub record Follows (g : Geometry) (img : Bytes) (r q : Address) : Type 0 where
+  pub rest : ChainFrom g img q
+  pub sectors : sectorsFrom g img r ≡ r ∷ sectorsFrom g img q
 
-module _ {img : Bytes} {r : Address} (c : ChainFrom img r) where
-  pub number-lt : sectorNumber layout35 r < 683
-  number-lt = omega (arith, sectorNumber-lt layout35 r (c .on), sectors35)
+module _ {g : Geometry} {img : Bytes} {r : Address} (c : ChainFrom g img r) where
+  pub number-lt : sectorNumber g r < total g
+  number-lt = sectorNumber-lt g r (c .on)
 
   -- the sector at hand, by a table of the tracks' first numbers
-  pub visited : {firsts : List ℕ} {n : ℕ} → IsFirsts firsts → n ≡ numberBy firsts r → Visited img r n
+  pub visited : {firsts : List ℕ} {n : ℕ} → IsFirsts g firsts → n ≡ numberBy firsts r → Visited g img r n
   visited {firsts} {n} numbers e =
-      let is : n ≡ sectorNumber layout35 r = e ∙ numbers .agrees r (c .on) in
+      let is : n ≡ sectorNumber g r = e ∙ numbers .agrees r (c .on) in
       record { number = is; inside = omega (arith, number-lt, c .size) }
 
   -- its sectors are r, and the rest of the chain
-  pub sectors-first : (m : List Address) × (sectorsFrom img r ≡ r ∷ m)
-      × Chain layout35 (fileLink layout35) (disk img) (fileLink layout35 (disk img (sectorNumber layout35 r))) m
-  sectors-first = chain-first layout35 (fileLink layout35) (disk img) r (sectorsFrom img r) (c .chain)
+  pub sectors-first : (m : List Address) × (sectorsFrom g img r ≡ r ∷ m)
+      × Chain g (fileLink g) (disk img) (fileLink g (disk img (sectorNumber g r))) m
+  sectors-first = chain-first g (fileLink g) (disk img) r (sectorsFrom g img r) (c .chain)
 
   -- what the link in the sector's bytes s says
-  module _ {s : Bytes} (is : s ≡ disk img (sectorNumber layout35 r)) where
+  module _ {s : Bytes} (is : s ≡ disk img (sectorNumber g r)) where
     pub sector-full : length s ≡ 256
-    sector-full = ap length is ∙ length-disk img (sectorNumber layout35 r) (omega (arith, number-lt, c .size))
+    sector-full = ap length is ∙ length-disk img (sectorNumber g r) (omega (arith, number-lt, c .size))
 
-    link : Chain layout35 (fileLink layout35) (disk img) (decodeFileLink layout35 (byte s 0) (byte s 1)) (sectors-first .0)
+    link : Chain g (fileLink g) (disk img) (decodeFileLink g (byte s 0) (byte s 1)) (sectors-first .0)
     unfolding fileLink
     link = rw is (sectors-first .2)
 
@@ -104,26 +103,26 @@ module _ {img : Bytes} {r : Address} (c : ChainFrom img r) where
       where
         go : (n : ℕ) → byte s 1 ≡ n → 1 ≤ n
         go zero e =
-            chain-bad layout35 (fileLink layout35) (disk img) (sectors-first .0) (rw (file-bad layout35 (byte s 0) (byte s 1) h (omega arith)) at link)
+            chain-bad g (fileLink g) (disk img) (sectors-first .0) (rw (file-bad g (byte s 0) (byte s 1) h (omega arith)) at link)
         go (suc n) e = omega arith
 
-    pub last-alone : byte s 0 < 1 → sectorsFrom img r ≡ r ∷ []
+    pub last-alone : byte s 0 < 1 → sectorsFrom g img r ≡ r ∷ []
     last-alone h =
         sectors-first .1 ∙ ap (λ (x : List Address). r ∷ x)
-        (chain-ends layout35 (fileLink layout35) (disk img) (sectors-first .0) (rw (file-ends layout35 (byte s 0) (byte s 1) h (last-used h)) at link))
+        (chain-ends g (fileLink g) (disk img) (sectors-first .0) (rw (file-ends g (byte s 0) (byte s 1) h (last-used h)) at link))
 
     -- any other track: the sector named is on the disk, and the chain goes on there
-    pub follows : 1 ≤ byte s 0 → Follows img r (linkOf s)
+    pub follows : 1 ≤ byte s 0 → Follows g img r (linkOf s)
     unfolding linkTo
-    follows h = go (onDisk layout35 (linkOf s)) refl (rw (file-to layout35 (byte s 0) (byte s 1) h) at link)
+    follows h = go (onDisk g (linkOf s)) refl (rw (file-to g (byte s 0) (byte s 1) h) at link)
       where
-        go : (b : Bool) → onDisk layout35 (linkOf s) ≡ b
-            → Chain layout35 (fileLink layout35) (disk img) (cond b (to (linkOf s)) bad) (sectors-first .0) → Follows img r (linkOf s)
+        go : (b : Bool) → onDisk g (linkOf s) ≡ b
+            → Chain g (fileLink g) (disk img) (cond b (to (linkOf s)) bad) (sectors-first .0) → Follows g img r (linkOf s)
         go true on k =
-            let met : sectorsFrom img (linkOf s) ≡ sectors-first .0
-            = sectorsFrom-chain img (linkOf s) (sectors-first .0) k (omega (arith, sectorsFrom-le img r, ap length (sectors-first .1))) in
+            let met : sectorsFrom g img (linkOf s) ≡ sectors-first .0
+            = sectorsFrom-chain g img (linkOf s) (sectors-first .0) k (omega (arith, sectorsFrom-le g img r, ap length (sectors-first .1))) in
             record {
               rest = record { size = c .size; on = on; chain = rw met k };
               sectors = sectors-first .1 ∙ ap (λ (x : List Address). r ∷ x) (sym met);
             }
-        go false on k = chain-bad layout35 (fileLink layout35) (disk img) (sectors-first .0) k
+        go false on k = chain-bad g (fileLink g) (disk img) (sectors-first .0) k

@@ -9,7 +9,7 @@ use lib.ListN.{length, take, drop, length-append, length-take, length-drop}
 use lib.Seq.{length-take-le, drop-at, take-add, drop-append-add, take-append-seam, drop-drop, take-length}
 use Rattle.d64spec.specs.Lists.{Bytes, byte, splice}
 use Rattle.d64spec.specs.Answers.{Address}
-use Rattle.d64spec.specs.Geometry.{layout35, sectorNumber}
+use Rattle.d64spec.specs.Geometry.{Geometry, sectorNumber}
 use Rattle.d64spec.specs.Image.{disk}
 use Rattle.d64spec.proofs.SpliceLaws.{length-splice}
 use Rattle.parts.proofs.OverwriteLaws.{copied-back}
@@ -22,17 +22,17 @@ use Rattle.reading.proofs.ChainStepLaws.{Follows, sectors-first, sector
 abbrev pub dataOf : Bytes → ℕ → Bytes
 dataOf s size = take size (drop 2 s)
 
-module _ {img : Bytes} {r : Address} (c : ChainFrom img r) {s : Bytes} (is : s ≡ disk img (sectorNumber layout35 r)) where
+module _ {g : Geometry} {img : Bytes} {r : Address} (c : ChainFrom g img r) {s : Bytes} (is : s ≡ disk img (sectorNumber g r)) where
   length-dataOf : (size : ℕ) → size ≤ 254 → length (dataOf s size) ≡ size
   length-dataOf size h = let full = sector-full c is in simp (length-take, length-drop) (omega arith)
 
   -- the last sector's are bytes 2 to n, n being its second byte
-  data-last : sectorsFrom img r ≡ r ∷ [] → dataFrom img r ≡ dataOf s (byte s 1 - 1)
+  data-last : sectorsFrom g img r ≡ r ∷ [] → dataFrom g img r ≡ dataOf s (byte s 1 - 1)
   unfolding dataFrom
   data-last alone = let e : byte s 1 + 1 - 2 ≡ byte s 1 - 1 = omega arith in rw (alone, ← is, e)
 
   -- any other's are bytes 2 to 255
-  data-more : {q : Address} → Follows img r q → dataFrom img r ≡ dataOf s 254 ++ dataFrom img q
+  data-more : {q : Address} → Follows g img r q → dataFrom g img r ≡ dataOf s 254 ++ dataFrom g img q
   unfolding dataFrom
   data-more f = rw (f .sectors, sectors-first (f .rest) .1, ← is)
 
@@ -61,57 +61,57 @@ splice-more s a b =
     ap₂ (λ (x y : Bytes). x ++ (b ++ y)) (take-append-seam a (drop (0 + length a) s)) e ∙ sym (append-assoc a b (drop (0 + length (a ++ b)) s))
 
 -- n bytes of the chain's data and k of its sectors are copied, and the chain goes on at `at`
-pub record Copying (img out : Bytes) (first at : Address) (out′ : Bytes) (n k : ℕ) : Type 0 where
-  pub chain : ChainFrom img at
-  pub room : length (dataFrom img first) ≤ length out
-  pub within : n ≤ length (dataFrom img first)
-  pub rest : drop n (dataFrom img first) ≡ dataFrom img at
-  pub output : out′ ≡ splice out 0 (take n (dataFrom img first))
-  pub visited : k + length (sectorsFrom img at) ≡ length (sectorsFrom img first)
+pub record Copying (g : Geometry) (img out : Bytes) (first at : Address) (out′ : Bytes) (n k : ℕ) : Type 0 where
+  pub chain : ChainFrom g img at
+  pub room : length (dataFrom g img first) ≤ length out
+  pub within : n ≤ length (dataFrom g img first)
+  pub rest : drop n (dataFrom g img first) ≡ dataFrom g img at
+  pub output : out′ ≡ splice out 0 (take n (dataFrom g img first))
+  pub visited : k + length (sectorsFrom g img at) ≡ length (sectorsFrom g img first)
 
-pub copying-start : {img out : Bytes} {first : Address} → CopyFits img out first → Copying img out first first out 0 0
+pub copying-start : {g : Geometry} {img out : Bytes} {first : Address} → CopyFits g img out first → Copying g img out first first out 0 0
 copying-start f = record { chain = f .chain; room = f .room; within = omega arith; rest = refl; output = refl; visited = omega arith }
 
-module _ {img out : Bytes} {first at : Address} {out′ : Bytes} {n k : ℕ} (w : Copying img out first at out′ n k) where
+module _ {g : Geometry} {img out : Bytes} {first at : Address} {out′ : Bytes} {n k : ℕ} (w : Copying g img out first at out′ n k) where
   -- what is still to be copied has room
-  pub left : n + length (dataFrom img at) ≡ length (dataFrom img first)
-  left = omega (arith, ap length (w .rest), length-drop n (dataFrom img first), w .within)
+  pub left : n + length (dataFrom g img at) ≡ length (dataFrom g img first)
+  left = omega (arith, ap length (w .rest), length-drop n (dataFrom g img first), w .within)
 
   pub length-output : length out′ ≡ length out
   length-output =
-      let l : length (take n (dataFrom img first)) ≡ n = length-take-le n (dataFrom img first) (w .within) in
-      ap length (w .output) ∙ length-splice out 0 (take n (dataFrom img first)) (omega (arith, w .within, w .room))
+      let l : length (take n (dataFrom g img first)) ≡ n = length-take-le n (dataFrom g img first) (w .within) in
+      ap length (w .output) ∙ length-splice out 0 (take n (dataFrom g img first)) (omega (arith, w .within, w .room))
 
   -- the next bytes of the chain's data behind those at the start
-  next : (b c : Bytes) → dataFrom img at ≡ b ++ c → splice out′ n b ≡ splice out 0 (take (n + length b) (dataFrom img first))
+  next : (b c : Bytes) → dataFrom g img at ≡ b ++ c → splice out′ n b ≡ splice out 0 (take (n + length b) (dataFrom g img first))
   next b c e =
-      let l : length (take n (dataFrom img first)) ≡ n = length-take-le n (dataFrom img first) (w .within) in
-      let more : take (n + length b) (dataFrom img first) ≡ take n (dataFrom img first) ++ b
-      = take-add n (length b) (dataFrom img first)
-      ∙ ap (λ (x : Bytes). take n (dataFrom img first) ++ x) (ap (take (length b)) (w .rest ∙ e) ∙ take-append-seam b c) in
-      ap₂ (λ (x : Bytes) (i : ℕ). splice x i b) (w .output) (sym l) ∙ splice-more out (take n (dataFrom img first)) b ∙ ap (splice out 0) (sym more)
+      let l : length (take n (dataFrom g img first)) ≡ n = length-take-le n (dataFrom g img first) (w .within) in
+      let more : take (n + length b) (dataFrom g img first) ≡ take n (dataFrom g img first) ++ b
+      = take-add n (length b) (dataFrom g img first)
+      ∙ ap (λ (x : Bytes). take n (dataFrom g img first) ++ x) (ap (take (length b)) (w .rest ∙ e) ∙ take-append-seam b c) in
+      ap₂ (λ (x : Bytes) (i : ℕ). splice x i b) (w .output) (sym l) ∙ splice-more out (take n (dataFrom g img first)) b ∙ ap (splice out 0) (sym more)
 
   -- s are the bytes of the sector at hand
-  module _ {s : Bytes} (is : s ≡ disk img (sectorNumber layout35 at)) where
+  module _ {s : Bytes} (is : s ≡ disk img (sectorNumber g at)) where
     -- its 254 bytes, and on to the next
     module _ (linked : 1 ≤ byte s 0) where
-      pub next-follows : Follows img at (linkOf s)
+      pub next-follows : Follows g img at (linkOf s)
       next-follows = follows (w .chain) is linked
 
       size : length (dataOf s 254) ≡ 254
       size = length-dataOf (w .chain) is 254 (omega arith)
 
-      more : dataFrom img at ≡ dataOf s 254 ++ dataFrom img (linkOf s)
+      more : dataFrom g img at ≡ dataOf s 254 ++ dataFrom g img (linkOf s)
       more = data-more (w .chain) is next-follows
 
-      pub room-more : n + 254 ≤ length (dataFrom img first)
-      room-more = omega (arith, left, ap length more, length-append (dataOf s 254) (dataFrom img (linkOf s)), size)
+      pub room-more : n + 254 ≤ length (dataFrom g img first)
+      room-more = omega (arith, left, ap length more, length-append (dataOf s 254) (dataFrom g img (linkOf s)), size)
 
-      passed : drop (n + 254) (dataFrom img first) ≡ dataFrom img (linkOf s)
-      passed = sym (drop-drop 254 n (dataFrom img first)) ∙ ap (drop 254) (w .rest ∙ more) ∙ drop-at (dataOf s 254) (dataFrom img (linkOf s)) 254 size
+      passed : drop (n + 254) (dataFrom g img first) ≡ dataFrom g img (linkOf s)
+      passed = sym (drop-drop 254 n (dataFrom g img first)) ∙ ap (drop 254) (w .rest ∙ more) ∙ drop-at (dataOf s 254) (dataFrom g img (linkOf s)) 254 size
 
       pub copying-moved : {out″ : Bytes} {n′ k′ : ℕ} → out″ ≡ splice out′ n (dataOf s 254) → n′ ≡ n + 254 → k′ ≡ k + 1
-          → Copying img out first (linkOf s) out″ n′ k′
+          → Copying g img out first (linkOf s) out″ n′ k′
       copying-moved {n′ = n′} copied long visited =
           let here : n + length (dataOf s 254) ≡ n′ = omega (arith, size) in
           record {
@@ -119,33 +119,34 @@ module _ {img out : Bytes} {first at : Address} {out′ : Bytes} {n k : ℕ} (w 
             room = w .room;
             within = omega (arith, room-more);
             rest = rw long passed;
-            output = copied ∙ next (dataOf s 254) (dataFrom img (linkOf s)) more ∙ ap (λ (m : ℕ). splice out 0 (take m (dataFrom img first))) here;
+            output = copied ∙ next (dataOf s 254) (dataFrom g img (linkOf s)) more ∙ ap (λ (m : ℕ). splice out 0 (take m (dataFrom g img first))) here;
             visited = omega (arith, w .visited, ap length (next-follows .sectors));
           }
 
     -- or, where it is the last, bytes 2 to its second byte
     module _ (last : byte s 0 < 1) (small : byte s 1 ≤ 255) where
-      alone : sectorsFrom img at ≡ at ∷ []
+      alone : sectorsFrom g img at ≡ at ∷ []
       alone = last-alone (w .chain) is last
 
       abbrev rest : Bytes
       rest = dataOf s (byte s 1 - 1)
 
-      all : dataFrom img at ≡ rest
+      all : dataFrom g img at ≡ rest
       all = data-last (w .chain) is alone
 
-      pub end-last : n + (byte s 1 - 1) ≡ length (dataFrom img first)
+      pub end-last : n + (byte s 1 - 1) ≡ length (dataFrom g img first)
       end-last = omega (arith, left, ap length all, length-dataOf (w .chain) is (byte s 1 - 1) (omega arith))
 
-      pub copying-finished : {out″ : Bytes} {k′ : ℕ} → out″ ≡ splice out′ n rest → k′ ≡ k + 1 → ChainCopied img out first k′ out″
+      pub copying-finished : {out″ : Bytes} {k′ : ℕ} → out″ ≡ splice out′ n rest → k′ ≡ k + 1 → ChainCopied g img out first k′ out″
       copying-finished copied visited =
-          let end : n + length rest ≡ length (dataFrom img first) = omega (arith, left, ap length all) in
+          let end : n + length rest ≡ length (dataFrom g img first) = omega (arith, left, ap length all) in
           record {
             output =
                 copied ∙ next rest [] (all ∙ sym (append-nil rest))
-                ∙ ap (splice out 0) (ap (λ (m : ℕ). take m (dataFrom img first)) end ∙ take-length (dataFrom img first));
+                ∙ ap (splice out 0) (ap (λ (m : ℕ). take m (dataFrom g img first)) end ∙ take-length (dataFrom g img first));
             sectors = omega (arith, w .visited, ap length alone);
           }
 
-pub length-copied : {img out : Bytes} {r : Address} {k : ℕ} {out′ : Bytes} → CopyFits img out r → ChainCopied img out r k out′ → length out′ ≡ length out
-length-copied {img} {out} {r} f k = ap length (k .output) ∙ length-splice out 0 (dataFrom img r) (omega (arith, f .room))
+pub length-copied : {g : Geometry} {img out : Bytes} {r : Address} {k : ℕ} {out′ : Bytes} → CopyFits g img out r → ChainCopied g img out r k out′
+    → length out′ ≡ length out
+length-copied {g} {img} {out} {r} f k = ap length (k .output) ∙ length-splice out 0 (dataFrom g img r) (omega (arith, f .room))

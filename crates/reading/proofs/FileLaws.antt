@@ -7,14 +7,14 @@ use mathlib.Core.List.{List, [], _∷_, List·Memᴰ, List·Memᴰ·head, List·
 use lib.ListN.{length, drop}
 use Rattle.d64spec.specs.Lists.{Bytes, byte}
 use Rattle.d64spec.specs.Answers.{Address, Fault, done, first}
-use Rattle.d64spec.specs.Geometry.{layout35, onDisk}
+use Rattle.d64spec.specs.Geometry.{Geometry, onDisk}
+use Rattle.d64spec.specs.Layouts.{Known}
 use Rattle.d64spec.specs.Image.{disk}
 use Rattle.d64spec.specs.Chain.{to, bad, linkTo, fileLink, Chain, chainData}
 use Rattle.d64spec.specs.Directory.{Slot, fileOf, files, firstLink, countOf}
 use Rattle.d64spec.specs.Accepted.{Accepted, ValidEntry}
 use Rattle.d64spec.proofs.ResultLaws.{done-inj, refused≢done}
 use Rattle.d64spec.proofs.SplitLaws.{all-mem}
-use Rattle.d64spec.proofs.RunTheorem.{sectors35}
 use Rattle.diskcheck.specs.EndTable.{endOf}
 use Rattle.diskcheck.proofs.CheckedLaws.{end-tells}
 use Rattle.reading.specs.ChainReads.{sectorsFrom, dataFrom, ChainFrom}
@@ -29,45 +29,45 @@ first-drop f (suc n) [] x e = refused≢done f x e
 first-drop f zero (y ∷ l) x e = List·Memᴰ·head (sym (done-inj e))
 first-drop f (suc n) (y ∷ l) x e = List·Memᴰ·tail (first-drop f n l x e)
 
-module _ (img : Bytes) (s : Slot) where
+module _ (g : Geometry) (img : Bytes) (s : Slot) where
   -- a slot's file starts at the sector that its entry names
   record Starts : Type 0 where
-    on : onDisk layout35 (firstOf (s .bytes)) ≡ true
-    sectors : fileOf layout35 (disk img) s .sectors ≡ sectorsFrom img (firstOf (s .bytes))
-    chain : Chain layout35 (fileLink layout35) (disk img) (to (firstOf (s .bytes))) (fileOf layout35 (disk img) s .sectors)
+    on : onDisk g (firstOf (s .bytes)) ≡ true
+    sectors : fileOf g (disk img) s .sectors ≡ sectorsFrom g img (firstOf (s .bytes))
+    chain : Chain g (fileLink g) (disk img) (to (firstOf (s .bytes))) (fileOf g (disk img) s .sectors)
 
-  starts : ValidEntry layout35 (disk img) (fileOf layout35 (disk img) s) → Starts
+  starts : ValidEntry g (disk img) (fileOf g (disk img) s) → Starts
   unfolding fileOf firstLink linkTo sectorsFrom
-  starts v = go (onDisk layout35 (firstOf (s .bytes))) refl (v .chain)
+  starts v = go (onDisk g (firstOf (s .bytes))) refl (v .chain)
     where
-      go : (b : Bool) → onDisk layout35 (firstOf (s .bytes)) ≡ b
-          → Chain layout35 (fileLink layout35) (disk img) (cond b (to (firstOf (s .bytes))) bad) (fileOf layout35 (disk img) s .sectors) → Starts
+      go : (b : Bool) → onDisk g (firstOf (s .bytes)) ≡ b
+          → Chain g (fileLink g) (disk img) (cond b (to (firstOf (s .bytes))) bad) (fileOf g (disk img) s .sectors) → Starts
       go true e c = record { on = e; sectors = rw e; chain = c }
-      go false e c = chain-bad layout35 (fileLink layout35) (disk img) (fileOf layout35 (disk img) s .sectors) c
+      go false e c = chain-bad g (fileLink g) (disk img) (fileOf g (disk img) s .sectors) c
 
-module _ (img : Bytes) (a : Accepted layout35 img) (s : Slot) (element : List·Memᴰ (fileOf layout35 (disk img) s) (files layout35 (disk img))) where
-  valid : ValidEntry layout35 (disk img) (fileOf layout35 (disk img) s)
-  valid = all-mem (ValidEntry layout35 (disk img)) element (a .content .entry)
+module _ (g : Geometry) (kn : Known g) (img : Bytes) (a : Accepted g img) (s : Slot) (element : List·Memᴰ (fileOf g (disk img) s) (files g (disk img))) where
+  valid : ValidEntry g (disk img) (fileOf g (disk img) s)
+  valid = all-mem (ValidEntry g (disk img)) element (a .content .entry)
 
-  pub sectors-of : fileOf layout35 (disk img) s .sectors ≡ sectorsFrom img (firstOf (s .bytes))
-  sectors-of = starts img s valid .sectors
+  pub sectors-of : fileOf g (disk img) s .sectors ≡ sectorsFrom g img (firstOf (s .bytes))
+  sectors-of = starts g img s valid .sectors
 
-  pub chain-of : ChainFrom img (firstOf (s .bytes))
-  chain-of = let h = starts img s valid in record { size = omega (arith, a .size, sectors35); on = h .on; chain = rw (h .sectors) at (h .chain) }
+  pub chain-of : ChainFrom g img (firstOf (s .bytes))
+  chain-of = let h = starts g img s valid in record { size = a .size; on = h .on; chain = rw (h .sectors) at (h .chain) }
 
   -- THE ENTRY OF A FILE of an accepted image of bytes, with where its data end
-  pub entry-of : ((k : ℕ) → byte img k < 256) → length (s .bytes) ≡ 30 → {last : ℕ} → last ≡ endOf img (fileOf layout35 (disk img) s .sectors)
-      → FileEntry img (s .bytes) last
+  pub entry-of : ((k : ℕ) → byte img k < 256) → length (s .bytes) ≡ 30 → {last : ℕ} → last ≡ endOf g img (fileOf g (disk img) s .sectors)
+      → FileEntry g img (s .bytes) last
   unfolding fileOf dataFrom
   entry-of small full {last} end =
-      let l = end-tells img a small (fileOf layout35 (disk img) s) element in
+      let l = end-tells g kn img a small (fileOf g (disk img) s) element in
       let e = sectors-of in
-      let count : countOf (s .bytes) ≡ length (sectorsFrom img (firstOf (s .bytes))) = valid .sectorCount ∙ ap length e in
+      let count : countOf (s .bytes) ≡ length (sectorsFrom g img (firstOf (s .bytes))) = valid .sectorCount ∙ ap length e in
       record {
         full = full;
         chain = chain-of;
         count = count;
         some = omega (arith, count, ap length (sectors-first chain-of .1));
         low = omega (arith, l .low, end);
-        bytes = ap (λ (m : List Address). length (chainData layout35 (disk img) m)) (sym e) ∙ omega (arith, l .bytes, end, valid .sectorCount);
+        bytes = ap (λ (m : List Address). length (chainData g (disk img) m)) (sym e) ∙ omega (arith, l .bytes, end, valid .sectorCount);
       }

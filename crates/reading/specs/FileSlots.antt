@@ -5,7 +5,7 @@ use mathlib.Core.List.{List}
 use lib.ListN.{length}
 use Rattle.d64spec.specs.Lists.{Bytes}
 use Rattle.d64spec.specs.Answers.{Address, address}
-use Rattle.d64spec.specs.Geometry.{layout35}
+use Rattle.d64spec.specs.Geometry.{Geometry}
 use Rattle.d64spec.specs.Image.{disk}
 use Rattle.d64spec.specs.Directory.{entryByte, countOf, files}
 use Rattle.diskcheck.specs.EndTable.{endTable}
@@ -18,15 +18,15 @@ firstOf b = address (entryByte b 0x03) (entryByte b 0x04)
 
 -- the bytes of a file's entry on a checked image, and the number of the last byte that the file uses in its last sector: its chain is whole,
 -- its count is the chain's length, and the two numbers give the file's length (01, Chains)
-pub record FileEntry (img b : Bytes) (last : ℕ) : Type 0 where
+pub record FileEntry (g : Geometry) (img b : Bytes) (last : ℕ) : Type 0 where
   pub full : length b ≡ 30
-  pub chain : ChainFrom img (firstOf b)
-  pub count : countOf b ≡ length (sectorsFrom img (firstOf b))
+  pub chain : ChainFrom g img (firstOf b)
+  pub count : countOf b ≡ length (sectorsFrom g img (firstOf b))
   pub some : 1 ≤ countOf b
   pub low : 1 ≤ last
-  pub bytes : length (dataFrom img (firstOf b)) ≡ 254 * (countOf b - 1) + last - 1
+  pub bytes : length (dataFrom g img (firstOf b)) ≡ 254 * (countOf b - 1) + last - 1
 
 -- the slots of a checked image, and where each file's data end, as the check hands them back (01, Order of the check; Chains)
-pub record CheckedFiles (img ss es : List ℕ) (end : ℕ) : Type 0 where
-  pub slots : CheckedSlots img ss end
-  pub ends : es ≡ endTable img (files layout35 (disk img))
+pub record CheckedFiles (g : Geometry) (img ss es : List ℕ) (end : ℕ) : Type 0 where
+  pub slots : CheckedSlots g img ss end
+  pub ends : es ≡ endTable g img (files g (disk img))

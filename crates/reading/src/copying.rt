@@ -3,9 +3,10 @@
 ghost use mathlib.Core.Path.{_≡_};
 ghost use lib.ListN.{take, drop};
 ghost use Rattle.d64spec.specs.Lists.{splice};
-ghost use Rattle.geometry.specs.Layout.{addressOf};
+ghost use Rattle.geometry.specs.Layout.{geometryOf, addressOf};
 ghost use Rattle.reading.specs.ChainReads.{CopyFits, CopyReady, DataFits, ChainCopied};
 use geometry::Address;
+use geometry::Layout;
 
 // Copies `size` data bytes of a sector, those behind its link, to the output, from index `at` on.
 fn copy_data(sector: &[u8], size: usize, out: &mut [u8], at: usize)
@@ -16,9 +17,15 @@ fn copy_data(sector: &[u8], size: usize, out: &mut [u8], at: usize)
 }
 
 // Copies the data of the chain that starts at `first` to the start of the output, which has room for them. Gives how many sectors it visited.
-fn copy_from(img: &[u8], first: Address, out: &mut [u8], firsts: &[u16; 35]) -> usize
-    requires { ⌜ CopyReady (now img) (now out) (now firsts) (addressOf first) ⌝ }
-    ensures { λ r. ⌜ ChainCopied (now (img .entry)) (now (out .entry)) (addressOf first) r (now (out .exit)) ⌝ }
+fn copy_from(
+    layout: Layout,
+    img: &[u8],
+    first: Address,
+    out: &mut [u8],
+    firsts: &[u16; 40],
+) -> usize
+    requires { ⌜ CopyReady (geometryOf layout) (now img) (now out) (now firsts) (addressOf first) ⌝ }
+    ensures { λ r. ⌜ ChainCopied (geometryOf layout) (now (img .entry)) (now (out .entry)) (addressOf first) r (now (out .exit)) ⌝ }
 {
     let mut at = first;
     let mut sectors: usize = 0;
@@ -39,9 +46,9 @@ fn copy_from(img: &[u8], first: Address, out: &mut [u8], firsts: &[u16; 35]) -> 
 }
 
 // The same, over the layout's own table.
-pub(crate) fn copy_chain(img: &[u8], first: Address, out: &mut [u8]) -> usize
-    requires { ⌜ CopyFits (now img) (now out) (addressOf first) ⌝ }
-    ensures { λ r. ⌜ ChainCopied (now (img .entry)) (now (out .entry)) (addressOf first) r (now (out .exit)) ⌝ }
+pub(crate) fn copy_chain(layout: Layout, img: &[u8], first: Address, out: &mut [u8]) -> usize
+    requires { ⌜ CopyFits (geometryOf layout) (now img) (now out) (addressOf first) ⌝ }
+    ensures { λ r. ⌜ ChainCopied (geometryOf layout) (now (img .entry)) (now (out .entry)) (addressOf first) r (now (out .exit)) ⌝ }
 {
-    copy_from(img, first, out, &geometry::FIRST)
+    copy_from(layout, img, first, out, &geometry::FIRST)
 }

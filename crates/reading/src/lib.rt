@@ -4,10 +4,11 @@ mod copying;
 
 ghost use mathlib.Core.Path.{_≡_};
 ghost use mathlib.Core.Bool.{true};
-ghost use Prim.Native.Nat.{_<_};
+ghost use Prim.Native.Nat.{_*_, _<_};
 ghost use lib.ListN.{length};
+ghost use Rattle.geometry.specs.Layout.{geometryOf};
 ghost use Rattle.d64spec.specs.Lists.{All};
-ghost use Rattle.d64spec.specs.Geometry.{layout35};
+ghost use Rattle.d64spec.specs.Geometry.{total};
 ghost use Rattle.d64spec.specs.Listing.{bytesOfTrack18};
 ghost use Rattle.d64spec.specs.Read.{callTell, tellReply};
 ghost use Rattle.d64spec.specs.Reply.{reply, validNameArgument};
@@ -21,6 +22,7 @@ use answers::Fault;
 use answers::Report;
 use answers::Verdict;
 use geometry::Address;
+use geometry::Layout;
 
 // What tell gives of a file: its type byte, its 16 name bytes, its first sector, its count of sectors, its length in bytes.
 pub struct FileInformation {
@@ -56,35 +58,35 @@ fn tell_nothing(fault: Fault) -> Told
 }
 
 // Bytes 02 to 1F of slot k of an image.
-fn slot_of<'a>(img: &'a [u8], sectors: &[u8; 18], k: usize) -> &'a [u8]
-    requires { ⌜ (length (now img) ≡ 174848) × All (λ s. s < 19) (now sectors) ⌝ }
-    ensures { λ r. ⌜ LentSlot (now (img .entry)) (now (sectors .entry)) k (now r) ⌝ }
+fn slot_of<'a>(layout: Layout, img: &'a [u8], sectors: &[u8; 18], k: usize) -> &'a [u8]
+    requires { ⌜ (length (now img) ≡ 256 * total (geometryOf layout)) × All (λ s. s < 19) (now sectors) ⌝ }
+    ensures { λ r. ⌜ LentSlot (geometryOf layout) (now (img .entry)) (now (sectors .entry)) k (now r) ⌝ }
 {
     directory::slot_at(&img[91392..96256], sectors, k)
 }
 
 // The first of the slots 0 to end - 1 that holds the name, or `end` where none does.
-fn slot_named(img: &[u8], name: &[u8], sectors: &[u8; 18], end: usize) -> usize
-    requires { ⌜ length (now img) ≡ 174848 ⌝ }
-    ensures { λ r. ⌜ r ≡ slotNamed (bytesOfTrack18 layout35 (now (img .entry))) (now (sectors .entry)) (now (name .entry)) 0 end ⌝ }
+fn slot_named(layout: Layout, img: &[u8], name: &[u8], sectors: &[u8; 18], end: usize) -> usize
+    requires { ⌜ length (now img) ≡ 256 * total (geometryOf layout) ⌝ }
+    ensures { λ r. ⌜ r ≡ slotNamed (bytesOfTrack18 (geometryOf layout) (now (img .entry))) (now (sectors .entry)) (now (name .entry)) 0 end ⌝ }
 {
     finding::find_named(&img[91392..96256], sectors, name, end)
 }
 
 // The slot of the file at a position among the slots 0 to end - 1, or `end` where there are not so many.
-fn slot_placed(img: &[u8], position: usize, sectors: &[u8; 18], end: usize) -> usize
-    requires { ⌜ length (now img) ≡ 174848 ⌝ }
-    ensures { λ r. ⌜ r ≡ slotPlaced (bytesOfTrack18 layout35 (now (img .entry))) (now (sectors .entry)) position 0 end ⌝ }
+fn slot_placed(layout: Layout, img: &[u8], position: usize, sectors: &[u8; 18], end: usize) -> usize
+    requires { ⌜ length (now img) ≡ 256 * total (geometryOf layout) ⌝ }
+    ensures { λ r. ⌜ r ≡ slotPlaced (bytesOfTrack18 (geometryOf layout) (now (img .entry))) (now (sectors .entry)) position 0 end ⌝ }
 {
     finding::find_placed(&img[91392..96256], sectors, position, end)
 }
 
 // Copies the file of an occupied slot of a checked image, which ends at byte `last` of its last sector, or refuses it with 16 where the output
 // is too short.
-fn read_slot(img: &[u8], slot: &[u8], last: u8, out: &mut [u8]) -> Report
-    requires { ⌜ FileEntry (now img) (now slot) last ⌝ }
+fn read_slot(layout: Layout, img: &[u8], slot: &[u8], last: u8, out: &mut [u8]) -> Report
+    requires { ⌜ FileEntry (geometryOf layout) (now img) (now slot) last ⌝ }
     ensures { λ r. ⌜ replyOf r (now (img .entry)) (now (out .exit))
-        ≡ reply (now (img .entry)) (now (out .entry)) (readFrom (now (img .entry)) (now (out .entry)) (firstOf (now (slot .entry)))) ⌝ }
+        ≡ reply (now (img .entry)) (now (out .entry)) (readFrom (geometryOf layout) (now (img .entry)) (now (out .entry)) (firstOf (now (slot .entry)))) ⌝ }
 {
     let first = Address {
         track: slot[1],
@@ -95,7 +97,7 @@ fn read_slot(img: &[u8], slot: &[u8], last: u8, out: &mut [u8]) -> Report
     if out.len() < length {
         return answers::refuse(Fault::WrongBuffer);
     }
-    let sectors = copying::copy_chain(img, first, out);
+    let sectors = copying::copy_chain(layout, img, first, out);
     Report {
         verdict: Verdict::Fine,
         length: length as u32,
@@ -105,6 +107,7 @@ fn read_slot(img: &[u8], slot: &[u8], last: u8, out: &mut [u8]) -> Report
 
 // The same for the file of this name, looked for among the slots 0 to end - 1 of a checked image; refused with 13 where none has it.
 fn read_found<'a>(
+    layout: Layout,
     img: &[u8],
     name: &[u8],
     sectors: &'a [u8; 18],
@@ -112,32 +115,35 @@ fn read_found<'a>(
     end: usize,
     out: &mut [u8],
 ) -> Report
-    requires { ⌜ CheckedFiles (now img) (now sectors) (now ends) end × (validNameArgument (now name) ≡ true) ⌝ }
-    ensures { λ r. ⌜ replyOf r (now (img .entry)) (now (out .exit)) ≡ perform layout35 (now (img .entry)) (read (now (name .entry)) (now (out .entry))) ⌝ }
+    requires { ⌜ CheckedFiles (geometryOf layout) (now img) (now sectors) (now ends) end × (validNameArgument (now name) ≡ true) ⌝ }
+    ensures { λ r. ⌜ replyOf r (now (img .entry)) (now (out .exit))
+        ≡ perform (geometryOf layout) (now (img .entry)) (read (now (name .entry)) (now (out .entry))) ⌝ }
 {
-    let k = slot_named(img, name, sectors, end);
+    let k = slot_named(layout, img, name, sectors, end);
     if k == end {
         return answers::refuse(Fault::NotFound);
     }
-    read_slot(img, slot_of(img, sectors, k), ends[k], out)
+    read_slot(layout, img, slot_of(layout, img, sectors, k), ends[k], out)
 }
 
 // Reads the file of this name: its bytes at the start of the output, the rest of it as it was; its length and its chain's length.
 // Refused with 1, 9, 2 to 8, 13 or 16, in this order; a refusal leaves the output as it was and reports 0 and 0.
-pub fn read_file(img: &[u8], name: &[u8], out: &mut [u8]) -> Report
-    ensures { λ r. ⌜ replyOf r (now (img .entry)) (now (out .exit)) ≡ perform layout35 (now (img .entry)) (read (now (name .entry)) (now (out .entry))) ⌝ }
+pub fn read_file(layout: Layout, img: &[u8], name: &[u8], out: &mut [u8]) -> Report
+    ensures { λ r. ⌜ replyOf r (now (img .entry)) (now (out .exit))
+        ≡ perform (geometryOf layout) (now (img .entry)) (read (now (name .entry)) (now (out .entry))) ⌝ }
 {
-    if img.len() != 174848 {
+    if img.len() != geometry::image_size(layout) {
         return answers::refuse(Fault::WrongSize);
     }
     if !names::valid_name_argument(name) {
         return answers::refuse(Fault::BadNameArgument);
     }
-    let checked = diskcheck::check_image(img);
+    let checked = diskcheck::check_image(layout, img);
     let verdict = checked.verdict;
     match verdict {
         Verdict::Refused(fault) => answers::refuse(fault),
         Verdict::Fine => read_found(
+            layout,
             img,
             name,
             &checked.sectors,
@@ -149,9 +155,9 @@ pub fn read_file(img: &[u8], name: &[u8], out: &mut [u8]) -> Report
 }
 
 // What the slot of a file of a checked image says, and the file's length; the file ends at byte `last` of its last sector.
-fn tell_slot(img: &[u8], slot: &[u8], last: u8) -> FileInformation
-    requires { ⌜ FileEntry (now img) (now slot) last ⌝ }
-    ensures { λ r. ⌜ informationOf r ≡ toldOf (now (img .entry)) (now (slot .entry)) ⌝ }
+fn tell_slot(layout: Layout, img: &[u8], slot: &[u8], last: u8) -> FileInformation
+    requires { ⌜ FileEntry (geometryOf layout) (now img) (now slot) last ⌝ }
+    ensures { λ r. ⌜ informationOf r ≡ toldOf (geometryOf layout) (now (img .entry)) (now (slot .entry)) ⌝ }
 {
     let count = entry::sector_count(slot);
     let mut name = [0u8; 16];
@@ -168,34 +174,36 @@ fn tell_slot(img: &[u8], slot: &[u8], last: u8) -> FileInformation
 
 // The same for the file at a position, looked for among the slots 0 to end - 1 of a checked image; refused with 13 where there are not so many.
 fn tell_found<'a>(
+    layout: Layout,
     img: &[u8],
     position: usize,
     sectors: &'a [u8; 18],
     ends: &'a [u8; 144],
     end: usize,
 ) -> Told
-    requires { ⌜ CheckedFiles (now img) (now sectors) (now ends) end ⌝ }
-    ensures { λ r. ⌜ tellReplyOf r ≡ tellReply (callTell layout35 (now (img .entry)) position) ⌝ }
+    requires { ⌜ CheckedFiles (geometryOf layout) (now img) (now sectors) (now ends) end ⌝ }
+    ensures { λ r. ⌜ tellReplyOf r ≡ tellReply (callTell (geometryOf layout) (now (img .entry)) position) ⌝ }
 {
-    let k = slot_placed(img, position, sectors, end);
+    let k = slot_placed(layout, img, position, sectors, end);
     if k == end {
         return tell_nothing(Fault::NotFound);
     }
     Told {
         verdict: Verdict::Fine,
-        information: tell_slot(img, slot_of(img, sectors, k), ends[k]),
+        information: tell_slot(layout, img, slot_of(layout, img, sectors, k), ends[k]),
     }
 }
 
 // Tells about the file at a position, counted from 0 among the occupied slots. Refused with 1, 2 to 8 or 13, in this order.
-pub fn tell_file(img: &[u8], position: usize) -> Told
-    ensures { λ r. ⌜ tellReplyOf r ≡ tellReply (callTell layout35 (now (img .entry)) position) ⌝ }
+pub fn tell_file(layout: Layout, img: &[u8], position: usize) -> Told
+    ensures { λ r. ⌜ tellReplyOf r ≡ tellReply (callTell (geometryOf layout) (now (img .entry)) position) ⌝ }
 {
-    let checked = diskcheck::check_image(img);
+    let checked = diskcheck::check_image(layout, img);
     let verdict = checked.verdict;
     match verdict {
         Verdict::Refused(fault) => tell_nothing(fault),
         Verdict::Fine => tell_found(
+            layout,
             img,
             position,
             &checked.sectors,

@@ -10,7 +10,8 @@ use lib.Dec.{eqb, ltb}
 use borrow.Author.Tests.{eq-eqb, lt-ltb}
 use Rattle.d64spec.specs.Lists.{Bytes, byte, count, part, splice, zeros}
 use Rattle.d64spec.specs.Answers.{Address, address, done}
-use Rattle.d64spec.specs.Geometry.{layout35, sectorNumber, mapAddress}
+use Rattle.d64spec.specs.Geometry.{Geometry, total, sectorNumber, mapAddress}
+use Rattle.d64spec.specs.Layouts.{Known}
 use Rattle.d64spec.specs.Image.{Disk, disk, image, put}
 use Rattle.d64spec.specs.Chain.{chainData}
 use Rattle.d64spec.specs.Directory.{File, Slot, slotIn, fileOf, firstLink}
@@ -26,7 +27,6 @@ use Rattle.d64spec.proofs.MapBytes.{Prepared}
 use Rattle.d64spec.proofs.OtherBytes.{byte-small}
 use Rattle.d64spec.proofs.ScratchLaws
 use Rattle.d64spec.proofs.ScratchStep.{sound-of, Found, found}
-use Rattle.d64spec.proofs.RunTheorem.{valid35, sectors35}
 use Rattle.sectors.specs.Sectors.{overwrittenIn}
 use Rattle.sectors.proofs.SectorLaws.{disk-overwrittenIn, length-overwrittenIn}
 use Rattle.answers.specs.declared.Verdict.the-variants.{Fine}
@@ -49,52 +49,57 @@ use Rattle.scratching.specs.Scratches.{ChainCleared, startOf, EntryOwned
 -- what a scratch counts of a chain cleared: at least one sector, a last byte as a file's has it, and so the file's length (01, Chains)
 pub record LengthTold (c : Cleared) (n : ℕ) : Type 0 where
   pub some : 1 ≤ c .count
-  pub few : c .count ≤ 684
+  pub few : c .count ≤ 769
   pub low : 1 ≤ c .last
   pub high : c .last ≤ 255
   pub bytes : 254 * (c .count - 1) + c .last - 1 ≡ n
 
 -- the map put into an image whose slot is zeroed
-pub slot-cleared : (es : Entries) (img : Bytes) (holder index : ℕ) {img′ img″ bs : Bytes} {k i : ℕ} → img′ ≡ overwrittenIn img k i bs → k ≡ 357 + holder → i ≡ 32 * index + 2 → bs ≡ zeros 30
-    → MapWritten img′ es img″ → MapWritten (overwrittenIn img (357 + holder) (32 * index + 2) (zeros 30)) es img″
-slot-cleared es img holder index {img″ = img″} e there start all w = subst (λ (x : Bytes). MapWritten x es img″) (rw (there, start, all) at e) w
+pub slot-cleared : (g : Geometry) (es : Entries) (img : Bytes) (holder index : ℕ) {img′ img″ bs : Bytes} {k i : ℕ} → img′ ≡ overwrittenIn img k i bs
+    → k ≡ 357 + holder → i ≡ 32 * index + 2 → bs ≡ zeros 30 → MapWritten g img′ es img″
+    → MapWritten g (overwrittenIn img (357 + holder) (32 * index + 2) (zeros 30)) es img″
+slot-cleared g es img holder index {img″ = img″} e there start all w = subst (λ (x : Bytes). MapWritten g x es img″) (rw (there, start, all) at e) w
 
 -- the first sector of a slot's file, as the code finds it: by the sector's number, the slot there, and its second and third byte
-pub first-found : (img : Bytes) (holder index : ℕ) {sector slot : Bytes} {k x y : ℕ} → sector ≡ disk img k → k ≡ 357 + holder → slot ≡ part 0x02 0x1F (drop (32 * index) sector)
-    → x ≡ byte slot 1 → y ≡ byte slot 2 → address x y ≡ startOf img holder index
+pub first-found : (g : Geometry) (kn : Known g) (img : Bytes) (holder index : ℕ) {sector slot : Bytes} {k x y : ℕ} → sector ≡ disk img k → k ≡ 357 + holder
+    → slot ≡ part 0x02 0x1F (drop (32 * index) sector)
+    → x ≡ byte slot 1 → y ≡ byte slot 2 → address x y ≡ startOf g img holder index
 unfolding slotOn slotIn
-first-found img holder index {slot = slot} lent there at track number =
-    let is : slot ≡ slotOn img holder 0 index .bytes = at ∙ ap (λ (b : Bytes). part 0x02 0x1F (drop (32 * index) b)) (lent ∙ ap (disk img) (there ∙ sym (number-18 holder))) in
+first-found g kn img holder index {slot = slot} lent there at track number =
+    let is : slot ≡ slotOn g img holder 0 index .bytes
+    = at ∙ ap (λ (b : Bytes). part 0x02 0x1F (drop (32 * index) b)) (lent ∙ ap (disk img) (there ∙ sym (number-18 g kn holder))) in
     ap₂ address (track ∙ ap (λ (b : Bytes). byte b 1) is) (number ∙ ap (λ (b : Bytes). byte b 2) is)
 
 -- the chain from there on cleared, and then the slot
-pub file-cleared : {img : Bytes} {holder index : ℕ} {r : Address} → r ≡ startOf img holder index → {c : Cleared} {before : Bytes} {marked : Entries} → ChainCleared img r c before marked
-    → {img′ : Bytes} → MapWritten (overwrittenIn before (357 + holder) (32 * index + 2) (zeros 30)) marked img′ → FileCleared img holder index c img′
+pub file-cleared : {g : Geometry} {img : Bytes} {holder index : ℕ} {r : Address} → r ≡ startOf g img holder index
+    → {c : Cleared} {before : Bytes} {marked : Entries} → ChainCleared g img r c before marked
+    → {img′ : Bytes} → MapWritten g (overwrittenIn before (357 + holder) (32 * index + 2) (zeros 30)) marked img′
+    → FileCleared g img holder index c img′
 file-cleared e {before = before} {marked = marked} chain written = record { before = before; marked = marked; chain = rw e at chain; written = written }
 
 -- the map's sector
-abbrev m : ℕ
-m = sectorNumber layout35 mapAddress
+abbrev m : Geometry → ℕ
+m g = sectorNumber g mapAddress
 
 -- ---- the slot
 
-module _ {img : Bytes} {holder index : ℕ} (t : FileThere img holder index) where
-  size-there : length img ≡ 174848
-  size-there = omega (arith, t .accepted .size, sectors35)
+module _ (g : Geometry) (kn : Known g) {img : Bytes} {holder index : ℕ} (t : FileThere g img holder index) where
+  size-there : length img ≡ 256 * total g
+  size-there = t .accepted .size
 
   -- the slot, its bytes, and the number of its sector
   abbrev s : Slot
-  s = slotOn img holder (t .from) index
+  s = slotOn g img holder (t .from) index
 
   abbrev b : Bytes
-  b = slotOn img holder 0 index .bytes
+  b = slotOn g img holder 0 index .bytes
 
   abbrev n : ℕ
   n = 357 + holder
 
   -- the sector is whole
-  whole : Whole layout35 (disk img)
-  whole = disk-whole layout35 img (t .accepted .size)
+  whole : Whole g (disk img)
+  whole = disk-whole g img (t .accepted .size)
 
   -- ---- the file
 
@@ -102,77 +107,77 @@ module _ {img : Bytes} {holder index : ℕ} (t : FileThere img holder index) whe
   d = disk img
 
   abbrev f : File
-  f = fileOn img holder (t .from) index
+  f = fileOn g img holder (t .from) index
 
-  sound : Sound layout35 d
-  sound = sound-of layout35 d (t .accepted .content)
+  sound : Sound g d
+  sound = sound-of g d (t .accepted .content)
 
-  there : Found layout35 d f
-  there = found layout35 d f (t .element)
+  there : Found g d f
+  there = found g d f (t .element)
 
   -- without its sectors and its slot
   abbrev d2 : Disk
-  d2 = overwriteSlot layout35 (address 18 holder) index (zeros 30) (clearSectors layout35 (f .sectors) d)
+  d2 = overwriteSlot g (address 18 holder) index (zeros 30) (clearSectors g (f .sectors) d)
 
-  same2 : ScratchLaws.d2 layout35 valid35 d whole sound (there .place) ≡ d2
+  same2 : ScratchLaws.d2 g (kn .valid) d whole sound (there .place) ≡ d2
   unfolding fileOn fileOf slotOn slotIn
-  same2 = ap (λ (x : File). overwriteSlot layout35 (x .slot .holder) (x .slot .index) (zeros 30) (clearSectors layout35 (x .sectors) d)) (there .is)
+  same2 = ap (λ (x : File). overwriteSlot g (x .slot .holder) (x .slot .index) (zeros 30) (clearSectors g (x .sectors) d)) (there .is)
 
-  claims : (k : ℕ) → claimCount layout35 d2 k + count k (map (sectorNumber layout35) (f .sectors)) ≡ claimCount layout35 d k
+  claims : (k : ℕ) → claimCount g d2 k + count k (map (sectorNumber g) (f .sectors)) ≡ claimCount g d k
   claims k =
-      ap₂ (λ (x : Disk) (y : File). claimCount layout35 x k + count k (map (sectorNumber layout35) (y .sectors))) (sym same2) (sym (there .is))
-      ∙ ScratchLaws.claims2 layout35 valid35 d whole sound (there .place) k
+      ap₂ (λ (x : Disk) (y : File). claimCount g x k + count k (map (sectorNumber g) (y .sectors))) (sym same2) (sym (there .is))
+      ∙ ScratchLaws.claims2 g (kn .valid) d whole sound (there .place) k
 
-  prepared : Prepared layout35 d d2 (f .sectors)
-  prepared = rw (same2, ap (λ (x : File). x .sectors) (there .is)) at (ScratchLaws.prepared2 layout35 valid35 d whole sound (there .place))
+  prepared : Prepared g d d2 (f .sectors)
+  prepared = rw (same2, ap (λ (x : File). x .sectors) (there .is)) at (ScratchLaws.prepared2 g (kn .valid) d whole sound (there .place))
 
-  sectors-are : f .sectors ≡ sectorsFrom img (firstOf b)
+  sectors-are : f .sectors ≡ sectorsFrom g img (firstOf b)
   unfolding fileOn slotOn slotIn
-  sectors-are = sectors-of img (t .accepted) s (t .element)
+  sectors-are = sectors-of g kn img (t .accepted) s (t .element)
 
   -- ---- its chain is owned
 
-  chain-there : ChainFrom img (firstOf b)
+  chain-there : ChainFrom g img (firstOf b)
   unfolding fileOn slotOn slotIn
-  chain-there = chain-of img (t .accepted) s (t .element)
+  chain-there = chain-of g kn img (t .accepted) s (t .element)
 
-  pub entry-owned : ((i : ℕ) → byte img i < 256) → EntryOwned img holder index
+  pub entry-owned : ((i : ℕ) → byte img i < 256) → EntryOwned g img holder index
   entry-owned small = record {
     place = t .place;
     chain = record {
       chain = chain-there;
-      owned = λ k. omega (arith, claims k, ap (λ (l : List Address). count k (map (sectorNumber layout35) l)) sectors-are);
+      owned = λ k. omega (arith, claims k, ap (λ (l : List Address). count k (map (sectorNumber g) l)) sectors-are);
       once = t .accepted .content .once;
-      marks = expects-loaded d (t .accepted .content) (whole .full m (omega (arith, number-18 0, sectors35))) (byte-small img small m);
+      marks = expects-loaded g kn d (t .accepted .content) (whole .full (m g) (omega (arith, kn .map357, kn .past18))) (byte-small img small (m g));
     };
   }
 
   -- ---- the image after
 
   -- which sectors are then free
-  free-after : (r : Address) → freeAfter true (f .sectors) (isFree layout35 d) r ≡ isFree layout35 d2 r
+  free-after : (r : Address) → freeAfter g true (f .sectors) (isFree g d) r ≡ isFree g d2 r
   unfolding freeAfter
-  free-after r = go (count k (map (sectorNumber layout35) (f .sectors))) refl
+  free-after r = go (count k (map (sectorNumber g) (f .sectors))) refl
     where
       k : ℕ
-      k = sectorNumber layout35 r
+      k = sectorNumber g r
 
-      go : (c : ℕ) → count k (map (sectorNumber layout35) (f .sectors)) ≡ c → cond (ltb 0 c) true (isFree layout35 d r) ≡ isFree layout35 d2 r
-      go zero e = let same : claimCount layout35 d k ≡ claimCount layout35 d2 k = omega (arith, claims k) in ap (λ (x : ℕ). eqb x 0) same
-      go (suc c) e = rw (lt-ltb 0 (suc c) (omega arith)) (sym (eq-eqb (claimCount layout35 d2 k) 0 (omega (arith, claims k, t .accepted .content .once k))))
+      go : (c : ℕ) → count k (map (sectorNumber g) (f .sectors)) ≡ c → cond (ltb 0 c) true (isFree g d r) ≡ isFree g d2 r
+      go zero e = let same : claimCount g d k ≡ claimCount g d2 k = omega (arith, claims k) in ap (λ (x : ℕ). eqb x 0) same
+      go (suc c) e = rw (lt-ltb 0 (suc c) (omega arith)) (sym (eq-eqb (claimCount g d2 k) 0 (omega (arith, claims k, t .accepted .content .once k))))
 
-  module _ {c : Cleared} {img″ : Bytes} (scratched : FileCleared img holder index c img″) where
+  module _ {c : Cleared} {img″ : Bytes} (scratched : FileCleared g img holder index c img″) where
     abbrev img′ : Bytes
     img′ = scratched .before
 
     abbrev es′ : Entries
     es′ = scratched .marked
 
-    cleared : ChainCleared img (startOf img holder index) c img′ es′
+    cleared : ChainCleared g img (startOf g img holder index) c img′ es′
     cleared = scratched .chain
 
-    first-disk : disk img′ ≡ clearSectors layout35 (f .sectors) d
-    first-disk = cleared .sectors ∙ ap (λ (l : List Address). clearSectors layout35 l d) (sym sectors-are)
+    first-disk : disk img′ ≡ clearSectors g (f .sectors) d
+    first-disk = cleared .sectors ∙ ap (λ (l : List Address). clearSectors g l d) (sym sectors-are)
 
     -- the image with the slot zeroed
     abbrev img₂ : Bytes
@@ -181,25 +186,25 @@ module _ {img : Bytes} {holder index : ℕ} (t : FileThere img holder index) whe
     second-disk : disk img₂ ≡ d2
     unfolding overwriteSlot
     second-disk =
-        disk-overwrittenIn img′ n (32 * index + 2) (zeros 30) (omega (arith, cleared .size, size-there, t .inside)) (omega (arith, t .place))
-        ∙ ap₂ (λ (x : Disk) (k : ℕ). put x k (splice (x k) (32 * index + 2) (zeros 30))) first-disk (sym (number-18 holder))
+        disk-overwrittenIn img′ n (32 * index + 2) (zeros 30) (omega (arith, cleared .size, size-there, t .inside, kn .past18)) (omega (arith, t .place))
+        ∙ ap₂ (λ (x : Disk) (k : ℕ). put x k (splice (x k) (32 * index + 2) (zeros 30))) first-disk (sym (number-18 g kn holder))
 
-    marks : Expects (isFree layout35 d2) (d m) es′
+    marks : Expects g (isFree g d2) (d (m g)) es′
     marks =
-        let freed : Expects (freeAfter true (f .sectors) (isFree layout35 d)) (d m) es′ = rw (← sectors-are) at (cleared .marks) in
-        expects-agree freed (λ r on. free-after r)
+        let freed : Expects g (freeAfter g true (f .sectors) (isFree g d)) (d (m g)) es′ = rw (← sectors-are) at (cleared .marks) in
+        expects-agree g kn freed (λ r on. free-after r)
 
-    follows : put d2 m (storedEntries es′ (d2 m)) ≡ rewriteMap layout35 d2
-    follows = map-follows d2 marks (sym (prepared .unmapped)) (prepared .whole .full m (omega (arith, number-18 0, sectors35)))
+    follows : put d2 (m g) (storedEntries g es′ (d2 (m g))) ≡ rewriteMap g d2
+    follows = map-follows g kn d2 marks (sym (prepared .unmapped)) (prepared .whole .full (m g) (omega (arith, kn .map357, kn .past18)))
 
     -- THE IMAGE AFTER A SCRATCH is that of document 01's disk
-    image-scratched : img″ ≡ image layout35 (scratchedDisk layout35 d f)
+    image-scratched : img″ ≡ image g (scratchedDisk g d f)
     unfolding scratchedDisk fileOn fileOf slotOn slotIn
     image-scratched =
-        let size2 : length img₂ ≡ 174848 = length-overwrittenIn img′ n (32 * index + 2) (zeros 30) ∙ cleared .size ∙ size-there in
-        let same : disk img″ ≡ rewriteMap layout35 d2
-        = scratched .written .laid (omega arith) ∙ ap (λ (x : Disk). put x m (storedEntries es′ (x m))) second-disk ∙ follows in
-        sym (disk-image layout35 img″ (omega (arith, scratched .written .size, size2, sectors35))) ∙ ap (image layout35) same
+        let size2 : length img₂ ≡ 256 * total g = length-overwrittenIn img′ n (32 * index + 2) (zeros 30) ∙ cleared .size ∙ size-there in
+        let same : disk img″ ≡ rewriteMap g d2
+        = scratched .written .laid (omega (arith, size2, kn .past18)) ∙ ap (λ (x : Disk). put x (m g) (storedEntries g es′ (x (m g)))) second-disk ∙ follows in
+        sym (disk-image g img″ (scratched .written .size ∙ size2)) ∙ ap (image g) same
 
     -- ---- the report
 
@@ -207,13 +212,13 @@ module _ {img : Bytes} {holder index : ℕ} (t : FileThere img holder index) whe
     number-is = cleared .number ∙ ap length (sym sectors-are)
 
     -- what the length of the file is counted from
-    pub told : ((i : ℕ) → byte img i < 256) → LengthTold c (length (chainData layout35 d (f .sectors)))
+    pub told : ((i : ℕ) → byte img i < 256) → LengthTold c (length (chainData g d (f .sectors)))
     told small =
-        let e = end-tells img (t .accepted) small f (t .element) in
-        let last : c .last ≡ endOf img (f .sectors) = cleared .last ∙ ap (endOf img) (sym sectors-are) in
+        let e = end-tells g kn img (t .accepted) small f (t .element) in
+        let last : c .last ≡ endOf g img (f .sectors) = cleared .last ∙ ap (endOf g img) (sym sectors-are) in
         record {
           some = omega (arith, cleared .number, ap length (sectors-first chain-there .1));
-          few = omega (arith, cleared .number, sectorsFrom-le img (firstOf b));
+          few = omega (arith, cleared .number, sectorsFrom-le g img (firstOf b), kn .most);
           low = omega (arith, last, e .low);
           high = omega (arith, last, e .high);
           bytes = omega (arith, number-is, last, e .bytes);
@@ -221,6 +226,7 @@ module _ {img : Bytes} {holder index : ℕ} (t : FileThere img holder index) whe
 
     -- THE REPLY OF A SCRATCH that is done
     pub scratch-replied : ((i : ℕ) → byte img i < 256)
-        → replyOf (record { verdict = Fine; length = 254 * (c .count - 1) + c .last - 1; sectors = c .count }) img″ [] ≡ reply img [] (done (scratchChange layout35 img (fileOn img holder 0 index)))
+        → replyOf (record { verdict = Fine; length = 254 * (c .count - 1) + c .last - 1; sectors = c .count }) img″ []
+        ≡ reply img [] (done (scratchChange g img (fileOn g img holder 0 index)))
     unfolding reply verdictOf answerTo fileOn slotOn slotIn fileOf firstLink scratchedDisk
     scratch-replied small = rw (image-scratched, told small .bytes, number-is)

@@ -5,7 +5,7 @@ use mathlib.Core.Path.{_≡_, refl, sym, ap, _∙_}
 use mathlib.Core.List.{List, [], _∷_, _++_, append-nil}
 use lib.ListN.{length, take, drop, length-append, length-take, length-drop}
 use Rattle.d64spec.specs.Lists.{Bytes}
-use Rattle.d64spec.specs.Geometry.{layout35}
+use Rattle.d64spec.specs.Geometry.{Geometry}
 use Rattle.d64spec.specs.Image.{disk}
 use Rattle.d64spec.specs.Directory.{Slot}
 use Rattle.d64spec.specs.Listing.{diskOfTrack18, freeTotal, headFrame, line, listingText}
@@ -15,11 +15,11 @@ use Rattle.sleeve.specs.Texts.{freeLine, linesOf}
 use Rattle.sleeve.proofs.WriteLaws.{Writing, writing-start, writing-lent, writing-finished}
 
 -- the last line, from a sum that is the map's
-pub free-line : (m : Bytes) {n : ℕ} → n ≡ freeTotal layout35 m → {r : Bytes} → r ≡ line (n / 256 ∷ n % 256 ∷ []) → r ≡ freeLine m
+pub free-line : (g : Geometry) (m : Bytes) {n : ℕ} → n ≡ freeTotal g m → {r : Bytes} → r ≡ line (n / 256 ∷ n % 256 ∷ []) → r ≡ freeLine g m
 unfolding freeLine
-free-line m total written = written ∙ ap (λ (n : ℕ). line (n / 256 ∷ n % 256 ∷ [])) total
+free-line g m total written = written ∙ ap (λ (n : ℕ). line (n / 256 ∷ n % 256 ∷ [])) total
 
-module _ (b : Bytes) (l : List Slot) where
+module _ (g : Geometry) (b : Bytes) (l : List Slot) where
   -- the map sector
   abbrev map : Bytes
   map = take 256 b
@@ -29,15 +29,15 @@ module _ (b : Bytes) (l : List Slot) where
   first = line (headFrame map)
 
   abbrev pub last : Bytes
-  last = freeLine map
+  last = freeLine g map
 
   sector-0 : disk b 0 ≡ map
   unfolding disk
   sector-0 = refl
 
-  pub text-pieces : listingText layout35 (diskOfTrack18 layout35 b) l ≡ first ++ (linesOf l ++ last)
+  pub text-pieces : listingText g (diskOfTrack18 g b) l ≡ first ++ (linesOf l ++ last)
   unfolding listingText linesOf freeLine
-  text-pieces = rw (disk-of-track18 b 0 ∙ sector-0)
+  text-pieces = rw (disk-of-track18 g b 0 ∙ sector-0)
 
   module _ (whole : length b ≡ 4864) (lines : length (linesOf l) ≡ 43 * length l) where
     length-first : length first ≡ 37
@@ -49,9 +49,9 @@ module _ (b : Bytes) (l : List Slot) where
 
     length-last : length last ≡ 5
     unfolding freeLine
-    length-last = line-length (freeTotal layout35 map / 256 ∷ freeTotal layout35 map % 256 ∷ [])
+    length-last = line-length (freeTotal g map / 256 ∷ freeTotal g map % 256 ∷ [])
 
-    pub length-text : length (listingText layout35 (diskOfTrack18 layout35 b) l) ≡ 42 + 43 * length l
+    pub length-text : length (listingText g (diskOfTrack18 g b) l) ≡ 42 + 43 * length l
     length-text = omega (arith, ap length text-pieces, length-append first (linesOf l ++ last), length-append (linesOf l) last, length-first, length-last)
 
     -- what comes back of the three loans: of the first 37 bytes, of those up to the last five, and of these
@@ -78,7 +78,7 @@ module _ (b : Bytes) (l : List Slot) where
       room-for-lines {p} filled =
           omega (arith, after-first filled .size, length-append (linesOf l) last, length-last, length-take (end - 37) (drop 37 (one p)), length-drop 37 (one p))
 
-      pub text-written : {p q r : Bytes} → p ≡ first → q ≡ linesOf l → r ≡ last → three p q r ≡ listingText layout35 (diskOfTrack18 layout35 b) l
+      pub text-written : {p q r : Bytes} → p ≡ first → q ≡ linesOf l → r ≡ last → three p q r ≡ listingText g (diskOfTrack18 g b) l
       text-written {p} {q} filled between ended =
           let w = writing-lent (after-first filled) (linesOf l) last refl end (omega (arith, lines)) between in
           let all = writing-lent w last [] (sym (append-nil last)) (length (two p q)) (omega (arith, w .size, length-last)) ended in

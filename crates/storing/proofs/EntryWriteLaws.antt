@@ -10,7 +10,8 @@ use lib.ListN.{length, take, drop, set, length-append, length-replicate}
 use lib.Seq.{take-all, take-length, set-at}
 use Rattle.d64spec.specs.Lists.{Bytes, splice, zeros}
 use Rattle.d64spec.specs.Answers.{Address, address}
-use Rattle.d64spec.specs.Geometry.{layout35, sectorNumber, directoryStart}
+use Rattle.d64spec.specs.Geometry.{Geometry, sectorNumber, directoryStart}
+use Rattle.d64spec.specs.Layouts.{Known}
 use Rattle.d64spec.specs.Image.{Disk, disk, put}
 use Rattle.d64spec.specs.Directory.{directorySectors, padded}
 use Rattle.d64spec.specs.Format.{emptyDirectorySector}
@@ -38,7 +39,8 @@ entry-tail p x y h =
     ∙ set-at (q ++ x ∷ []) 0 [] y 26 more ∙ append-assoc q (x ∷ []) (y ∷ []) ∙ append-assoc p (zeros 9) (x ∷ y ∷ [])
 
 -- the name copied over the 16 bytes lent for it
-pub entry-made : (name : Bytes) (kind first k : ℕ) {f p : Bytes} → length name ≤ 16 → f ≡ take 16 (padded name) → p ≡ take (length f) f ++ drop (length f) (zeros 16)
+pub entry-made : (name : Bytes) (kind first k : ℕ) {f p : Bytes} → length name ≤ 16 → f ≡ take 16 (padded name)
+    → p ≡ take (length f) f ++ drop (length f) (zeros 16)
     → (0x80 + kind) ∷ first / 256 ∷ first % 256 ∷ set (set (p ++ zeros 11) 25 (k % 256)) 26 (k / 256) ≡ newEntry name kind (unpacked first) k
 unfolding newEntry
 entry-made name kind first k {f} {p} h e c =
@@ -50,12 +52,14 @@ entry-made name kind first k {f} {p} h e c =
 
 -- ---- the directory grown
 
-module _ {img : Bytes} {last s : ℕ} (r : GrowReady img last s) where
-  pub directory-grown : {e img′ img″ : Bytes} → e ≡ emptyDirectorySector → img′ ≡ withSector img (357 + s) e → {k i : ℕ} → img″ ≡ overwrittenIn img′ k i (18 ∷ s ∷ []) → k ≡ 357 + last → i ≡ 0
-      → Grown img last s img″
+module _ (g : Geometry) (kn : Known g) {img : Bytes} {last s : ℕ} (r : GrowReady g img last s) where
+  pub directory-grown : {e img′ img″ : Bytes} → e ≡ emptyDirectorySector → img′ ≡ withSector img (357 + s) e → {k i : ℕ}
+      → img″ ≡ overwrittenIn img′ k i (18 ∷ s ∷ []) → k ≡ 357 + last → i ≡ 0
+      → Grown g img last s img″
   unfolding grownDisk
   directory-grown {e} {img′} {img″} empty new {k} {i} linked holder start =
       let size = r .size in
+      let past = kn .past18 in
       let low = r .lastInside in
       let high = r .sectorInside in
       let full : length e ≡ 256 = ap length empty ∙ ap (λ (n : ℕ). 2 + n) (length-replicate {A = ℕ} 254 0) in
@@ -70,45 +74,50 @@ module _ {img : Bytes} {last s : ℕ} (r : GrowReady img last s) where
         laid = ap disk linked ∙ ap₂ (λ (m j : ℕ). disk (overwrittenIn img′ m j (18 ∷ s ∷ []))) holder start
             ∙ disk-overwrittenIn img′ (357 + last) 0 (18 ∷ s ∷ []) (omega arith) (omega arith)
             ∙ ap₂ (λ (d : Disk) (b : Bytes). put d (357 + last) (splice b 0 (18 ∷ s ∷ []))) first old
-            ∙ ap₂ (λ (n m : ℕ). put (put (disk img) n emptyDirectorySector) m (splice (disk img m) 0 (18 ∷ s ∷ []))) (sym (number-18 s)) (sym (number-18 last));
+            ∙ ap₂ (λ (n m : ℕ). put (put (disk img) n emptyDirectorySector) m (splice (disk img m) 0 (18 ∷ s ∷ []))) (sym (number-18 g kn s))
+            (sym (number-18 g kn last));
       }
 
 -- ---- the entry at its place
 
-module _ {img e : Bytes} {p : EntryPlace} {last : ℕ} (r : EntryReady img e p last) where
+module _ (g : Geometry) (kn : Known g) {img e : Bytes} {p : EntryPlace} {last : ℕ} (r : EntryReady g img e p last) where
   -- what the code does before it writes the entry
   abbrev pub Before : Bytes → Type 0
-  Before img′ = ((p .grown ≡ true) × (x : Bytes) × Grown img last (p .sector) x × (img′ ≡ x)) ⊎ ((p .grown ≡ false) × (img′ ≡ img))
+  Before img′ = ((p .grown ≡ true) × (x : Bytes) × Grown g img last (p .sector) x × (img′ ≡ x)) ⊎ ((p .grown ≡ false) × (img′ ≡ img))
 
   length-before : {img′ : Bytes} → Before img′ → length img′ ≡ length img
-  length-before (inl g) = ap length (g .3) ∙ g .2 .size
-  length-before (inr g) = ap length (g .1)
+  length-before (inl h) = ap length (h .3) ∙ h .2 .size
+  length-before (inr h) = ap length (h .1)
 
-  disk-before : {img′ : Bytes} → Before img′ → disk img′ ≡ cond (p .grown) (grownDisk (disk img) last (p .sector)) (disk img)
-  disk-before (inl g) = ap disk (g .3) ∙ g .2 .laid ∙ ap (λ (b : Bool). cond b (grownDisk (disk img) last (p .sector)) (disk img)) (sym (g .0))
-  disk-before (inr g) = ap disk (g .1) ∙ ap (λ (b : Bool). cond b (grownDisk (disk img) last (p .sector)) (disk img)) (sym (g .0))
+  disk-before : {img′ : Bytes} → Before img′ → disk img′ ≡ cond (p .grown) (grownDisk g (disk img) last (p .sector)) (disk img)
+  disk-before (inl h) = ap disk (h .3) ∙ h .2 .laid ∙ ap (λ (b : Bool). cond b (grownDisk g (disk img) last (p .sector)) (disk img)) (sym (h .0))
+  disk-before (inr h) = ap disk (h .1) ∙ ap (λ (b : Bool). cond b (grownDisk g (disk img) last (p .sector)) (disk img)) (sym (h .0))
 
-  pub entry-laid : {img′ img″ : Bytes} → Before img′ → {k i : ℕ} → img″ ≡ overwrittenIn img′ k i e → k ≡ 357 + p .sector → i ≡ 32 * p .index + 2 → EntryLaid img e p last img″
+  pub entry-laid : {img′ img″ : Bytes} → Before img′ → {k i : ℕ} → img″ ≡ overwrittenIn img′ k i e → k ≡ 357 + p .sector → i ≡ 32 * p .index + 2
+      → EntryLaid g img e p last img″
   unfolding entryDisk overwriteSlot
   entry-laid {img′} {img″} b {k} {i} w holder start =
       let kept : length img′ ≡ length img = length-before b in
       record {
         size = ap length w ∙ length-overwrittenIn img′ k i e ∙ kept;
         laid = ap disk w ∙ ap₂ (λ (m j : ℕ). disk (overwrittenIn img′ m j e)) holder start
-            ∙ disk-overwrittenIn img′ (357 + p .sector) (32 * p .index + 2) e (omega (arith, r .size, r .sectorInside)) (omega (arith, r .whole, r .indexInside))
-            ∙ ap₂ (λ (d : Disk) (n : ℕ). put d n (splice (d n) (32 * p .index + 2) e)) (disk-before b) (sym (number-18 (p .sector)));
+            ∙ disk-overwrittenIn img′ (357 + p .sector) (32 * p .index + 2) e (omega (arith, r .size, r .sectorInside, kn .past18))
+            (omega (arith, r .whole, r .indexInside))
+            ∙ ap₂ (λ (d : Disk) (n : ℕ). put d n (splice (d n) (32 * p .index + 2) e)) (disk-before b) (sym (number-18 g kn (p .sector)));
       }
 
 -- ---- the place of the definitions
 
 -- an entry written at the place that the code's struct names is written where the definitions write it
-pub writeSlot-place : (d : Disk) (place : SlotPlace) (p : EntryPlace) (last : ℕ) (e : Bytes) → PlaceIs place p → address 18 last ≡ lastOf directoryStart (directorySectors layout35 d)
-    → entryDisk d e p last ≡ writeSlot layout35 d place e
+pub writeSlot-place : (g : Geometry) (d : Disk) (place : SlotPlace) (p : EntryPlace) (last : ℕ) (e : Bytes) → PlaceIs place p
+    → address 18 last ≡ lastOf directoryStart (directorySectors g d)
+    → entryDisk g d e p last ≡ writeSlot g d place e
 unfolding entryDisk writeSlot growDirectory grownDisk
-writeSlot-place d (inEmptySlot s) p last e (grown, holder, index) l =
-    ap (λ (b : Bool). overwriteSlot layout35 (address 18 (p .sector)) (p .index) e (cond b (grownDisk d last (p .sector)) d)) grown
-    ∙ ap₂ (λ (x : Address) (j : ℕ). overwriteSlot layout35 x j e d) (sym holder) (sym index)
-writeSlot-place d (inNewSector x) p last e (grown, holder, index) l =
-    ap₂ (λ (b : Bool) (j : ℕ). overwriteSlot layout35 (address 18 (p .sector)) j e (cond b (grownDisk d last (p .sector)) d)) grown index
-    ∙ ap (λ (q : Address). overwriteSlot layout35 (address 18 (p .sector)) 0 e (put (put d (sectorNumber layout35 (address 18 (p .sector))) emptyDirectorySector) (sectorNumber layout35 q) (splice (d (sectorNumber layout35 q)) 0 (18 ∷ p .sector ∷ [])))) l
-    ∙ ap (λ (y : Address). overwriteSlot layout35 y 0 e (growDirectory layout35 d y)) (sym holder)
+writeSlot-place g d (inEmptySlot s) p last e (grown, holder, index) l =
+    ap (λ (b : Bool). overwriteSlot g (address 18 (p .sector)) (p .index) e (cond b (grownDisk g d last (p .sector)) d)) grown
+    ∙ ap₂ (λ (x : Address) (j : ℕ). overwriteSlot g x j e d) (sym holder) (sym index)
+writeSlot-place g d (inNewSector x) p last e (grown, holder, index) l =
+    ap₂ (λ (b : Bool) (j : ℕ). overwriteSlot g (address 18 (p .sector)) j e (cond b (grownDisk g d last (p .sector)) d)) grown index
+    ∙ ap (λ (q : Address). overwriteSlot g (address 18 (p .sector)) 0 e
+    (put (put d (sectorNumber g (address 18 (p .sector))) emptyDirectorySector) (sectorNumber g q) (splice (d (sectorNumber g q)) 0 (18 ∷ p .sector ∷ [])))) l
+    ∙ ap (λ (y : Address). overwriteSlot g y 0 e (growDirectory g d y)) (sym holder)

@@ -9,10 +9,9 @@ use mathlib.Core.List.{List, [], _∷_, _++_, append-nil}
 use lib.ListN.{length, take, drop, set, length-append, length-drop, length-replicate, drop-of-length-le}
 use lib.Seq.{take-all, take-length, drop-drop}
 use Rattle.d64spec.specs.Lists.{Bytes, splice, zeros}
-use Rattle.d64spec.specs.Geometry.{layout35, onDisk, sectorNumber}
+use Rattle.d64spec.specs.Geometry.{Geometry, total, onDisk, sectorNumber}
 use Rattle.d64spec.specs.Image.{disk}
 use Rattle.d64spec.proofs.BoundLaws.{sectorNumber-lt}
-use Rattle.d64spec.proofs.RunTheorem.{sectors35}
 use Rattle.geometry.specs.Layout.{unpacked, numberBy, IsFirsts}
 use Rattle.sectors.specs.Sectors.{Inside, withSector}
 use Rattle.sectors.proofs.SectorLaws.{length-withSector, disk-withSector, sector-back}
@@ -58,26 +57,26 @@ length-lastSector c k = omega (arith, length-append c (zeros (254 - length c)), 
 
 -- ---- where it lies
 
-module _ (place : ℕ) (on : onDisk layout35 (unpacked place) ≡ true) where
-  inside : sectorNumber layout35 (unpacked place) < 683
-  inside = omega (arith, sectorNumber-lt layout35 (unpacked place) on, sectors35)
+module _ (g : Geometry) (place : ℕ) (on : onDisk g (unpacked place) ≡ true) where
+  inside : sectorNumber g (unpacked place) < total g
+  inside = sectorNumber-lt g (unpacked place) on
 
-  pub number-at : {firsts : List ℕ} {n : ℕ} → IsFirsts firsts → n ≡ numberBy firsts (unpacked place) → n < 683
+  pub number-at : {firsts : List ℕ} {n : ℕ} → IsFirsts g firsts → n ≡ numberBy firsts (unpacked place) → n < total g
   number-at f e = omega (arith, inside, e ∙ f .agrees (unpacked place) on)
 
-  pub starts-at : {firsts : List ℕ} {n : ℕ} → IsFirsts firsts → n ≡ numberBy firsts (unpacked place) → StartsAt place (256 * n)
+  pub starts-at : {firsts : List ℕ} {n : ℕ} → IsFirsts g firsts → n ≡ numberBy firsts (unpacked place) → StartsAt g place (256 * n)
   starts-at {n = n} f e = record { start = ap (λ (k : ℕ). 256 * k) (e ∙ f .agrees (unpacked place) on); inside = omega (arith, number-at f e) }
 
 -- a sector lent on, filled with s and marked
-module _ {img : Bytes} {place start : ℕ} {firsts : List ℕ} (r : SectorReady img place firsts) (at : StartsAt place start) where
+module _ (g : Geometry) {img : Bytes} {place start : ℕ} {firsts : List ℕ} (r : SectorReady g img place firsts) (at : StartsAt g place start) where
   -- how wide the code lends the sector
   abbrev width : ℕ
   width = start + 256 - start
 
   pub sector-written : {s p : Bytes} {es es′ : Entries} {mark : Bool} → p ≡ s → length s ≡ 256 → es′ ≡ movedMark mark (unpacked place) es → mark ≡ false
-      → SectorWritten img place s es (take start img ++ (p ++ drop width (drop start img))) es′
+      → SectorWritten g img place s es (take start img ++ (p ++ drop width (drop start img))) es′
   sector-written {s} {p} {es} e size marks used =
-      let n : ℕ = sectorNumber layout35 (unpacked place) in
+      let n : ℕ = sectorNumber g (unpacked place) in
       let fits : Inside img n = omega (arith, r .size, at .start, at .inside) in
       let back : take start img ++ (p ++ drop width (drop start img)) ≡ withSector img n s
       = sector-back img n (at .start) fits e size in

@@ -8,7 +8,7 @@ use lib.ListN.{length, getD}
 use lib.Dec.{eqb, ltb}
 use Rattle.d64spec.specs.Lists.{Bytes, byte}
 use Rattle.d64spec.specs.Answers.{refused, directoryFull}
-use Rattle.d64spec.specs.Geometry.{layout35, sectorNumber, mapAddress}
+use Rattle.d64spec.specs.Geometry.{Geometry, sectorNumber, mapAddress}
 use Rattle.d64spec.specs.Image.{disk}
 use Rattle.d64spec.specs.Directory.{directorySectors, files}
 use Rattle.d64spec.specs.Reply.{validNameArgument, storableKind, writable, filesNamed}
@@ -23,11 +23,11 @@ use Rattle.storing.specs.declared.room.Room.{Room}
 use Rattle.storing.specs.declared.room.Room.the-variants.{At, Full}
 use Rattle.storing.specs.Plans.{StoreReady, PlaceReady}
 
--- n sectors for so many bytes, which the disk may have (01, Store; Examples: 168,656 bytes in 664 sectors)
+-- n sectors for so many bytes, which the disk may have (01, Store; 02, §8: 190,246 bytes in 749 sectors)
 pub record Needed (size n : ℕ) : Type 0 where
   pub is : n ≡ sectorsNeeded size
   pub some : 1 ≤ n
-  pub few : n ≤ 664
+  pub few : n ≤ 749
 
 -- slot k of the directory whose sectors on track 18 are ss, as a place (01, Answer numbers: eight to a sector)
 abbrev pub slotPlace : List ℕ → ℕ → EntryPlace
@@ -42,40 +42,40 @@ unfoldable pub roomAt : List ℕ → ℕ → ℕ → ℕ → Room
 roomAt ss end k n = cond (ltb k end) (At (slotPlace ss k)) (cond (eqb n 0) Full (At (newPlace n)))
 
 -- where the entry goes (01, Store): the first empty one of the slots 0 to end - 1, or the lowest free sector of track 18
-unfoldable pub roomFor : Bytes → List ℕ → ℕ → Entries → Room
-roomFor b ss end es = roomAt ss end (slotEmpty b ss 0 end) (directoryPlace es)
+unfoldable pub roomFor : Geometry → Bytes → List ℕ → ℕ → Entries → Room
+roomFor g b ss end es = roomAt ss end (slotEmpty b ss 0 end) (directoryPlace g es)
 
 -- what such room means on an image (01, Store; Answer numbers: 14)
-abbrev pub RoomIs : Bytes → Room → Type 0
-RoomIs img Full = slotPlaceFor layout35 (disk img) ≡ refused directoryFull
-RoomIs img (At p) = PlaceReady img p
+abbrev pub RoomIs : Geometry → Bytes → Room → Type 0
+RoomIs g img Full = slotPlaceFor g (disk img) ≡ refused directoryFull
+RoomIs g img (At p) = PlaceReady g img p
 
 -- an image of bytes in which the check finds no fault; its directory's sectors on track 18 are the first `count` of ss (01, Order of the check)
-pub record DirectoryChecked (img ss : List ℕ) (count : ℕ) : Type 0 where
-  pub slots : CheckedSlots img ss (8 * count)
-  pub sectors : sectorsOf ss count ≡ directorySectors layout35 (disk img)
+pub record DirectoryChecked (g : Geometry) (img ss : List ℕ) (count : ℕ) : Type 0 where
+  pub slots : CheckedSlots g img ss (8 * count)
+  pub sectors : sectorsOf ss count ≡ directorySectors g (disk img)
   pub whole : count ≤ length ss
   pub bytes : (i : ℕ) → byte img i < 256
 
 -- the same, and its map by value
-pub record RoomAsked (img ss : List ℕ) (count : ℕ) (es : Entries) : Type 0 where
-  pub directory : DirectoryChecked img ss count
-  pub entries : es ≡ mapEntries (disk img (sectorNumber layout35 mapAddress))
+pub record RoomAsked (g : Geometry) (img ss : List ℕ) (count : ℕ) (es : Entries) : Type 0 where
+  pub directory : DirectoryChecked g img ss count
+  pub entries : es ≡ mapEntries g (disk img (sectorNumber g mapAddress))
 
 -- a store of a name and a kind that a call takes on such an image
-pub record StoreChecked (img name : Bytes) (kind : ℕ) (ss : List ℕ) (count : ℕ) : Type 0 where
-  pub directory : DirectoryChecked img ss count
+pub record StoreChecked (g : Geometry) (img name : Bytes) (kind : ℕ) (ss : List ℕ) (count : ℕ) : Type 0 where
+  pub directory : DirectoryChecked g img ss count
   pub asked : validNameArgument name ≡ true
   pub kindAsked : storableKind kind ≡ true
 
 -- the same where the DOS version allows writing and the name is new
-pub record StoreNew (img name : Bytes) (kind : ℕ) (ss : List ℕ) (count : ℕ) : Type 0 where
-  pub checked : StoreChecked img name kind ss count
-  pub may : writable layout35 (disk img) ≡ true
-  pub absent : length (filesNamed name (files layout35 (disk img))) ≡ 0
+pub record StoreNew (g : Geometry) (img name : Bytes) (kind : ℕ) (ss : List ℕ) (count : ℕ) : Type 0 where
+  pub checked : StoreChecked g img name kind ss count
+  pub may : writable g (disk img) ≡ true
+  pub absent : length (filesNamed name (files g (disk img))) ≡ 0
 
 -- the same where there is a place for the entry
-pub record StorePlaced (img name : Bytes) (kind : ℕ) (p : EntryPlace) (last : ℕ) (es : Entries) : Type 0 where
-  pub ready : StoreReady img name kind last es
-  pub may : writable layout35 (disk img) ≡ true
-  pub place : PlaceReady img p
+pub record StorePlaced (g : Geometry) (img name : Bytes) (kind : ℕ) (p : EntryPlace) (last : ℕ) (es : Entries) : Type 0 where
+  pub ready : StoreReady g img name kind last es
+  pub may : writable g (disk img) ≡ true
+  pub place : PlaceReady g img p

@@ -7,7 +7,7 @@ use mathlib.Core.List.{List, map}
 use lib.ListN.{length}
 use Rattle.d64spec.specs.Lists.{Bytes, byte}
 use Rattle.d64spec.specs.Answers.{address, done}
-use Rattle.d64spec.specs.Geometry.{layout35, sectorNumber, mapAddress, directoryStart}
+use Rattle.d64spec.specs.Geometry.{Geometry, sectorNumber, mapAddress, directoryStart}
 use Rattle.d64spec.specs.Image.{disk}
 use Rattle.d64spec.specs.Directory.{directorySectors, files}
 use Rattle.d64spec.specs.Owner.{freeForFiles}
@@ -25,28 +25,28 @@ PlaceIs (inEmptySlot s) p = (p .grown ≡ false) × (s .holder ≡ address 18 (p
 PlaceIs (inNewSector r) p = (p .grown ≡ true) × (r ≡ address 18 (p .sector)) × (p .index ≡ 0)
 
 -- p is where the definitions put the entry (01, Store: the first empty slot, or the lowest free sector of track 18)
-pub record PlaceReady (img : Bytes) (p : EntryPlace) : Type 0 where
+pub record PlaceReady (g : Geometry) (img : Bytes) (p : EntryPlace) : Type 0 where
   pub place : SlotPlace
-  pub found : slotPlaceFor layout35 (disk img) ≡ done place
+  pub found : slotPlaceFor g (disk img) ≡ done place
   pub is : PlaceIs place p
 
 -- an accepted image of bytes that a new name of a valid kind may be stored on, the last sector of its directory, and its map by value
-pub record StoreReady (img name : Bytes) (kind last : ℕ) (es : Entries) : Type 0 where
-  pub accepted : Accepted layout35 img
+pub record StoreReady (g : Geometry) (img name : Bytes) (kind last : ℕ) (es : Entries) : Type 0 where
+  pub accepted : Accepted g img
   pub bytes : (i : ℕ) → byte img i < 256
   pub asked : validNameArgument name ≡ true
   pub kindAsked : storableKind kind ≡ true
-  pub absent : length (filesNamed name (files layout35 (disk img))) ≡ 0
-  pub lastSector : address 18 last ≡ lastOf directoryStart (directorySectors layout35 (disk img))
-  pub entries : es ≡ mapEntries (disk img (sectorNumber layout35 mapAddress))
+  pub absent : length (filesNamed name (files g (disk img))) ≡ 0
+  pub lastSector : address 18 last ≡ lastOf directoryStart (directorySectors g (disk img))
+  pub entries : es ≡ mapEntries g (disk img (sectorNumber g mapAddress))
 
 -- a store whose every refusal is decided: there is room, and these are the sectors that it takes
-pub record WriteReady (img name : Bytes) (kind : ℕ) (bs places : List ℕ) (p : EntryPlace) (last : ℕ) (es : Entries) : Type 0 where
-  pub ready : StoreReady img name kind last es
-  pub place : PlaceReady img p
-  pub room : sectorsNeeded (length bs) ≤ length (freeForFiles layout35 (disk img))
-  pub taken : map unpacked places ≡ placement layout35 (disk img) (sectorsNeeded (length bs))
+pub record WriteReady (g : Geometry) (img name : Bytes) (kind : ℕ) (bs places : List ℕ) (p : EntryPlace) (last : ℕ) (es : Entries) : Type 0 where
+  pub ready : StoreReady g img name kind last es
+  pub place : PlaceReady g img p
+  pub room : sectorsNeeded (length bs) ≤ length (freeForFiles g (disk img))
+  pub taken : map unpacked places ≡ placement g (disk img) (sectorsNeeded (length bs))
 
 -- the image after it is the one that document 01 describes
-pub record FileWritten (img name : Bytes) (kind : ℕ) (bs img′ : Bytes) : Type 0 where
-  pub written : (place : SlotPlace) → slotPlaceFor layout35 (disk img) ≡ done place → img′ ≡ storeChange layout35 img place name kind bs .imageAfter
+pub record FileWritten (g : Geometry) (img name : Bytes) (kind : ℕ) (bs img′ : Bytes) : Type 0 where
+  pub written : (place : SlotPlace) → slotPlaceFor g (disk img) ≡ done place → img′ ≡ storeChange g img place name kind bs .imageAfter

@@ -8,7 +8,7 @@ use mathlib.Core.List.{List, [], _∷_, _++_, map}
 use lib.ListN.{length}
 use Rattle.d64spec.specs.Lists.{Bytes, All, splice, zeros}
 use Rattle.d64spec.specs.Answers.{Address, address}
-use Rattle.d64spec.specs.Geometry.{layout35, onDisk, sectorNumber}
+use Rattle.d64spec.specs.Geometry.{Geometry, total, onDisk, sectorNumber}
 use Rattle.d64spec.specs.Image.{Disk, disk, put}
 use Rattle.d64spec.specs.Format.{emptyDirectorySector}
 use Rattle.d64spec.specs.Store.{writeChain, overwriteSlot}
@@ -26,68 +26,68 @@ abbrev pub lastSector : Bytes → Bytes
 lastSector bs = 0 ∷ suc (length bs) ∷ (bs ++ zeros (254 - length bs))
 
 -- the sector at a place starts at byte n, and lies whole in the image (01, Tracks and sectors)
-pub record StartsAt (place n : ℕ) : Type 0 where
-  pub start : n ≡ 256 * sectorNumber layout35 (unpacked place)
-  pub inside : n + 256 ≤ 174848
+pub record StartsAt (g : Geometry) (place n : ℕ) : Type 0 where
+  pub start : n ≡ 256 * sectorNumber g (unpacked place)
+  pub inside : n + 256 ≤ 256 * total g
 
 -- an image, and the place of a sector of the disk
-pub record SectorReady (img : Bytes) (place : ℕ) (firsts : List ℕ) : Type 0 where
-  pub size : length img ≡ 174848
-  pub on : onDisk layout35 (unpacked place) ≡ true
-  pub numbers : IsFirsts firsts
+pub record SectorReady (g : Geometry) (img : Bytes) (place : ℕ) (firsts : List ℕ) : Type 0 where
+  pub size : length img ≡ 256 * total g
+  pub on : onDisk g (unpacked place) ≡ true
+  pub numbers : IsFirsts g firsts
 
 -- these bytes stand in the sector at a place, which the map marks used (01, Store)
-pub record SectorWritten (img : Bytes) (place : ℕ) (s : Bytes) (es : Entries) (img′ : Bytes) (es′ : Entries) : Type 0 where
+pub record SectorWritten (g : Geometry) (img : Bytes) (place : ℕ) (s : Bytes) (es : Entries) (img′ : Bytes) (es′ : Entries) : Type 0 where
   pub size : length img′ ≡ length img
-  pub laid : disk img′ ≡ put (disk img) (sectorNumber layout35 (unpacked place)) s
+  pub laid : disk img′ ≡ put (disk img) (sectorNumber g (unpacked place)) s
   pub marks : es′ ≡ movedMark false (unpacked place) es
 
 -- an image, and places of sectors of the disk that these bytes fill, all but the last to the end
-pub record ChainReady (img : Bytes) (places : List ℕ) (bs : Bytes) (firsts : List ℕ) : Type 0 where
-  pub size : length img ≡ 174848
-  pub on : All (λ p. onDisk layout35 (unpacked p) ≡ true) places
+pub record ChainReady (g : Geometry) (img : Bytes) (places : List ℕ) (bs : Bytes) (firsts : List ℕ) : Type 0 where
+  pub size : length img ≡ 256 * total g
+  pub on : All (λ p. onDisk g (unpacked p) ≡ true) places
   pub some : 1 ≤ length places
   pub room : length bs ≤ 254 * length places
   pub full : 254 * length places ≤ length bs + 254
-  pub numbers : IsFirsts firsts
+  pub numbers : IsFirsts g firsts
 
 -- the bytes lie along these places, which the map marks used (01, Store)
-pub record ChainWritten (img : Bytes) (places : List ℕ) (bs : Bytes) (es : Entries) (img′ : Bytes) (es′ : Entries) : Type 0 where
+pub record ChainWritten (g : Geometry) (img : Bytes) (places : List ℕ) (bs : Bytes) (es : Entries) (img′ : Bytes) (es′ : Entries) : Type 0 where
   pub size : length img′ ≡ length img
-  pub laid : disk img′ ≡ writeChain layout35 (map unpacked places) bs (disk img)
+  pub laid : disk img′ ≡ writeChain g (map unpacked places) bs (disk img)
   pub marks : es′ ≡ movedMarks false (map unpacked places) es
 
 -- the disk with 18/s new in the directory: it becomes 00 FF and zeros, and 18/last links to it (01, Store)
-unfoldable pub grownDisk : Disk → ℕ → ℕ → Disk
-grownDisk d last s =
-    put (put d (sectorNumber layout35 (address 18 s)) emptyDirectorySector) (sectorNumber layout35 (address 18 last))
-    (splice (d (sectorNumber layout35 (address 18 last))) 0 (18 ∷ s ∷ []))
+unfoldable pub grownDisk : Geometry → Disk → ℕ → ℕ → Disk
+grownDisk g d last s =
+    put (put d (sectorNumber g (address 18 s)) emptyDirectorySector) (sectorNumber g (address 18 last))
+    (splice (d (sectorNumber g (address 18 last))) 0 (18 ∷ s ∷ []))
 
 -- the disk with an entry at this place of a directory whose last sector is 18/last (01, Store)
-unfoldable pub entryDisk : Disk → Bytes → EntryPlace → ℕ → Disk
-entryDisk d e p last = overwriteSlot layout35 (address 18 (p .sector)) (p .index) e (cond (p .grown) (grownDisk d last (p .sector)) d)
+unfoldable pub entryDisk : Geometry → Disk → Bytes → EntryPlace → ℕ → Disk
+entryDisk g d e p last = overwriteSlot g (address 18 (p .sector)) (p .index) e (cond (p .grown) (grownDisk g d last (p .sector)) d)
 
--- two sectors by their place on track 18, not the same, and both in the image: 357 + 326 is 683
-pub record GrowReady (img : Bytes) (last s : ℕ) : Type 0 where
-  pub size : length img ≡ 174848
-  pub lastInside : last < 326
-  pub sectorInside : s < 326
+-- two sectors by their place on track 18, and not the same
+pub record GrowReady (g : Geometry) (img : Bytes) (last s : ℕ) : Type 0 where
+  pub size : length img ≡ 256 * total g
+  pub lastInside : last < 19
+  pub sectorInside : s < 19
   pub other : s ≡ last → ⊥
 
 -- the directory has grown by a sector
-pub record Grown (img : Bytes) (last s : ℕ) (img′ : Bytes) : Type 0 where
+pub record Grown (g : Geometry) (img : Bytes) (last s : ℕ) (img′ : Bytes) : Type 0 where
   pub size : length img′ ≡ length img
-  pub laid : disk img′ ≡ grownDisk (disk img) last s
+  pub laid : disk img′ ≡ grownDisk g (disk img) last s
 
 -- an entry of 30 bytes and a slot in the image for it
-pub record EntryReady (img e : Bytes) (p : EntryPlace) (last : ℕ) : Type 0 where
-  pub size : length img ≡ 174848
+pub record EntryReady (g : Geometry) (img e : Bytes) (p : EntryPlace) (last : ℕ) : Type 0 where
+  pub size : length img ≡ 256 * total g
   pub whole : length e ≡ 30
-  pub sectorInside : p .sector < 326
+  pub sectorInside : p .sector < 19
   pub indexInside : p .index < 8
-  pub grow : p .grown ≡ true → GrowReady img last (p .sector)
+  pub grow : p .grown ≡ true → GrowReady g img last (p .sector)
 
 -- the entry stands at its place
-pub record EntryLaid (img e : Bytes) (p : EntryPlace) (last : ℕ) (img′ : Bytes) : Type 0 where
+pub record EntryLaid (g : Geometry) (img e : Bytes) (p : EntryPlace) (last : ℕ) (img′ : Bytes) : Type 0 where
   pub size : length img′ ≡ length img
-  pub laid : disk img′ ≡ entryDisk (disk img) e p last
+  pub laid : disk img′ ≡ entryDisk g (disk img) e p last

@@ -1,7 +1,9 @@
 // Room for a file: the sectors that its data need, and where its entry goes (01, Store).
 ghost use mathlib.Core.Path.{_≡_};
 ghost use Prim.Native.Nat.{_≤_};
+ghost use Rattle.geometry.specs.Layout.{geometryOf};
 ghost use Rattle.storing.specs.Decisions.{Needed, roomFor, RoomAsked, RoomIs};
+use geometry::Layout;
 
 // Where the entry goes: slot `index` of 18/sector, which is new to the directory where it is `grown`.
 pub(crate) struct EntryPlace {
@@ -18,7 +20,7 @@ pub(crate) enum Room {
 
 // The sectors that so many bytes need: 1 for none, else 254 bytes in each.
 pub(crate) fn sectors_needed(length: usize) -> usize
-    requires { ⌜ length ≤ 168656 ⌝ }
+    requires { ⌜ length ≤ 190246 ⌝ }
     ensures { λ r. ⌜ Needed length r ⌝ }
 {
     if length == 0 {
@@ -29,13 +31,14 @@ pub(crate) fn sectors_needed(length: usize) -> usize
 
 // The first empty one of the slots 0 to end - 1, or else the first slot of the lowest free sector of track 18.
 pub(crate) fn entry_room(
+    layout: Layout,
     track18: &[u8],
     sectors: &[u8; 18],
     end: usize,
-    map: &[[u8; 4]; 35],
+    map: &[[u8; 4]; 40],
 ) -> Room
     requires { ⌜ end ≤ 144 ⌝ }
-    ensures { λ r. ⌜ r ≡ roomFor (now (track18 .entry)) (now (sectors .entry)) end (now (map .entry)) ⌝ }
+    ensures { λ r. ⌜ r ≡ roomFor (geometryOf layout) (now (track18 .entry)) (now (sectors .entry)) end (now (map .entry)) ⌝ }
 {
     let k = finding::find_empty(track18, sectors, end);
     if k < end {
@@ -46,7 +49,7 @@ pub(crate) fn entry_room(
             grown: false,
         });
     }
-    let place = placement::place_directory(map);
+    let place = placement::place_directory(layout, map);
     if place == 0 {
         return Room::Full;
     }
@@ -58,9 +61,15 @@ pub(crate) fn entry_room(
 }
 
 // Room for the entry on a checked image whose directory has `count` sectors.
-pub(crate) fn room_in(img: &[u8], sectors: &[u8; 18], count: usize, map: &[[u8; 4]; 35]) -> Room
-    requires { ⌜ RoomAsked (now img) (now sectors) count (now map) ⌝ }
-    ensures { λ r. ⌜ RoomIs (now (img .entry)) r ⌝ }
+pub(crate) fn room_in(
+    layout: Layout,
+    img: &[u8],
+    sectors: &[u8; 18],
+    count: usize,
+    map: &[[u8; 4]; 40],
+) -> Room
+    requires { ⌜ RoomAsked (geometryOf layout) (now img) (now sectors) count (now map) ⌝ }
+    ensures { λ r. ⌜ RoomIs (geometryOf layout) (now (img .entry)) r ⌝ }
 {
-    entry_room(&img[91392..96256], sectors, 8 * count, map)
+    entry_room(layout, &img[91392..96256], sectors, 8 * count, map)
 }

@@ -102,6 +102,12 @@ enum-told-9 c = search needs
 unplaced-requires-9 : tie.Need-unplaced-requires-9
 unplaced-requires-9 c κs = search needs
 
+enum-told-10 : tie.Need-enum-told-10
+enum-told-10 c = search needs
+
+unplaced-requires-10 : tie.Need-unplaced-requires-10
+unplaced-requires-10 c κs = search needs
+
 returns : tie.Need-returns
 unfolding faultOf
 returns c = answered-as (c .before .enum-told .given .1) (c .unplaced .ensures) refl
@@ -166,6 +172,10 @@ returns-16 : tie.Need-returns-16
 unfolding faultOf
 returns-16 c = answered-as (c .before .enum-told9 .given .1) (c .unplaced9 .ensures) refl
 
+returns-17 : tie.Need-returns-17
+unfolding faultOf
+returns-17 c = answered-as (c .before .enum-told10 .given .1) (c .unplaced10 .ensures) refl
+
 pub answer-of-spec : {M : Type 1} → statement M
 answer-of-spec =
     tie.close
@@ -202,6 +212,8 @@ answer-of-spec =
     unplaced-requires-8
     enum-told-9
     unplaced-requires-9
+    enum-told-10
+    unplaced-requires-10
     returns
     returns-2
     returns-3
@@ -217,4 +229,5 @@ answer-of-spec =
     returns-13
     returns-14
     returns-15
-    returns-16)
+    returns-16
+    returns-17)

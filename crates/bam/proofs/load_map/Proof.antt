@@ -1,57 +1,48 @@
--- `bam::load_map`. The loop keeps `Loading`: the first i entries are those of the sector. What falls is the number of entries not yet read.
--- Assumes nothing.
-use Prim.Native.Nat.{_-_}
+-- `bam::load_map`: a whole sector as it is, and any other slice copied into one. Assumes nothing.
 use native.Mathlib.Omega.{arith}
-use mathlib.Core.Path.{refl}
+use mathlib.Core.Path.{_∙_}
 use borrow.Author.Needs.{needs}
-use Rattle.bam.proofs.FillLaws.{filling-start}
-use Rattle.bam.proofs.LoadLaws.{Loading, loading-moved, loading-finished}
+use Rattle.geometry.proofs.TableLaws.{known-of}
+use Rattle.bam.proofs.LoadLaws.{loaded-copied}
 use Rattle.bam.proofs.load_map.Statement.{statement}
 use Rattle.bam.proofs.load_map.Tie as tie
 
-abbrev Inv-loop : tie.InvT-loop
-Inv-loop sector map₀ i₀ map i = Loading sector map i
+load-whole-requires : tie.Need-load-whole-requires
+load-whole-requires c κs = omega arith
 
-abbrev μ-loop : tie.MeasureT-loop
-μ-loop sector map₀ i₀ map i = 35 - i
+returns : tie.Need-returns
+returns c = c .load-whole .ensures
 
-loop-holds : tie.Need-loop-holds Inv-loop μ-loop
-loop-holds c = filling-start _ refl
+slice-aggregate-overwrite : tie.Need-slice-aggregate-overwrite
+slice-aggregate-overwrite c = search needs
 
-load-entry-requires : tie.Need-load-entry-requires Inv-loop μ-loop
-load-entry-requires c κs = search needs
+clipped-requires : tie.Need-clipped-requires
+clipped-requires c κs = search needs
 
-mul-map : tie.Need-mul-map Inv-loop μ-loop
-mul-map c = search needs
+overwrite-requires : tie.Need-overwrite-requires
+overwrite-requires c κs = search needs
 
-array-set-from-map : tie.Need-array-set-from-map Inv-loop μ-loop
-array-set-from-map c = search needs
+slice-aggregate-load-whole : tie.Need-slice-aggregate-load-whole
+slice-aggregate-load-whole c = search needs
 
-add-i : tie.Need-add-i Inv-loop μ-loop
-add-i c = search needs
+load-whole-requires-2 : tie.Need-load-whole-requires-2
+load-whole-requires-2 c κs = search needs
 
-loop-less : tie.Need-loop-less Inv-loop μ-loop
-loop-less c = search needs
-
-loop-again : tie.Need-loop-again Inv-loop μ-loop
-loop-again c =
-    let l = c .before .before .loop in
-    loading-moved _ (l .inv) (omega arith) (c .load-entry .result) (c .load-entry .ensures)
-
-returns : tie.Need-returns Inv-loop μ-loop
-returns c = loading-finished _ (c .before .loop .inv) (omega arith)
+returns-2 : tie.Need-returns-2
+returns-2 c =
+    let over = c .before .before .before in
+    let s = over .before .before .before .before .before in
+    c .load-whole2 .ensures ∙ loaded-copied _ (known-of (s .args .layout)) _ (over .before .clipped .ensures) (over .overwrite .ensures)
 
 pub load-map-spec : {M : Type 1} → statement M
 load-map-spec =
     tie.close
     (tie.spec
-    Inv-loop
-    μ-loop
-    loop-holds
-    load-entry-requires
-    mul-map
-    array-set-from-map
-    add-i
-    loop-less
-    loop-again
-    returns)
+    load-whole-requires
+    returns
+    slice-aggregate-overwrite
+    clipped-requires
+    overwrite-requires
+    slice-aggregate-load-whole
+    load-whole-requires-2
+    returns-2)

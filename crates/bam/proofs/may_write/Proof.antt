@@ -3,7 +3,7 @@ use mathlib.Core.Path.{ap, sym, _∙_}
 use Rattle.d64spec.specs.Image.{disk}
 use Rattle.d64spec.specs.Reply.{writable}
 use Rattle.bam.specs.MapSector.{allowsWriting}
-use Rattle.bam.proofs.ImageMapLaws.{map-number}
+use Rattle.geometry.proofs.TableLaws.{known-of}
 use borrow.Author.Needs.{needs}
 use Rattle.bam.proofs.may_write.Statement.{statement}
 use Rattle.bam.proofs.may_write.Tie as tie
@@ -17,8 +17,10 @@ allows-writing-requires c κs = search needs
 returns : tie.Need-returns
 unfolding writable allowsWriting
 returns c =
-    let img = c .before .before .before .args .img .now in
-    c .allows-writing .ensures ∙ ap allowsWriting (c .before .sector .ensures .bytes ∙ ap (disk img) (sym map-number))
+    let a = c .before .before .before .args in
+    let img = a .img .now in
+    let number = known-of (a .layout) .map357 in
+    c .allows-writing .ensures ∙ ap allowsWriting (c .before .sector .ensures .bytes ∙ ap (disk img) (sym number))
 
 pub may-write-spec : {M : Type 1} → statement M
 may-write-spec = tie.close (tie.spec sector-requires allows-writing-requires returns)

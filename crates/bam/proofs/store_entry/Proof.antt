@@ -4,7 +4,7 @@ use native.Mathlib.Omega.{arith}
 use lib.ListN.{length-set}
 use denote.Ref.{now}
 use borrow.Author.Needs.{needs}
-use Rattle.bam.proofs.JoinLaws.{stored-four}
+use Rattle.bam.proofs.FourLaws.{stored-four}
 use Rattle.bam.proofs.ShapeLaws.{entry-shaped}
 use Rattle.bam.proofs.store_entry.Statement.{statement}
 use Rattle.bam.proofs.store_entry.Tie as tie

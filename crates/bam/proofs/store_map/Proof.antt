@@ -1,79 +1,63 @@
--- `bam::store_map`. The loop keeps `Storing`: the first i entries stand in the sector, and nothing else is changed. What falls is the number
--- of entries not yet written.
--- Assumes nothing.
-use Prim.Native.Nat.{_-_}
+-- `bam::store_map`: one run of entries, and a second where the layout has one; a slice that is not a sector is left. Assumes nothing.
 use native.Mathlib.Omega.{arith}
 use mathlib.Core.Path.{sym}
 use borrow.Author.Needs.{needs}
-use Rattle.bam.proofs.MapShapeLaws.{MapShape, map-shaped}
-use Rattle.bam.proofs.SaveLaws.{Storing, storing-start, storing-moved, storing-finished, stored-short}
+use Rattle.geometry.proofs.MapPlaceLaws.{extra-small}
+use Rattle.bam.proofs.SaveLaws.{stored-other, stored-front, stored-both}
 use Rattle.bam.proofs.store_map.Statement.{statement}
 use Rattle.bam.proofs.store_map.Tie as tie
 
-abbrev Inv-loop : tie.InvT-loop
-Inv-loop sector₀ map i₀ sector i = Storing map sector₀ sector i
+returns : tie.Need-returns
+returns c = sym (stored-other _ _ _ (λ z. omega arith))
 
-abbrev μ-loop : tie.MeasureT-loop
-μ-loop sector₀ map i₀ sector i = 35 - i
+store-run-requires : tie.Need-store-run-requires
+store-run-requires c κs = record { order = omega arith; tracks = omega arith; sector = omega (arith, c .before .if1 .left) }
 
-shape : (c : tie.Start Inv-loop μ-loop) → MapShape (c .args .t1)
-shape c = map-shaped _ _ (c .good .0)
+extra-entries-requires : tie.Need-extra-entries-requires
+extra-entries-requires c κs = search needs
 
-returns : tie.Need-returns Inv-loop μ-loop
-returns c = sym (stored-short _ _ (omega arith))
+store-run-requires-2 : tie.Need-store-run-requires-2
+store-run-requires-2 c κs =
+    let known = c .before .before in
+    let start = known .before .before .before .before .before in
+    record {
+      order = omega arith;
+      tracks = omega arith;
+      sector = omega (arith, start .if1 .left, known .extra-entries .ensures, extra-small (start .before .before .args .layout));
+    }
 
-loop-holds : tie.Need-loop-holds Inv-loop μ-loop
-loop-holds c = storing-start _ _
+same-length : tie.Need-same-length
+same-length c = search needs
 
-mul-store-entry : tie.Need-mul-store-entry Inv-loop μ-loop
-mul-store-entry c = search needs
-
-array-copy-out-store-entry : tie.Need-array-copy-out-store-entry Inv-loop μ-loop
-array-copy-out-store-entry c = search needs
-
-add-store-entry : tie.Need-add-store-entry Inv-loop μ-loop
-add-store-entry c = search needs
-
-mul-store-entry-2 : tie.Need-mul-store-entry-2 Inv-loop μ-loop
-mul-store-entry-2 c = search needs
-
-store-entry-requires : tie.Need-store-entry-requires Inv-loop μ-loop
-store-entry-requires c κs = let l = c .before .before .before .loop .inv .size in omega arith
-
-add-i : tie.Need-add-i Inv-loop μ-loop
-add-i c = search needs
-
-loop-less : tie.Need-loop-less Inv-loop μ-loop
-loop-less c = search needs
-
-loop-again : tie.Need-loop-again Inv-loop μ-loop
-loop-again c =
-    let t = c .before .before .before .before .before in
-    let s = t .before .before .before .before in
-    storing-moved (shape s) (omega (arith, t .before .before .if1 .left)) (t .before .loop .inv) _ (omega (arith, t .loop-test .taken)) (c .before .before .store-entry .ensures)
-
-same-length : tie.Need-same-length Inv-loop μ-loop
-same-length c = c .before .loop .inv .size
-
-returns-2 : tie.Need-returns-2 Inv-loop μ-loop
+returns-2 : tie.Need-returns-2
 returns-2 c =
-    storing-finished (shape (c .before .before .before .before)) (omega (arith, c .before .before .if1 .left)) (c .before .loop .inv) (omega arith)
+    let known = c .before .before .before .before .before in
+    let run = known .before .before .before in
+    let start = run .before .before in
+    stored-both (start .before .before .args .layout) _ _ (omega (arith, start .if1 .left)) (run .store-run .ensures) (c .before .before .store-run2 .ensures)
+    (omega arith) (omega arith) (omega arith) (omega arith) (omega arith) (omega (arith, known .extra-entries .ensures))
+    (λ z. omega (arith, known .extra-entries .ensures))
+
+same-length-2 : tie.Need-same-length-2
+same-length-2 c = search needs
+
+returns-3 : tie.Need-returns-3
+returns-3 c =
+    let known = c .before in
+    let run = known .before .before .before in
+    let start = run .before .before in
+    stored-front (start .before .before .args .layout) _ _ (omega (arith, start .if1 .left)) (run .store-run .ensures)
+    (omega arith) (omega arith) (omega arith) (omega (arith, known .extra-entries .ensures))
 
 pub store-map-spec : {M : Type 1} → statement M
 store-map-spec =
     tie.close
     (tie.spec
-    Inv-loop
-    μ-loop
     returns
-    loop-holds
-    mul-store-entry
-    array-copy-out-store-entry
-    add-store-entry
-    mul-store-entry-2
-    store-entry-requires
-    add-i
-    loop-less
-    loop-again
+    store-run-requires
+    extra-entries-requires
+    store-run-requires-2
     same-length
-    returns-2)
+    returns-2
+    same-length-2
+    returns-3)

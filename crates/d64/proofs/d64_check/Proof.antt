@@ -1,15 +1,26 @@
--- `d64::d64_check` meets its contract: the block first, then the check's verdict with a report of 0 and 0. Assumes nothing.
+-- `d64::d64_check` meets its contract: the block first, then the layout, then the check's verdict with a report of 0 and 0. Assumes nothing.
 use native.Mathlib.Omega.{arith}
 use borrow.Author.Needs.{needs}
-use Rattle.d64spec.specs.Geometry.{layout35}
 use Rattle.d64spec.specs.Call.{check, outputBuffer}
-use Rattle.d64.proofs.HostLaws.{call-misfit, call-nine, check-replied}
+use Rattle.d64.proofs.HostLaws.{call-misfit, call-unknown, call-known, check-replied}
 use Rattle.d64.proofs.d64_check.Statement.{statement}
 use Rattle.d64.proofs.d64_check.Tie as tie
 
 returns : tie.Need-returns
 unfolding outputBuffer
-returns c = call-misfit layout35 _ _ check (λ nine. omega arith)
+returns c = let p = c .before .before .before .args in call-misfit _ _ _ check (λ nine. omega arith)
+
+layout-numbered-requires : tie.Need-layout-numbered-requires
+layout-numbered-requires c κs = search needs
+
+enum-told : tie.Need-enum-told
+enum-told c = search needs
+
+refuse-layout-requires : tie.Need-refuse-layout-requires
+refuse-layout-requires c κs = search needs
+
+enum-known-named : tie.Need-enum-known-named
+enum-known-named c = search needs
 
 check-image-requires : tie.Need-check-image-requires
 check-image-requires c κs = search needs
@@ -24,20 +35,44 @@ same-length : tie.Need-same-length
 same-length c = search needs
 
 returns-2 : tie.Need-returns-2
+unfolding outputBuffer
 returns-2 c =
+    let p = c .before .before .before .before .before .before .before .before .before .before .args in
+    let e = c .before .before .before .before in
+    let n = c .before .before .before .before .before .before in
+    let u = c .before .before in
+    call-unknown (p .layout) (p .image .now) (p .answer .now) check (n .layout-numbered .ensures) _ _ (omega arith) (e .enum-told .given .1)
+    (u .refuse-layout .ensures)
+
+same-length-2 : tie.Need-same-length-2
+same-length-2 c = search needs
+
+returns-3 : tie.Need-returns-3
+unfolding outputBuffer
+returns-3 c =
+    let p = c .before .before .before .before .before .before .before .before .before .before .before .before .before .args in
+    let n = c .before .before .before .before .before .before .before .before .before in
+    let v = c .before .before .before .before .before .before .before in
+    let k = c .before .before .before .before .before in
     let g = c .before .before in
-    let t = g .before .before in
-    let k = t .before in
-    let p = k .before .before .before .before .args in
-    call-nine layout35 (p .image .now) (p .answer .now) check _ _ _ _ _ (omega arith) (check-replied (p .image .now) (k .check-image .result) _ (k .check-image .ensures) (t .report-of .ensures)) (g .give-answer .ensures)
+    let t = c .before .before .before .before in
+    let replied = check-replied _ (p .image .now) (k .check-image .result) _ (k .check-image .ensures) (t .report-of .ensures) in
+    call-known (p .layout) (p .image .now) (p .answer .now) check (n .layout-numbered .ensures) _ _ (omega arith) _ (v .named .given .1) _ _ _ replied
+    (g .give-answer .ensures)
 
 pub d64-check-spec : {M : Type 1} → statement M
 d64-check-spec =
     tie.close
     (tie.spec
     returns
+    layout-numbered-requires
+    enum-told
+    refuse-layout-requires
+    enum-known-named
     check-image-requires
     report-of-requires
     give-answer-requires
     same-length
-    returns-2)
+    returns-2
+    same-length-2
+    returns-3)

@@ -1,15 +1,26 @@
--- `d64::d64_format` meets its contract: the block first, then the report of the format. Assumes nothing.
+-- `d64::d64_format` meets its contract: the block first, then the layout, then the report of the format. Assumes nothing.
 use native.Mathlib.Omega.{arith}
 use borrow.Author.Needs.{needs}
-use Rattle.d64spec.specs.Geometry.{layout35}
 use Rattle.d64spec.specs.Call.{format, outputBuffer}
-use Rattle.d64.proofs.HostLaws.{call-misfit, call-nine}
+use Rattle.d64.proofs.HostLaws.{call-misfit, call-unknown, call-known}
 use Rattle.d64.proofs.d64_format.Statement.{statement}
 use Rattle.d64.proofs.d64_format.Tie as tie
 
 returns : tie.Need-returns
 unfolding outputBuffer
-returns c = let p = c .before .before .before .before .args in call-misfit layout35 _ _ (format (p .name .now) (p .id1) (p .id2)) (λ nine. omega arith)
+returns c = let p = c .before .before .before .before .args in call-misfit _ _ _ (format (p .name .now) (p .id1) (p .id2)) (λ nine. omega arith)
+
+layout-numbered-requires : tie.Need-layout-numbered-requires
+layout-numbered-requires c κs = search needs
+
+enum-told : tie.Need-enum-told
+enum-told c = search needs
+
+refuse-layout-requires : tie.Need-refuse-layout-requires
+refuse-layout-requires c κs = search needs
+
+enum-known-named : tie.Need-enum-known-named
+enum-known-named c = search needs
 
 format-image-requires : tie.Need-format-image-requires
 format-image-requires c κs = search needs
@@ -20,17 +31,46 @@ give-answer-requires c κs = search needs
 same-length : tie.Need-same-length
 same-length c = search needs
 
+returns-2 : tie.Need-returns-2
+unfolding outputBuffer
+returns-2 c =
+    let p = c .before .before .before .before .before .before .before .before .before .before .before .args in
+    let e = c .before .before .before .before in
+    let n = c .before .before .before .before .before .before in
+    let u = c .before .before in
+    call-unknown (p .layout) (p .image .now) (p .answer .now) (format (p .name .now) (p .id1) (p .id2)) (n .layout-numbered .ensures) _ _ (omega arith)
+    (e .enum-told .given .1) (u .refuse-layout .ensures)
+
 same-length-2 : tie.Need-same-length-2
 same-length-2 c = search needs
 
-returns-2 : tie.Need-returns-2
-returns-2 c =
+same-length-3 : tie.Need-same-length-3
+same-length-3 c = search needs
+
+returns-3 : tie.Need-returns-3
+unfolding outputBuffer
+returns-3 c =
+    let p = c .before .before .before .before .before .before .before .before .before .before .before .before .before .before .before .before .args in
+    let n = c .before .before .before .before .before .before .before .before .before .before .before in
+    let v = c .before .before .before .before .before .before .before .before .before in
+    let k = c .before .before .before .before .before .before in
     let g = c .before .before in
-    let k = g .before .before .before .before in
-    let p = k .before .before .before .before .before .before .args in
-    call-nine layout35 (p .image .now) (p .answer .now) (format (p .name .now) (p .id1) (p .id2)) _ _ _ _ _ (omega arith) (k .format-image .ensures) (g .give-answer .ensures)
+    call-known (p .layout) (p .image .now) (p .answer .now) (format (p .name .now) (p .id1) (p .id2)) (n .layout-numbered .ensures) _ _ (omega arith) _
+    (v .named .given .1) _ _ _ (k .format-image .ensures) (g .give-answer .ensures)
 
 pub d64-format-spec : {M : Type 1} → statement M
 d64-format-spec =
     tie.close
-    (tie.spec returns format-image-requires give-answer-requires same-length same-length-2 returns-2)
+    (tie.spec
+    returns
+    layout-numbered-requires
+    enum-told
+    refuse-layout-requires
+    enum-known-named
+    format-image-requires
+    give-answer-requires
+    same-length
+    returns-2
+    same-length-2
+    same-length-3
+    returns-3)

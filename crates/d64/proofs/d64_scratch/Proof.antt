@@ -1,15 +1,26 @@
--- `d64::d64_scratch` meets its contract: the block first, then the report of the scratch. Assumes nothing.
+-- `d64::d64_scratch` meets its contract: the block first, then the layout, then the report of the scratch. Assumes nothing.
 use native.Mathlib.Omega.{arith}
 use borrow.Author.Needs.{needs}
-use Rattle.d64spec.specs.Geometry.{layout35}
 use Rattle.d64spec.specs.Call.{scratch, outputBuffer}
-use Rattle.d64.proofs.HostLaws.{call-misfit, call-nine}
+use Rattle.d64.proofs.HostLaws.{call-misfit, call-unknown, call-known}
 use Rattle.d64.proofs.d64_scratch.Statement.{statement}
 use Rattle.d64.proofs.d64_scratch.Tie as tie
 
 returns : tie.Need-returns
 unfolding outputBuffer
-returns c = let p = c .before .before .before .before .args in call-misfit layout35 _ _ (scratch (p .name .now)) (λ nine. omega arith)
+returns c = let p = c .before .before .before .before .args in call-misfit _ _ _ (scratch (p .name .now)) (λ nine. omega arith)
+
+layout-numbered-requires : tie.Need-layout-numbered-requires
+layout-numbered-requires c κs = search needs
+
+enum-told : tie.Need-enum-told
+enum-told c = search needs
+
+refuse-layout-requires : tie.Need-refuse-layout-requires
+refuse-layout-requires c κs = search needs
+
+enum-known-named : tie.Need-enum-known-named
+enum-known-named c = search needs
 
 scratch-file-requires : tie.Need-scratch-file-requires
 scratch-file-requires c κs = search needs
@@ -20,17 +31,46 @@ give-answer-requires c κs = search needs
 same-length : tie.Need-same-length
 same-length c = search needs
 
+returns-2 : tie.Need-returns-2
+unfolding outputBuffer
+returns-2 c =
+    let p = c .before .before .before .before .before .before .before .before .before .before .before .args in
+    let e = c .before .before .before .before in
+    let n = c .before .before .before .before .before .before in
+    let u = c .before .before in
+    call-unknown (p .layout) (p .image .now) (p .answer .now) (scratch (p .name .now)) (n .layout-numbered .ensures) _ _ (omega arith)
+    (e .enum-told .given .1) (u .refuse-layout .ensures)
+
 same-length-2 : tie.Need-same-length-2
 same-length-2 c = search needs
 
-returns-2 : tie.Need-returns-2
-returns-2 c =
+same-length-3 : tie.Need-same-length-3
+same-length-3 c = search needs
+
+returns-3 : tie.Need-returns-3
+unfolding outputBuffer
+returns-3 c =
+    let p = c .before .before .before .before .before .before .before .before .before .before .before .before .before .before .before .before .args in
+    let n = c .before .before .before .before .before .before .before .before .before .before .before in
+    let v = c .before .before .before .before .before .before .before .before .before in
+    let k = c .before .before .before .before .before .before in
     let g = c .before .before in
-    let k = g .before .before .before .before in
-    let p = k .before .before .before .before .before .before .args in
-    call-nine layout35 (p .image .now) (p .answer .now) (scratch (p .name .now)) _ _ _ _ _ (omega arith) (k .scratch-file .ensures) (g .give-answer .ensures)
+    call-known (p .layout) (p .image .now) (p .answer .now) (scratch (p .name .now)) (n .layout-numbered .ensures) _ _ (omega arith) _
+    (v .named .given .1) _ _ _ (k .scratch-file .ensures) (g .give-answer .ensures)
 
 pub d64-scratch-spec : {M : Type 1} → statement M
 d64-scratch-spec =
     tie.close
-    (tie.spec returns scratch-file-requires give-answer-requires same-length same-length-2 returns-2)
+    (tie.spec
+    returns
+    layout-numbered-requires
+    enum-told
+    refuse-layout-requires
+    enum-known-named
+    scratch-file-requires
+    give-answer-requires
+    same-length
+    returns-2
+    same-length-2
+    same-length-3
+    returns-3)

@@ -14,8 +14,8 @@ refuse-requires c κs = search needs
 returns : tie.Need-returns
 returns c = read-wrong-size _ (c .refuse .ensures) (λ e. omega arith)
 
-array-write-owners : tie.Need-array-write-owners
-array-write-owners c = search needs
+array-write-own : tie.Need-array-write-own
+array-write-own c = search needs
 
 walk-directory-requires : tie.Need-walk-directory-requires
 walk-directory-requires c κs = (omega arith, omega arith, omega (arith, start-used))
@@ -52,7 +52,7 @@ read-directory-spec =
     (tie.spec
     refuse-requires
     returns
-    array-write-owners
+    array-write-own
     walk-directory-requires
     enum-known-verdict
     refuse-requires-2

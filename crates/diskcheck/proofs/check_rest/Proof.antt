@@ -1,6 +1,6 @@
 -- `diskcheck::check_rest` meets its contract: a fault of the slots is the verdict, else the map's.
-use mathlib.Core.Path.{refl}
 use borrow.Author.Needs.{needs}
+use Rattle.geometry.proofs.TableLaws.{known-of}
 use Rattle.diskcheck.proofs.ImageLaws.{slots-refused, slots-fine}
 use Rattle.diskcheck.proofs.check_rest.Statement.{statement}
 use Rattle.diskcheck.proofs.check_rest.Tie as tie
@@ -14,29 +14,30 @@ enum-known-verdict c = search needs
 enum-told : tie.Need-enum-told
 enum-told c = search needs
 
-sub-check-map : tie.Need-sub-check-map
-sub-check-map c = search needs
+check-marks-requires : tie.Need-check-marks-requires
+check-marks-requires c κs =
+    let s = c .before .before .before .before .before in
+    s .before .before .before .before .before .before .pre .0 .sized .size
 
-part-check-map-start : tie.Need-part-check-map-start
-part-check-map-start c = search needs
-
-part-check-map-end : tie.Need-part-check-map-end
-part-check-map-end c = search needs
-
-check-map-requires : tie.Need-check-map-requires
-check-map-requires c κs = search needs
+same-length : tie.Need-same-length
+same-length c = search needs
 
 returns : tie.Need-returns
 returns c =
-    let s = c .before .before .before in
-    slots-refused _ _ _ _ _ _ (rw (c .before .verdict .given .1) at (s .check-slots .ensures .0))
+    let s = c .before .before .before .before .before in
+    let z = s .before .before .before .before .before .before in
+    slots-refused _ (known-of (z .args .layout)) _ _ _ _ _ _ (rw (c .before .verdict .given .1) at (s .check-slots .ensures .0))
+
+same-length-2 : tie.Need-same-length-2
+same-length-2 c = search needs
 
 returns-2 : tie.Need-returns-2
 returns-2 c =
-    let t = c .before .before .before in
-    let s = t .before .before in
+    let t = c .before .before in
+    let s = t .before .before .before .before in
+    let z = s .before .before .before .before .before .before in
     let e = s .check-slots .ensures in
-    slots-fine _ _ _ _ _ _ _ _ (rw (t .enum-told .given .1) at (e .0)) (e .1) (c .check-map .ensures) refl
+    slots-fine _ (known-of (z .args .layout)) _ _ _ _ _ _ _ (rw (t .enum-told .given .1) at (e .0)) (e .1) (c .check-marks .ensures)
 
 pub check-rest-spec : {M : Type 1} → statement M
 check-rest-spec =
@@ -45,9 +46,8 @@ check-rest-spec =
     check-slots-requires
     enum-known-verdict
     enum-told
-    sub-check-map
-    part-check-map-start
-    part-check-map-end
-    check-map-requires
+    check-marks-requires
+    same-length
     returns
+    same-length-2
     returns-2)

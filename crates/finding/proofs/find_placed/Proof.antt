@@ -30,7 +30,8 @@ returns : tie.Need-returns Inv-loop μ-loop
 returns c =
     let a = c .before .before .before .before .before .before .before .args in
     let w = c .before .before .before .before .before .loop in
-    sym (placed-here (a .track18 .now) (a .sectors .now) (omega arith) (c .before .before .before .slot-at .ensures) (c .before .before .is-empty .ensures) (w .left) (not-true _ (c .before .if1 .taken)) (omega arith)) ∙ w .inv .same
+    sym (placed-here (a .track18 .now) (a .sectors .now) (omega arith) (c .before .before .before .slot-at .ensures) (c .before .before .is-empty .ensures)
+    (w .left) (not-true _ (c .before .if1 .taken)) (omega arith)) ∙ w .inv .same
 
 sub-left : tie.Need-sub-left Inv-loop μ-loop
 sub-left c = search needs

@@ -39,7 +39,8 @@ returns c =
     let w = c .before in
     let n = w .before .before .before .before .before .before in
     let s = n .before .before .before .before .before .before .before in
-    header-written (s .args .name .now) (s .args .id1) (s .args .id2) (s .pre) (n .before .before .before .overwrite .ensures) (n .padded-name .ensures) (w .before .before .before .before .overwrite2 .ensures) (w .overwrite3 .ensures)
+    header-written (s .args .name .now) (s .args .id1) (s .args .id2) (s .pre)
+    (n .before .before .before .overwrite .ensures) (n .padded-name .ensures) (w .before .before .before .before .overwrite2 .ensures) (w .overwrite3 .ensures)
 
 pub fresh-header-spec : {M : Type 1} → statement M
 fresh-header-spec =

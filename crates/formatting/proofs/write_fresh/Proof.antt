@@ -1,9 +1,8 @@
 -- `formatting::write_fresh` meets its contract: zeros, then 18/1, then 18/0.
 use mathlib.Core.Path.{ap, _∙_}
 use Rattle.d64spec.specs.Lists.{zeros}
-use Rattle.d64spec.specs.Geometry.{layout35}
-use Rattle.d64spec.proofs.RunTheorem.{valid35}
-use Rattle.formatting.proofs.FreshLaws.{fresh-image, map-number, directory-number, size35}
+use Rattle.geometry.proofs.TableLaws.{known-of}
+use Rattle.formatting.proofs.FreshLaws.{fresh-image, map-number, directory-number}
 use borrow.Author.Needs.{needs}
 use Rattle.formatting.proofs.write_fresh.Statement.{statement}
 use Rattle.formatting.proofs.write_fresh.Tie as tie
@@ -40,9 +39,10 @@ returns c =
     let e = d .before .before .before in
     let z = e .before .before .before in
     let s = z .before .before .before .before in
-    fresh-image layout35 valid35 (s .args .name .now) (s .args .id1) (s .args .id2) (z .clear-all .ensures ∙ ap zeros (size35 (s .pre .0)))
-    directory-number (e .empty-directory-sector .ensures) (d .write-sector .ensures)
-    map-number (m .fresh-map-sector .ensures) (m .fresh-map-sector .ok .1 .0 .1) (w .write-sector2 .ensures)
+    let k = known-of (s .args .layout) in
+    fresh-image _ (k .valid) (s .args .name .now) (s .args .id1) (s .args .id2) (z .clear-all .ensures ∙ ap zeros (s .pre .0))
+    (directory-number _ k) (e .empty-directory-sector .ensures) (d .write-sector .ensures)
+    (map-number _ k) (m .fresh-map-sector .ensures) (m .fresh-map-sector .ok .1 .0 .1) (w .write-sector2 .ensures)
 
 pub write-fresh-spec : {M : Type 1} → statement M
 write-fresh-spec =

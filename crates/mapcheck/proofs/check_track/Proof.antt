@@ -6,6 +6,7 @@ use mathlib.Core.Logic.{inl, inr}
 use borrow.Author.Needs.{needs}
 use borrow.Author.Tests.{eqb-false, eqb-true}
 use Rattle.answers.specs.Faults.{faultOf, verdictOf}
+use Rattle.geometry.proofs.TableLaws.{known-of}
 use Rattle.mapcheck.proofs.TrackLaws.{track-right, track-wrong}
 use Rattle.mapcheck.proofs.check_track.Statement.{statement}
 use Rattle.mapcheck.proofs.check_track.Tie as tie
@@ -28,8 +29,9 @@ returns c =
     let n = c .before in
     let s = n .before .before .before in
     let start = s .before in
-    track-right (start .args .t1) (start .args .used) (start .args .track) (start .pre .2) {n = n .count-free .result} (omega (arith, n .count-free .ensures))
-    (s .sectors-of .ensures) (omega (arith, n .before .if1 .taken)) (omega (arith, eqb-true))
+    track-right _ (known-of (start .args .layout)) (start .args .t2) (start .args .used) (start .args .track) (start .pre .2)
+    {n = n .count-free .result} (omega (arith, n .count-free .ensures)) (s .sectors-of .ensures) (omega (arith, n .before .if1 .taken))
+    (omega (arith, eqb-true))
 
 lowest-difference-requires : tie.Need-lowest-difference-requires
 lowest-difference-requires c κs = search needs
@@ -39,7 +41,7 @@ unfolding verdictOf faultOf
 returns-2 c =
     let s = c .before .before .before in
     let start = s .before in
-    track-wrong (start .args .t1) (start .args .used) (start .args .track) (start .pre .2) refl (s .sectors-of .ensures)
+    track-wrong _ (known-of (start .args .layout)) (start .args .t2) (start .args .used) (start .args .track) (start .pre .2) refl (s .sectors-of .ensures)
     (c .lowest-difference .ensures) (omega arith) (omega arith) (omega arith)
     (elim (c .before .if1 .came) [
       | inl w ↦ λ same counted. omega (arith, eqb-false, w .1 .ensures)

@@ -7,6 +7,9 @@ use Rattle.placement.proofs.OrderLaws.{directory-placed}
 use Rattle.placement.proofs.place_directory.Statement.{statement}
 use Rattle.placement.proofs.place_directory.Tie as tie
 
+counts-of-requires : tie.Need-counts-of-requires
+counts-of-requires c κs = search needs
+
 element-copy-out-take-track : tie.Need-element-copy-out-take-track
 element-copy-out-take-track c = search needs
 
@@ -21,12 +24,13 @@ array-read-result c = search needs
 
 returns : tie.Need-returns
 unfolding entryOf
-returns c = directory-placed (c .before .before .before .before .args .map .now) _ _ (c .before .take-track .ensures) refl (omega arith)
+returns c = directory-placed _ (c .before .before .before .before .before .before .args .map .now) _ _ (c .before .take-track .ensures) refl (omega arith)
 
 pub place-directory-spec : {M : Type 1} → statement M
 place-directory-spec =
     tie.close
     (tie.spec
+    counts-of-requires
     element-copy-out-take-track
     slice-aggregate-take-track
     take-track-requires

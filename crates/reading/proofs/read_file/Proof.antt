@@ -6,6 +6,7 @@ use borrow.Author.Tests.{not-true, not-false}
 use Rattle.d64spec.specs.Reply.{validNameArgument}
 use Rattle.answers.specs.declared.Fault.the-variants.{WrongSize, BadNameArgument}
 use Rattle.answers.specs.Faults.{faultOf}
+use Rattle.geometry.proofs.TableLaws.{known-of}
 use Rattle.diskcheck.proofs.CheckedLaws.{refused-image}
 use Rattle.reading.proofs.ReplyLaws.{read-size, read-name, read-fault, read-refused}
 use Rattle.reading.proofs.FoundLaws.{checked-files}
@@ -13,15 +14,18 @@ use borrow.Author.Needs.{needs}
 use Rattle.reading.proofs.read_file.Statement.{statement}
 use Rattle.reading.proofs.read_file.Tie as tie
 
+image-size-requires : tie.Need-image-size-requires
+image-size-requires c κs = search needs
+
 refuse-requires : tie.Need-refuse-requires
 refuse-requires c κs = search needs
 
 returns : tie.Need-returns
 unfolding faultOf
 returns c =
-    let a = c .before .before .before .before .before .args in
-    read-refused (a .img .now) (a .name .now) (a .out .now) WrongSize (c .refuse .ensures)
-    (read-size (a .img .now) (a .name .now) (a .out .now) (λ size. c .before .if1 .taken (omega arith)))
+    let a = c .before .before .before .before .before .before .args in
+    read-refused _ (a .img .now) (a .name .now) (a .out .now) WrongSize (c .refuse .ensures)
+    (read-size _ (a .img .now) (a .name .now) (a .out .now) (λ size. c .before .if1 .taken (omega (arith, c .before .before .image-size .ensures))))
 
 valid-name-argument-requires : tie.Need-valid-name-argument-requires
 valid-name-argument-requires c κs = search needs
@@ -32,10 +36,11 @@ refuse-requires-2 c κs = search needs
 returns-2 : tie.Need-returns-2
 unfolding faultOf
 returns-2 c =
-    let a = c .before .before .before .before .before .before .before .args in
+    let a = c .before .before .before .before .before .before .before .before .args in
     let asked = sym (c .before .before .valid-name-argument .ensures) ∙ not-true _ (c .before .if2 .taken) in
-    read-refused (a .img .now) (a .name .now) (a .out .now) BadNameArgument (c .refuse2 .ensures)
-    (read-name (a .img .now) (a .name .now) (a .out .now) (omega arith) asked)
+    let size = c .before .before .before .before .image-size .ensures in
+    read-refused _ (a .img .now) (a .name .now) (a .out .now) BadNameArgument (c .refuse2 .ensures)
+    (read-name _ (a .img .now) (a .name .now) (a .out .now) (omega (arith, size)) asked)
 
 check-image-requires : tie.Need-check-image-requires
 check-image-requires c κs = search needs
@@ -53,23 +58,25 @@ mul-read-found : tie.Need-mul-read-found
 mul-read-found c = search needs
 
 -- the name asked for
-asked : (c : tie.Else2) → validNameArgument (c .before .before .before .before .before .before .args .name .now) ≡ true
+asked : (c : tie.Else2) → validNameArgument (c .before .before .before .before .before .before .before .args .name .now) ≡ true
 asked c = sym (c .before .valid-name-argument .ensures) ∙ not-false _ (c .if2 .left)
 
 read-found-requires : tie.Need-read-found-requires
 read-found-requires c κs =
     let e = c .before .before .before .before in
     let k = e .before .before in
-    (checked-files (k .check-image .ensures) (e .enum-told .given .1), asked (k .before))
+    let a = k .before .before .before .before .before .before .before .before .args in
+    (checked-files _ (known-of (a .layout)) (k .check-image .ensures) (e .enum-told .given .1), asked (k .before))
 
 returns-3 : tie.Need-returns-3
 returns-3 c =
-    let a = c .before .before .before .before .before .before .before .before .before .before .before .args in
     let v = c .before .before in
     let k = v .before .before in
-    read-refused (a .img .now) (a .name .now) (a .out .now) _ (c .refuse3 .ensures)
-    (read-fault (a .img .now) (a .name .now) (a .out .now) (omega arith) (asked (k .before))
-    (refused-image (k .check-image .ensures) _ (v .verdict .given .1)))
+    let i = k .before .before .before .before in
+    let a = i .before .before .before .before .args in
+    read-refused _ (a .img .now) (a .name .now) (a .out .now) _ (c .refuse3 .ensures)
+    (read-fault _ (a .img .now) (a .name .now) (a .out .now) (omega (arith, i .image-size .ensures)) (asked (k .before))
+    (refused-image _ (known-of (a .layout)) (k .check-image .ensures) _ (v .verdict .given .1)))
 
 same-length : tie.Need-same-length
 same-length c = search needs
@@ -81,6 +88,7 @@ pub read-file-spec : {M : Type 1} → statement M
 read-file-spec =
     tie.close
     (tie.spec
+    image-size-requires
     refuse-requires
     returns
     valid-name-argument-requires

@@ -1,7 +1,8 @@
 -- `reading::read_found` meets its contract. In order: the slots; the file of the name; its bytes.
 use native.Mathlib.Omega.{arith}
 use mathlib.Core.Path.{_≡_, refl}
-use Rattle.d64spec.specs.Geometry.{layout35}
+use Rattle.geometry.specs.Layout.{geometryOf}
+use Rattle.geometry.proofs.TableLaws.{known-of}
 use Rattle.d64spec.specs.Read.{callRead}
 use Rattle.answers.specs.declared.Fault.the-variants.{NotFound}
 use Rattle.answers.specs.Faults.{faultOf}
@@ -24,8 +25,8 @@ unfolding faultOf
 returns c =
     let k = c .before .before in
     let s = k .before .before .before .before in
-    read-refused (s .args .img .now) (s .args .name .now) (s .args .out .now) NotFound (c .refuse .ensures)
-    (none-named (s .pre .0) (s .args .name .now) (s .pre .1) (k .slot-named .ensures) (s .args .out .now) (omega arith))
+    read-refused _ (s .args .img .now) (s .args .name .now) (s .args .out .now) NotFound (c .refuse .ensures)
+    (none-named _ (known-of (s .args .layout)) (s .pre .0) (s .args .name .now) (s .pre .1) (k .slot-named .ensures) (s .args .out .now) (omega arith))
 
 slot-of-requires : tie.Need-slot-of-requires
 slot-of-requires c κs = search needs
@@ -34,14 +35,15 @@ slot-of-requires c κs = search needs
 found : (c : tie.After-slot-of)
     → let k = c .before .before in
     let a = k .before .before .before .before .args in
-    FileIn (a .img .now) (a .ends .now) (k .slot-named .result) (c .slot-of .result .now)
-    × (callRead layout35 (a .img .now) (a .name .now) (a .out .now) ≡ readFrom (a .img .now) (a .out .now) (firstOf (c .slot-of .result .now)))
+    FileIn (geometryOf (a .layout)) (a .img .now) (a .ends .now) (k .slot-named .result) (c .slot-of .result .now)
+    × (callRead (geometryOf (a .layout)) (a .img .now) (a .name .now) (a .out .now)
+    ≡ readFrom (geometryOf (a .layout)) (a .img .now) (a .out .now) (firstOf (c .slot-of .result .now)))
 found c =
     let k = c .before .before in
     let i = k .before .before .before in
     let s = i .before in
-    some-named (s .pre .0) (s .args .name .now) (s .pre .1) (k .slot-named .ensures) (s .args .out .now) (λ n. omega (arith, i .shared-slice-known .given n))
-    (c .before .if1 .left) (c .slot-of .ensures)
+    some-named _ (known-of (s .args .layout)) (s .pre .0) (s .args .name .now) (s .pre .1) (k .slot-named .ensures) (s .args .out .now)
+    (λ n. omega (arith, i .shared-slice-known .given n)) (c .before .if1 .left) (c .slot-of .ensures)
 
 element-copy-out-read-slot : tie.Need-element-copy-out-read-slot
 element-copy-out-read-slot c = omega (arith, found c .0 .below)
@@ -56,7 +58,7 @@ returns-2 : tie.Need-returns-2
 returns-2 c =
     let t = c .before .before .before .before .before in
     let a = t .before .before .before .before .before .before .args in
-    read-replied (a .img .now) (a .name .now) (a .out .now) (firstOf (t .slot-of .result .now)) (found t .1) (c .before .before .read-slot .ensures)
+    read-replied _ (a .img .now) (a .name .now) (a .out .now) (firstOf (t .slot-of .result .now)) (found t .1) (c .before .before .read-slot .ensures)
 
 pub read-found-spec : {M : Type 1} → statement M
 read-found-spec =

@@ -6,11 +6,11 @@ use borrow.Author.Needs.{needs}
 use Rattle.reading.proofs.read_slot.Statement.{statement}
 use Rattle.reading.proofs.read_slot.Tie as tie
 
-shared-slice-read-t10 : tie.Need-shared-slice-read-t10
-shared-slice-read-t10 c = search needs
+shared-slice-read-t11 : tie.Need-shared-slice-read-t11
+shared-slice-read-t11 c = search needs
 
-shared-slice-read-t12 : tie.Need-shared-slice-read-t12
-shared-slice-read-t12 c = search needs
+shared-slice-read-t13 : tie.Need-shared-slice-read-t13
+shared-slice-read-t13 c = search needs
 
 sector-count-requires : tie.Need-sector-count-requires
 sector-count-requires c κs = search needs
@@ -36,18 +36,18 @@ refuse-requires c κs = search needs
 returns : tie.Need-returns
 returns c =
     let a = c .before .before .before .before .before .before .before .before .args in
-    short-reply (a .img .now) (a .out .now) (firstOf (a .slot .now)) (c .refuse .ensures) (omega arith)
+    short-reply _ (a .img .now) (a .out .now) (firstOf (a .slot .now)) (c .refuse .ensures) (omega arith)
 
 copy-chain-requires : tie.Need-copy-chain-requires
 copy-chain-requires c κs =
     let s = c .before .before .before .before .before .before .before .before in
     record { chain = s .pre .chain; room = omega arith }
 
-cast-t23 : tie.Need-cast-t23
-cast-t23 c = search needs
+cast-t24 : tie.Need-cast-t24
+cast-t24 c = search needs
 
-cast-t13 : tie.Need-cast-t13
-cast-t13 c = search needs
+cast-t14 : tie.Need-cast-t14
+cast-t14 c = search needs
 
 same-length : tie.Need-same-length
 same-length c = search needs
@@ -56,14 +56,14 @@ returns-2 : tie.Need-returns-2
 returns-2 c =
     let k = c .before .before in
     let a = k .before .before .before .before .before .before .before .before .before .args in
-    whole-reply (a .img .now) (a .out .now) (firstOf (a .slot .now)) (omega arith) (k .copy-chain .ensures) (omega arith)
+    whole-reply _ (a .img .now) (a .out .now) (firstOf (a .slot .now)) (omega arith) (k .copy-chain .ensures) (omega arith)
 
 pub read-slot-spec : {M : Type 1} → statement M
 read-slot-spec =
     tie.close
     (tie.spec
-    shared-slice-read-t10
-    shared-slice-read-t12
+    shared-slice-read-t11
+    shared-slice-read-t13
     sector-count-requires
     cast-count
     sub-length
@@ -73,7 +73,7 @@ read-slot-spec =
     refuse-requires
     returns
     copy-chain-requires
-    cast-t23
-    cast-t13
+    cast-t24
+    cast-t14
     same-length
     returns-2)

@@ -2,7 +2,8 @@
 use native.Mathlib.Omega.{arith}
 use mathlib.Core.Path.{_≡_, refl}
 use Rattle.d64spec.specs.Answers.{done}
-use Rattle.d64spec.specs.Geometry.{layout35}
+use Rattle.geometry.specs.Layout.{geometryOf}
+use Rattle.geometry.proofs.TableLaws.{known-of}
 use Rattle.d64spec.specs.Read.{callTell}
 use Rattle.answers.specs.declared.Fault.the-variants.{NotFound}
 use Rattle.answers.specs.Faults.{faultOf}
@@ -24,8 +25,8 @@ unfolding faultOf
 returns c =
     let k = c .before .before in
     let s = k .before .before in
-    tell-refused (s .args .img .now) (s .args .position) NotFound (c .tell-nothing .ensures)
-    (none-placed (s .pre) (s .args .position) (k .slot-placed .ensures) (omega arith))
+    tell-refused _ (s .args .img .now) (s .args .position) NotFound (c .tell-nothing .ensures)
+    (none-placed _ (known-of (s .args .layout)) (s .pre) (s .args .position) (k .slot-placed .ensures) (omega arith))
 
 slot-of-requires : tie.Need-slot-of-requires
 slot-of-requires c κs = search needs
@@ -34,13 +35,13 @@ slot-of-requires c κs = search needs
 found : (c : tie.After-slot-of)
     → let k = c .before .before in
     let a = k .before .before .args in
-    FileIn (a .img .now) (a .ends .now) (k .slot-placed .result) (c .slot-of .result .now)
-    × (callTell layout35 (a .img .now) (a .position) ≡ done (toldOf (a .img .now) (c .slot-of .result .now)))
+    FileIn (geometryOf (a .layout)) (a .img .now) (a .ends .now) (k .slot-placed .result) (c .slot-of .result .now)
+    × (callTell (geometryOf (a .layout)) (a .img .now) (a .position) ≡ done (toldOf (geometryOf (a .layout)) (a .img .now) (c .slot-of .result .now)))
 found c =
     let k = c .before .before in
     let i = k .before in
-    some-placed (i .before .pre) (i .before .args .position) (k .slot-placed .ensures) (λ n. omega (arith, i .shared-slice-known .given n))
-    (c .before .if1 .left) (c .slot-of .ensures)
+    some-placed _ (known-of (i .before .args .layout)) (i .before .pre) (i .before .args .position) (k .slot-placed .ensures)
+    (λ n. omega (arith, i .shared-slice-known .given n)) (c .before .if1 .left) (c .slot-of .ensures)
 
 element-copy-out-tell-slot : tie.Need-element-copy-out-tell-slot
 element-copy-out-tell-slot c = omega (arith, found c .0 .below)
@@ -52,7 +53,7 @@ returns-2 : tie.Need-returns-2
 returns-2 c =
     let t = c .before .before in
     let a = t .before .before .before .before .args in
-    tell-replied (a .img .now) (a .position) (c .tell-slot .result) (found t .1) (c .tell-slot .ensures)
+    tell-replied _ (a .img .now) (a .position) (c .tell-slot .result) (found t .1) (c .tell-slot .ensures)
 
 pub tell-found-spec : {M : Type 1} → statement M
 tell-found-spec =

@@ -23,37 +23,37 @@ slice-aggregate-copy c = search needs
 copy-requires : tie.Need-copy-requires
 copy-requires c κs = search needs
 
-shared-slice-read-t14 : tie.Need-shared-slice-read-t14
-shared-slice-read-t14 c = search needs
+shared-slice-read-t15 : tie.Need-shared-slice-read-t15
+shared-slice-read-t15 c = search needs
 
-shared-slice-read-t17 : tie.Need-shared-slice-read-t17
-shared-slice-read-t17 c = search needs
+shared-slice-read-t18 : tie.Need-shared-slice-read-t18
+shared-slice-read-t18 c = search needs
 
-shared-slice-read-t19 : tie.Need-shared-slice-read-t19
-shared-slice-read-t19 c = search needs
+shared-slice-read-t20 : tie.Need-shared-slice-read-t20
+shared-slice-read-t20 c = search needs
 
-cast-t20 : tie.Need-cast-t20
-cast-t20 c = search needs
+cast-t21 : tie.Need-cast-t21
+cast-t21 c = search needs
 
-sub-t21 : tie.Need-sub-t21
-sub-t21 c = search needs
+sub-t22 : tie.Need-sub-t22
+sub-t22 c = search needs
 
-mul-t22 : tie.Need-mul-t22
-mul-t22 c = search needs
+mul-t23 : tie.Need-mul-t23
+mul-t23 c = search needs
 
-add-t24 : tie.Need-add-t24
-add-t24 c = search needs
+add-t25 : tie.Need-add-t25
+add-t25 c = search needs
 
-sub-t25 : tie.Need-sub-t25
-sub-t25 c = search needs
+sub-t26 : tie.Need-sub-t26
+sub-t26 c = search needs
 
 returns : tie.Need-returns
 returns c =
     let k = c .before .before .before .before in
     let n = k .before .before .before in
     let s = n .before .before .before in
-    let named = name-copied (s .args .img .now) (s .args .slot .now) (s .pre .full) (k .copy .ensures .1) in
-    told-of (s .args .img .now) (s .args .slot .now) named (n .sector-count .ensures .count) (omega arith)
+    let named = name-copied (s .args .slot .now) (s .pre .full) (k .copy .ensures .1) in
+    told-of (s .args .slot .now) _ (s .args .img .now) named (n .sector-count .ensures .count) (omega arith)
 
 pub tell-slot-spec : {M : Type 1} → statement M
 tell-slot-spec =
@@ -65,12 +65,12 @@ tell-slot-spec =
     part-copy-end
     slice-aggregate-copy
     copy-requires
-    shared-slice-read-t14
-    shared-slice-read-t17
-    shared-slice-read-t19
-    cast-t20
-    sub-t21
-    mul-t22
-    add-t24
-    sub-t25
+    shared-slice-read-t15
+    shared-slice-read-t18
+    shared-slice-read-t20
+    cast-t21
+    sub-t22
+    mul-t23
+    add-t25
+    sub-t26
     returns)

@@ -17,14 +17,14 @@ clear-chain-requires c κs =
     rw (m .map-of .ensures, m .before .before .first-of .ensures) (m .before .before .before .before .before .pre .chain)
 
 clear-slot-requires : tie.Need-clear-slot-requires
-clear-slot-requires c κs = omega (arith, c .before .before .before .before .before .before .before .before .before .before .before .pre .place)
+clear-slot-requires c κs = omega (arith, c .before .before .before .before .before .before .before .before .before .before .before .before .pre .place)
 
 same-length : tie.Need-same-length
 same-length c = search needs
 
 returns : tie.Need-returns
 returns c =
-    let k = c .before .before .before .before .before .before in
+    let k = c .before .before .before .before .before .before .before in
     file-cleared (k .before .before .before .before .before .first-of .ensures) (k .clear-chain .ensures) (c .before .before .clear-slot .ensures)
 
 pub clear-file-spec : {M : Type 1} → statement M

@@ -1,6 +1,7 @@
 -- `scratching::clear_slot` meets its contract: the slot zeroed, and the map over it. Assumes nothing.
 use native.Mathlib.Omega.{arith}
 use mathlib.Core.Path.{refl}
+use Rattle.geometry.specs.Layout.{geometryOf}
 use Rattle.scratching.proofs.WrittenLaws.{slot-cleared}
 use borrow.Author.Needs.{needs}
 use Rattle.scratching.proofs.clear_slot.Statement.{statement}
@@ -30,7 +31,8 @@ same-length c = search needs
 returns : tie.Need-returns
 returns c =
     let a = c .before .before .before .before .before .before .before .before .before .before .args in
-    slot-cleared (a .map) (a .img .now) (a .holder) (a .index) (c .before .before .before .before .before .before .overwrite-in .ensures) (omega arith) (omega arith) refl (c .before .before .write-map .ensures)
+    slot-cleared (geometryOf (a .layout)) (a .map .now) (a .img .now) (a .holder) (a .index)
+    (c .before .before .before .before .before .before .overwrite-in .ensures) (omega arith) (omega arith) refl (c .before .before .write-map .ensures)
 
 pub clear-slot-spec : {M : Type 1} → statement M
 clear-slot-spec =

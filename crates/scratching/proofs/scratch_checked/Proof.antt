@@ -22,8 +22,8 @@ returns : tie.Need-returns
 unfolding faultOf
 returns c =
     let s = c .before .before .before .before .before .before in
-    scratch-refused (s .args .img .now) (s .args .name .now) WriteForbidden (c .refuse .ensures)
-    (forbidden (s .pre .0) (s .args .name .now) (s .pre .1) (sym (c .before .before .may-write .ensures) ∙ not-true _ (c .before .if1 .taken)))
+    scratch-refused _ (s .args .img .now) (s .args .name .now) WriteForbidden (c .refuse .ensures)
+    (forbidden _ (s .pre .0) (s .args .name .now) (s .pre .1) (sym (c .before .before .may-write .ensures) ∙ not-true _ (c .before .if1 .taken)))
 
 scratch-named-requires : tie.Need-scratch-named-requires
 scratch-named-requires c κs =

@@ -5,6 +5,7 @@ use Rattle.answers.specs.Faults.{faultOf}
 use Rattle.scratching.proofs.ReplyLaws.{scratch-refused, scratch-done}
 use Rattle.scratching.proofs.FoundLaws.{none-named, slot-below, file-there, some-named}
 use borrow.Author.Needs.{needs}
+use Rattle.geometry.proofs.TableLaws.{known-of}
 use Rattle.scratching.proofs.scratch_named.Statement.{statement}
 use Rattle.scratching.proofs.scratch_named.Tie as tie
 
@@ -21,13 +22,18 @@ returns : tie.Need-returns
 unfolding faultOf
 returns c =
     let s = c .before .before .before .before .before .before in
-    scratch-refused (s .args .img .now) (s .args .name .now) NotFound (c .refuse .ensures) (none-named (s .pre) (c .before .before .slot-named .ensures) (c .before .if1 .taken))
+    scratch-refused _ (s .args .img .now) (s .args .name .now) NotFound (c .refuse .ensures)
+    (none-named _ (known-of (s .args .layout)) (s .pre) (c .before .before .slot-named .ensures) (c .before .if1 .taken))
 
 element-copy-out-scratch-slot : tie.Need-element-copy-out-scratch-slot
-element-copy-out-scratch-slot c = omega (arith, slot-below (c .before .before .before .before .before .before .pre) (c .before .before .slot-named .ensures) (c .before .if1 .left))
+element-copy-out-scratch-slot c =
+    let s = c .before .before .before .before .before .before in
+    omega (arith, slot-below _ (known-of (s .args .layout)) (s .pre) (c .before .before .slot-named .ensures) (c .before .if1 .left))
 
 scratch-slot-requires : tie.Need-scratch-slot-requires
-scratch-slot-requires c κs = file-there (c .before .before .before .before .before .before .before .pre) (c .before .before .before .slot-named .ensures) (c .before .before .if1 .left)
+scratch-slot-requires c κs =
+    let s = c .before .before .before .before .before .before .before in
+    file-there _ (known-of (s .args .layout)) (s .pre) (c .before .before .before .slot-named .ensures) (c .before .before .if1 .left)
 
 same-length-2 : tie.Need-same-length-2
 same-length-2 c = search needs
@@ -35,7 +41,9 @@ same-length-2 c = search needs
 returns-2 : tie.Need-returns-2
 returns-2 c =
     let s = c .before .before .before .before .before .before .before .before .before .before in
-    scratch-done (s .args .img .now) (s .args .name .now) _ (some-named (s .pre) (c .before .before .before .before .before .before .slot-named .ensures) (c .before .before .before .before .before .if1 .left)) (c .before .before .scratch-slot .ensures)
+    let i = c .before .before .before .before .before in
+    scratch-done _ (s .args .img .now) (s .args .name .now) _
+    (some-named _ (known-of (s .args .layout)) (s .pre) (i .before .slot-named .ensures) (i .if1 .left)) (c .before .before .scratch-slot .ensures)
 
 pub scratch-named-spec : {M : Type 1} → statement M
 scratch-named-spec =

@@ -1,58 +1,70 @@
--- `free_total`. The loop keeps `Adding`: the counts of the tracks below t are added. What falls is the number of tracks left.
-use Prim.Native.Nat.{_*_, _-_}
+-- `free_total`: two runs of counts, and a third where the layout has more than 35 tracks.
+use Prim.Native.Nat.{ℕ, _<_}
 use native.Mathlib.Omega.{arith}
-use mathlib.Core.Logic.{⊎-elim}
-use Rattle.sleeve.proofs.FreeLaws.{Adding, adding-start, adding-moved, adding-skipped, adding-finished}
+use borrow.Author.Needs.{needs}
+use Rattle.d64spec.specs.Lists.{byte}
+use Rattle.geometry.proofs.MapPlaceLaws.{extra-small}
+use Rattle.sleeve.proofs.FreeLaws.{counts-small, free-without, free-with}
 use Rattle.sleeve.proofs.free_total.Statement.{statement}
 use Rattle.sleeve.proofs.free_total.Tie as tie
 
-abbrev Inv-loop : tie.InvT-loop
-Inv-loop map sum₀ t₀ sum t = Adding map sum t
+sum-counts-requires : tie.Need-sum-counts-requires
+sum-counts-requires c κs = search needs
 
-abbrev μ-loop : tie.MeasureT-loop
-μ-loop map sum₀ t₀ sum t = 36 - t
+sum-counts-requires-2 : tie.Need-sum-counts-requires-2
+sum-counts-requires-2 c κs = search needs
 
-loop-holds : tie.Need-loop-holds Inv-loop μ-loop
-loop-holds c = adding-start _
+add-most : tie.Need-add-most
+add-most c =
+    let k = c .before .before in
+    let m = k .before .args .map .now in
+    let small : (i : ℕ) → byte m i < 256 = λ i. omega (arith, k .shared-slice-known .given i) in
+    omega (arith, c .before .sum-counts .ensures, c .sum-counts2 .ensures, counts-small m small 4 17, counts-small m small 76 17)
 
-mul-sum : tie.Need-mul-sum Inv-loop μ-loop
-mul-sum c = omega arith
+extra-entries-requires : tie.Need-extra-entries-requires
+extra-entries-requires c κs = search needs
 
-shared-slice-read-sum : tie.Need-shared-slice-read-sum Inv-loop μ-loop
-shared-slice-read-sum c = omega arith
+returns : tie.Need-returns
+returns c =
+    let e = c .before in
+    let s = e .before in
+    let layout = s .before .before .before .args .layout in
+    free-without layout _ (omega (arith, c .if1 .taken, e .extra-entries .ensures)) (s .before .sum-counts .ensures) (s .sum-counts2 .ensures)
 
-cast-sum : tie.Need-cast-sum Inv-loop μ-loop
-cast-sum c = omega (arith, c .shared-slice-known .given (4 * c .before .before .before .loop .t))
+sum-counts-requires-3 : tie.Need-sum-counts-requires-3
+sum-counts-requires-3 c κs =
+    let e = c .before in
+    let s = e .before .before .before .before in
+    (s .pre, omega (arith, e .extra-entries .ensures, extra-small (s .args .layout)))
 
-add-sum : tie.Need-add-sum Inv-loop μ-loop
-add-sum c = omega (arith, c .shared-slice-known .given (4 * c .before .before .before .loop .t))
+add-result : tie.Need-add-result
+add-result c =
+    let s = c .before .before .before in
+    let k = s .before .before in
+    let m = k .before .args .map .now in
+    let small : (i : ℕ) → byte m i < 256 = λ i. omega (arith, k .shared-slice-known .given i) in
+    let first = counts-small m small 4 17 in
+    let second = counts-small m small 76 17 in
+    let third = counts-small m small (c .before .before .extra-entries .result) 5 in
+    omega (arith, s .before .sum-counts .ensures, s .sum-counts2 .ensures, c .sum-counts3 .ensures, first, second, third)
 
-add-t : tie.Need-add-t Inv-loop μ-loop
-add-t c = omega arith
-
-loop-less : tie.Need-loop-less Inv-loop μ-loop
-loop-less c = omega arith
-
-loop-again : tie.Need-loop-again Inv-loop μ-loop
-loop-again c =
-    let l = c .before .before .loop in
-    ⊎-elim (λ w. adding-moved (l .inv) (omega arith) (λ e. w .0 .taken (omega arith)) (omega (arith, w .1 .given (4 * l .t))) (omega (arith, w .2))) (λ w. adding-skipped (l .inv) (omega arith) (omega (arith, w .0 .left)) (omega (arith, w .1))) (c .if1 .came)
-
-returns : tie.Need-returns Inv-loop μ-loop
-returns c = adding-finished (c .before .loop .inv) (omega arith)
+returns-2 : tie.Need-returns-2
+returns-2 c =
+    let e = c .before .before in
+    let s = e .before in
+    let layout = s .before .before .before .args .layout in
+    free-with layout _ (λ z. c .before .if1 .left (omega (arith, e .extra-entries .ensures)))
+    (s .before .sum-counts .ensures) (s .sum-counts2 .ensures) (c .sum-counts3 .ensures) (omega (arith, e .extra-entries .ensures))
 
 pub free-total-spec : {M : Type 1} → statement M
 free-total-spec =
     tie.close
     (tie.spec
-    Inv-loop
-    μ-loop
-    loop-holds
-    mul-sum
-    shared-slice-read-sum
-    cast-sum
-    add-sum
-    add-t
-    loop-less
-    loop-again
-    returns)
+    sum-counts-requires
+    sum-counts-requires-2
+    add-most
+    extra-entries-requires
+    returns
+    sum-counts-requires-3
+    add-result
+    returns-2)

@@ -3,6 +3,7 @@ use Prim.Native.Nat.{_+_, _*_}
 use native.Mathlib.Omega.{arith}
 use mathlib.Core.Path.{_≡_, refl}
 use borrow.Author.Needs.{needs}
+use Rattle.geometry.specs.Layout.{geometryOf}
 use Rattle.answers.specs.Faults.{whereFine}
 use Rattle.answers.specs.declared.Verdict.the-variants.{Fine}
 use Rattle.directory.specs.Directories.{occupiedFrom}
@@ -43,7 +44,8 @@ returns : tie.Need-returns
 returns c =
     let k = c .before .before .before .before .before in
     let s = k .before .before .before in
-    listed-short (s .args .track18 .now) _ _ (s .pre .whole) (length-lines (s .args .track18 .now) _ (s .pre .whole) (s .pre .inside) 0 (s .args .end)) _
+    listed-short (geometryOf (s .args .layout)) (s .args .track18 .now) _ _ (s .pre .whole)
+    (length-lines (s .args .track18 .now) _ (s .pre .whole) (s .pre .inside) 0 (s .args .end)) _
     (counted (c .before .before)) (omega arith) (c .refuse2 .ensures)
 
 sub-write-text : tie.Need-sub-write-text
@@ -61,16 +63,18 @@ write-text-requires c κs =
     let s = k .before .before .before in
     let b = s .args .track18 .now in
     let n = 43 * k .check-slots .result .files + 42 in
-    let room = listed-room b _ (s .args .text .now) (s .pre .whole) (length-lines b _ (s .pre .whole) (s .pre .inside) 0 (s .args .end)) _ (counted (c .before .before)) n refl (omega (arith, c .before .if1 .left)) in
+    let room = listed-room (geometryOf (s .args .layout)) b _ (s .args .text .now) (s .pre .whole)
+    (length-lines b _ (s .pre .whole) (s .pre .inside) 0 (s .args .end)) _ (counted (c .before .before)) n refl (omega (arith, c .before .if1 .left)) in
     record { whole = s .pre .whole; inside = s .pre .inside; size = omega (arith, room) }
 
-cast-t19 : tie.Need-cast-t19
-cast-t19 c = let k = c .before .before .before .before .before .before .before .before in omega (arith, k .check-slots .ensures .few, k .before .before .before .pre .few)
+cast-t20 : tie.Need-cast-t20
+cast-t20 c = let k = c .before .before .before .before .before .before .before .before in
+    omega (arith, k .check-slots .ensures .few, k .before .before .before .pre .few)
 
 returns-2 : tie.Need-returns-2
 returns-2 c =
     let k = c .before .before .before .before in
-    listed-refused _ _ _ _ _ (rw (c .before .before .verdict .given .1) at (k .check-slots .ensures .counted)) (c .refuse .ensures)
+    listed-refused _ _ _ _ _ _ (rw (c .before .before .verdict .given .1) at (k .check-slots .ensures .counted)) (c .refuse .ensures)
 
 same-length : tie.Need-same-length
 same-length c = search needs
@@ -80,7 +84,8 @@ returns-3 c =
     let e = c .before .before .before .before in
     let s = e .before .before .before .before .before .before .before in
     let b = s .args .track18 .now in
-    listed-done b _ _ (s .pre .whole) (length-lines b _ (s .pre .whole) (s .pre .inside) 0 (s .args .end)) _ (counted (e .before)) _ refl (omega (arith, e .if1 .left)) (c .before .before .write-text .ensures)
+    listed-done (geometryOf (s .args .layout)) b _ _ (s .pre .whole) (length-lines b _ (s .pre .whole) (s .pre .inside) 0 (s .args .end)) _
+    (counted (e .before)) _ refl (omega (arith, e .if1 .left)) (c .before .before .write-text .ensures)
 
 pub list-slots-spec : {M : Type 1} → statement M
 list-slots-spec =
@@ -98,7 +103,7 @@ list-slots-spec =
     part-write-text-start
     part-write-text-end
     write-text-requires
-    cast-t19
+    cast-t20
     returns-2
     same-length
     returns-3)

@@ -1,5 +1,6 @@
 -- `print_listing`: a reply with a fault prints its number, one without prints the text.
 use borrow.Author.Needs.{needs}
+use Rattle.geometry.proofs.TableLaws.{known-of}
 use Rattle.sleeve.proofs.OutputLaws.{prints-listing, prints-refusal}
 use Rattle.sleeve.proofs.print_listing.Statement.{statement}
 use Rattle.sleeve.proofs.print_listing.Tie as tie
@@ -22,18 +23,20 @@ print-fault-requires c κs = search needs
 enum-told : tie.Need-enum-told
 enum-told c = search needs
 
-cast-t11 : tie.Need-cast-t11
-cast-t11 c = search needs
+cast-t12 : tie.Need-cast-t12
+cast-t12 c = search needs
 
 returns : tie.Need-returns
 returns c =
     let l = c .before .before .before .before .before in
-    prints-refusal _ (l .before .before .blank-text .ensures) (l .list-track18 .ensures) _ (c .before .before .verdict .given .1) (c .print-fault .ensures)
+    prints-refusal _ (known-of (l .before .before .before .before .args .layout)) _ (l .before .before .blank-text .ensures) (l .list-track18 .ensures) _
+    (c .before .before .verdict .given .1) (c .print-fault .ensures)
 
 returns-2 : tie.Need-returns-2
 returns-2 c =
     let l = c .before .before .before .before in
-    prints-listing _ (l .before .before .blank-text .ensures) (l .list-track18 .ensures) (c .before .enum-told .given .1)
+    prints-listing _ (known-of (l .before .before .before .before .args .layout)) _ (l .before .before .blank-text .ensures) (l .list-track18 .ensures)
+    (c .before .enum-told .given .1)
 
 pub print-listing-spec : {M : Type 1} → statement M
 print-listing-spec =
@@ -45,6 +48,6 @@ print-listing-spec =
     enum-known-verdict
     print-fault-requires
     enum-told
-    cast-t11
+    cast-t12
     returns
     returns-2)

@@ -1,6 +1,7 @@
 -- `write_text`: the first line, the slots' lines and the last line fill the text.
 use native.Mathlib.Omega.{arith}
 use borrow.Author.Needs.{needs}
+use Rattle.geometry.specs.Layout.{geometryOf}
 use Rattle.sleeve.proofs.OccupiedLaws.{length-lines}
 use Rattle.sleeve.proofs.TextLaws.{room-for-lines, text-written}
 use Rattle.sleeve.proofs.write_text.Statement.{statement}
@@ -44,7 +45,8 @@ write-slots-requires c κs =
     let w = c .before .before .before in
     let s = w .before .before .before .before .before in
     let b = s .args .track18 .now in
-    let room = room-for-lines b _ (s .pre .whole) (length-lines b _ (s .pre .whole) (s .pre .inside) 0 (s .args .end)) (s .args .text .now) (s .pre .size) (w .write-head .ensures) in
+    let room = room-for-lines (geometryOf (s .args .layout)) b _ (s .pre .whole) (length-lines b _ (s .pre .whole) (s .pre .inside) 0 (s .args .end))
+    (s .args .text .now) (s .pre .size) (w .write-head .ensures) in
     record { whole = s .pre .whole; inside = s .pre .inside; size = omega (arith, room) }
 
 sub-write-free : tie.Need-sub-write-free
@@ -68,7 +70,8 @@ returns c =
     let w = q .before .before .before .before in
     let s = w .before .before .before .before .before in
     let b = s .args .track18 .now in
-    text-written b _ (s .pre .whole) (length-lines b _ (s .pre .whole) (s .pre .inside) 0 (s .args .end)) (s .args .text .now) (s .pre .size)
+    text-written (geometryOf (s .args .layout)) b _ (s .pre .whole) (length-lines b _ (s .pre .whole) (s .pre .inside) 0 (s .args .end)) (s .args .text .now)
+    (s .pre .size)
     (w .write-head .ensures) (q .write-slots .ensures) (c .before .before .write-free .ensures)
 
 pub write-text-spec : {M : Type 1} → statement M

@@ -1,8 +1,9 @@
 -- `storing::store_checked` meets its contract. In order: the DOS version; the name; the rest.
+use Rattle.geometry.proofs.TableLaws.{known-of}
 use mathlib.Core.Path.{_≡_, sym, _∙_}
 use mathlib.Core.Bool.{true}
 use borrow.Author.Tests.{not-true, not-false}
-use Rattle.d64spec.specs.Geometry.{layout35}
+use Rattle.geometry.specs.Layout.{geometryOf}
 use Rattle.d64spec.specs.Image.{disk}
 use Rattle.d64spec.specs.Reply.{writable}
 use Rattle.storing.proofs.DecisionLaws.{forbidden-reply, exists-reply, new-store}
@@ -22,10 +23,12 @@ same-length c = search needs
 returns : tie.Need-returns
 returns c =
     let s = c .before .before .before .before .before .before .before in
-    forbidden-reply (s .pre) (s .args .content .now) (sym (c .before .before .may-write .ensures) ∙ not-true _ (c .before .if1 .taken)) (c .refuse .ensures)
+    forbidden-reply _ (known-of (s .args .layout)) (s .pre) (s .args .content .now)
+    (sym (c .before .before .may-write .ensures) ∙ not-true _ (c .before .if1 .taken)) (c .refuse .ensures)
 
 -- the DOS version allows writing
-allowed : (c : tie.Else1) → writable layout35 (disk (c .before .before .before .before .before .before .args .img .now)) ≡ true
+allowed : (c : tie.Else1) → writable (geometryOf (c .before .before .before .before .before .before .args .layout))
+    (disk (c .before .before .before .before .before .before .args .img .now)) ≡ true
 allowed c = sym (c .before .may-write .ensures) ∙ not-false _ (c .if1 .left)
 
 mul-is-new : tie.Need-mul-is-new
@@ -43,10 +46,13 @@ same-length-2 c = search needs
 returns-2 : tie.Need-returns-2
 returns-2 c =
     let s = c .before .before .before .before .before .before .before .before .before .before in
-    exists-reply (s .pre) (allowed (c .before .before .before .before)) (s .args .content .now) (sym (c .before .before .is-new .ensures) ∙ not-true _ (c .before .if2 .taken)) (c .refuse2 .ensures)
+    exists-reply _ (known-of (s .args .layout)) (s .pre) (allowed (c .before .before .before .before)) (s .args .content .now)
+    (sym (c .before .before .is-new .ensures) ∙ not-true _ (c .before .if2 .taken)) (c .refuse2 .ensures)
 
 store-new-requires : tie.Need-store-new-requires
-store-new-requires c κs = new-store (c .before .before .before .before .before .before .before .before .before .before .pre) (allowed (c .before .before .before .before)) (sym (c .before .before .is-new .ensures) ∙ not-false _ (c .before .if2 .left))
+store-new-requires c κs = new-store _ (known-of (c .before .before .before .before .before .before .before .before .before .before .args .layout))
+    (c .before .before .before .before .before .before .before .before .before .before .pre) (allowed (c .before .before .before .before))
+    (sym (c .before .before .is-new .ensures) ∙ not-false _ (c .before .if2 .left))
 
 same-length-3 : tie.Need-same-length-3
 same-length-3 c = search needs

@@ -1,4 +1,5 @@
 -- `storing::store_new` meets its contract. In order: the map; room for the entry; the rest.
+use Rattle.geometry.proofs.TableLaws.{known-of}
 use native.Mathlib.Omega.{arith}
 use Rattle.storing.proofs.RoomLaws.{count-some}
 use Rattle.storing.proofs.DecisionLaws.{full-reply, placed-store}
@@ -22,7 +23,11 @@ enum-known-room : tie.Need-enum-known-room
 enum-known-room c = search needs
 
 sub-store-placed : tie.Need-sub-store-placed
-sub-store-placed c = omega (arith, count-some (c .before .before .before .before .before .before .before .before .before .before .before .before .pre .checked .directory))
+sub-store-placed c = omega (
+  arith,
+  count-some _ (known-of (c .before .before .before .before .before .before .before .before .before .before .before .before .args .layout))
+      (c .before .before .before .before .before .before .before .before .before .before .before .before .pre .checked .directory),
+)
 
 element-copy-out-store-placed : tie.Need-element-copy-out-store-placed
 element-copy-out-store-placed c = search needs
@@ -31,7 +36,8 @@ store-placed-requires : tie.Need-store-placed-requires
 store-placed-requires c κs =
     let r = c .before .before .before .before in
     let m = r .before .before .before .before .before in
-    placed-store (m .before .before .before .before .before .pre) (m .map-of .ensures) (r .before .before .room-in .ensures) (r .room .given .1)
+    placed-store _ (known-of (m .before .before .before .before .before .args .layout)) (m .before .before .before .before .before .pre) (m .map-of .ensures)
+    (r .before .before .room-in .ensures) (r .room .given .1)
 
 same-length : tie.Need-same-length
 same-length c = search needs
@@ -39,7 +45,8 @@ same-length c = search needs
 returns : tie.Need-returns
 returns c =
     let s = c .before .before .before .before .before .before .before .before .before .before .before in
-    full-reply (s .pre) (s .args .content .now) (c .before .before .before .room-in .ensures) (c .before .enum-told .given .1) (c .refuse .ensures)
+    full-reply _ (known-of (s .args .layout)) (s .pre) (s .args .content .now) (c .before .before .before .room-in .ensures) (c .before .enum-told .given .1)
+    (c .refuse .ensures)
 
 same-length-2 : tie.Need-same-length-2
 same-length-2 c = search needs

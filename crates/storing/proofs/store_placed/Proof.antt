@@ -1,4 +1,5 @@
 -- `storing::store_placed` meets its contract. In order: content that no disk holds; the sectors needed; the free ones; what is written.
+use Rattle.geometry.proofs.TableLaws.{known-of}
 use native.Mathlib.Omega.{arith}
 use lib.ListN.{length-take}
 use Rattle.storing.proofs.DecisionLaws.{long-reply, few-reply, write-ready, done-reply}
@@ -12,7 +13,7 @@ refuse-requires c κs = search needs
 returns : tie.Need-returns
 returns c =
     let s = c .before .before .before .before .before in
-    long-reply (s .pre) (s .args .content .now) (omega arith) (c .refuse .ensures)
+    long-reply _ (known-of (s .args .layout)) (s .pre) (s .args .content .now) (omega arith) (c .refuse .ensures)
 
 sectors-needed-requires : tie.Need-sectors-needed-requires
 sectors-needed-requires c κs = omega arith
@@ -30,7 +31,8 @@ returns-2 : tie.Need-returns-2
 returns-2 c =
     let s = c .before .before .before .before .before .before .before .before .before .before in
     let n = c .before .before .before .before .before .sectors-needed .ensures in
-    few-reply (s .pre) (s .args .content .now) n (omega arith) (c .before .before .before .place-sectors .ensures) (omega arith) (c .refuse2 .ensures)
+    few-reply _ (known-of (s .args .layout)) (s .pre) (s .args .content .now) n (omega arith) (c .before .before .before .place-sectors .ensures)
+    (omega arith) (c .refuse2 .ensures)
 
 array-share-prefix-at : tie.Need-array-share-prefix-at
 array-share-prefix-at c = search needs
@@ -42,13 +44,14 @@ write-file-requires : tie.Need-write-file-requires
 write-file-requires c κs =
     let s = c .before .before .before .before .before .before .before .before .before .before .before in
     let n = c .before .before .before .before .before .before .sectors-needed .ensures in
-    write-ready (s .pre) (s .args .content .now) n (omega arith) (c .before .before .before .before .place-sectors .ensures) (omega arith)
-
-cast-t22 : tie.Need-cast-t22
-cast-t22 c = search needs
+    write-ready _ (known-of (s .args .layout)) (s .pre) (s .args .content .now) n (omega arith) (c .before .before .before .before .place-sectors .ensures)
+    (omega arith)
 
 cast-t23 : tie.Need-cast-t23
 cast-t23 c = search needs
+
+cast-t24 : tie.Need-cast-t24
+cast-t24 c = search needs
 
 same-length : tie.Need-same-length
 same-length c = search needs
@@ -57,7 +60,8 @@ returns-3 : tie.Need-returns-3
 returns-3 c =
     let s = c .before .before .before .before .before .before .before .before .before .before .before .before .before .before in
     let n = c .before .before .before .before .before .before .before .before .before .sectors-needed .ensures in
-    done-reply (s .pre) (s .args .content .now) n (omega arith) (c .before .before .before .before .before .before .before .place-sectors .ensures) (omega arith) (c .before .before .write-file .ensures)
+    done-reply _ (known-of (s .args .layout)) (s .pre) (s .args .content .now) n (omega arith)
+    (c .before .before .before .before .before .before .before .place-sectors .ensures) (omega arith) (c .before .before .write-file .ensures)
 
 pub store-placed-spec : {M : Type 1} → statement M
 store-placed-spec =
@@ -73,7 +77,7 @@ store-placed-spec =
     array-share-prefix-at
     slice-aggregate-write-file
     write-file-requires
-    cast-t22
     cast-t23
+    cast-t24
     same-length
     returns-3)

@@ -11,6 +11,8 @@ use Rattle.d64spec.specs.Chain.{to}
 use Rattle.d64spec.proofs.BitLaws.{shifted}
 use Rattle.links.specs.Links.{linkOf}
 use Rattle.owners.specs.Masks.{ownedMask}
+use Rattle.directory.specs.Walks.{layout18}
+use Rattle.directory.proofs.Layout18Laws.{sectors-of-18}
 use Rattle.directory.proofs.WalkLaws.{Walks, directoryWalk, freePlaces, walks-start, walks-moved, walks-again, used-moved, used-room}
 use Rattle.directory.proofs.WalkLaws.{walked-ends, walked-bad, walked-owned}
 use Rattle.directory.proofs.walk.walk_directory.Statement.{statement}
@@ -18,7 +20,7 @@ use Rattle.directory.proofs.walk.walk_directory.Tie as tie
 
 abbrev Inv-loop : tie.InvT-loop
 Inv-loop track18 own₀ marked sectors₀ count₀ holder₀ next₀ used₀ own sectors count holder next used =
-    Walks track18 (directoryWalk track18 own₀) own sectors count holder (to (address 18 next)) × (used ≡ ownedMask own 357 19)
+    Walks track18 (directoryWalk track18 own₀) own sectors count holder (to (address 18 next)) × (used ≡ ownedMask own 0 19)
 
 abbrev μ-loop : tie.MeasureT-loop
 μ-loop track18 own₀ marked sectors₀ count₀ holder₀ next₀ used₀ own sectors count holder next used = freePlaces own
@@ -28,9 +30,6 @@ loop-holds c = (walks-start _ _ (c .before .pre .1), c .before .pre .2)
 
 cast-n : tie.Need-cast-n Inv-loop μ-loop
 cast-n c = search needs
-
-add-n : tie.Need-add-n Inv-loop μ-loop
-add-n c = search needs
 
 element-copy-out-if1 : tie.Need-element-copy-out-if1 Inv-loop μ-loop
 element-copy-out-if1 c = search needs
@@ -88,7 +87,7 @@ directory-link-requires c κs = search needs
 -- the used sectors with 18/next, which is now the directory's
 used : (c : tie.After-directory-link Inv-loop μ-loop)
     → let l = c .before .before .before .before .before .loop in
-    (l .used + 1 * 2 ^ l .next % 4294967296) ≡ ownedMask (set (l .own) (357 + l .next) 2) 357 19
+    (l .used + 1 * 2 ^ l .next % 4294967296) ≡ ownedMask (set (l .own) (l .next) 2) 0 19
 used c =
     let e = c .before .before .before in
     let l = e .before .before .loop in
@@ -98,8 +97,10 @@ used c =
 met : (c : tie.After-directory-link Inv-loop μ-loop)
     → let l = c .before .before .before .before .before .loop in
     let a = c .before .before .before .before .before .before .before .args in
-    Walks (a .track18 .now) (directoryWalk (a .track18 .now) (a .own .now)) (set (l .own) (357 + l .next) 2) (set (l .sectors) (l .count) (l .next)) (l .count + 1) (l .next) (linkOf (c .directory-link .result))
-met c = let e = c .before .before .before in rw (c .directory-link .ensures) (walks-moved (e .before .before .loop .inv .0) (e .if1 .left) .walks)
+    Walks (a .track18 .now) (directoryWalk (a .track18 .now) (a .own .now)) (set (l .own) (l .next) 2) (set (l .sectors) (l .count) (l .next)) (l .count + 1)
+    (l .next) (linkOf (c .directory-link .result))
+met c = let e = c .before .before .before in rw (c .directory-link .ensures layout18 sectors-of-18)
+    (walks-moved (e .before .before .loop .inv .0) (e .if1 .left) .walks)
 
 enum-told : tie.Need-enum-told Inv-loop μ-loop
 enum-told c = search needs
@@ -149,7 +150,6 @@ walk-directory-spec =
     μ-loop
     loop-holds
     cast-n
-    add-n
     element-copy-out-if1
     place-of-requires
     walk-of-requires

@@ -1,4 +1,4 @@
--- `diskcheck::chain::add_mask` meets its contract: a track of the disk has its bits more, and any other changes nothing.
+-- `diskcheck::chain::add_mask` meets its contract: a track of 1 to 40 has its bits more, and any other changes nothing.
 use native.Mathlib.Omega.{arith}
 use mathlib.Core.Path.{sym}
 use borrow.Author.Needs.{needs}

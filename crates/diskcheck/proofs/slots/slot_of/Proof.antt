@@ -1,5 +1,7 @@
 -- `diskcheck::slots::slot_of` meets its contract: track 18 is lent as it is in the image.
+use native.Mathlib.Omega.{arith}
 use borrow.Author.Needs.{needs}
+use Rattle.geometry.proofs.TableLaws.{known-of}
 use Rattle.diskcheck.proofs.TrackLaws.{slot-lent}
 use Rattle.diskcheck.proofs.slots.slot_of.Statement.{statement}
 use Rattle.diskcheck.proofs.slots.slot_of.Tie as tie
@@ -11,13 +13,15 @@ part-slot-at-start : tie.Need-part-slot-at-start
 part-slot-at-start c = search needs
 
 part-slot-at-end : tie.Need-part-slot-at-end
-part-slot-at-end c = search needs
+part-slot-at-end c = let e = c .before in omega (arith, known-of (e .args .layout) .past18, e .pre .0)
 
 slot-at-requires : tie.Need-slot-at-requires
 slot-at-requires c κs = search needs
 
 returns : tie.Need-returns
-returns c = let e = c .before .before .before in slot-lent {img = e .args .img .now} (e .pre .0) (e .pre .1) (c .slot-at .ensures)
+returns c =
+    let e = c .before .before .before in
+    slot-lent _ (known-of (e .args .layout)) {img = e .args .img .now} (e .pre .0) (e .pre .1) (c .slot-at .ensures)
 
 pub slot-of-spec : {M : Type 1} → statement M
 slot-of-spec = tie.close (tie.spec sub-slot-at part-slot-at-start part-slot-at-end slot-at-requires returns)

@@ -1,4 +1,6 @@
 -- `storing::room::room_in` meets its contract: the room found on track 18 is where the definitions put the entry.
+use native.Mathlib.Omega.{arith}
+use Rattle.geometry.proofs.TableLaws.{known-of}
 use Rattle.storing.proofs.RoomLaws.{room-is}
 use borrow.Author.Needs.{needs}
 use Rattle.storing.proofs.room.room_in.Statement.{statement}
@@ -11,7 +13,7 @@ part-entry-room-start : tie.Need-part-entry-room-start
 part-entry-room-start c = search needs
 
 part-entry-room-end : tie.Need-part-entry-room-end
-part-entry-room-end c = search needs
+part-entry-room-end c = let z = c .before in omega (arith, known-of (z .args .layout) .past18, z .pre .directory .slots .size)
 
 mul-entry-room : tie.Need-mul-entry-room
 mul-entry-room c = search needs
@@ -20,7 +22,7 @@ entry-room-requires : tie.Need-entry-room-requires
 entry-room-requires c κs = search needs
 
 returns : tie.Need-returns
-returns c = room-is (c .before .before .before .pre) (c .entry-room .ensures)
+returns c = room-is _ (known-of (c .before .before .before .args .layout)) (c .before .before .before .pre) (c .entry-room .ensures)
 
 pub room-in-spec : {M : Type 1} → statement M
 room-in-spec =

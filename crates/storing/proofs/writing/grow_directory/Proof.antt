@@ -1,5 +1,6 @@
 -- `storing::writing::grow_directory` meets its contract: the new sector is written whole, and two bytes of the last one are overwritten. Assumes nothing.
 use native.Mathlib.Omega.{arith}
+use Rattle.geometry.proofs.TableLaws.{known-of}
 use Rattle.storing.proofs.EntryWriteLaws.{directory-grown}
 use borrow.Author.Needs.{needs}
 use Rattle.storing.proofs.writing.grow_directory.Statement.{statement}
@@ -32,7 +33,9 @@ same-length c = omega arith
 returns : tie.Need-returns
 returns c =
     let b = c .before .before .before .before .before .before .before .before .before .before .before .before in
-    directory-grown (b .pre) (c .before .before .before .before .before .before .before .before .before .empty-directory-sector .ensures) (c .before .before .before .before .before .before .before .write-sector .ensures) (c .before .before .overwrite-in .ensures) (omega arith) (omega arith)
+    directory-grown _ (known-of (b .args .layout)) (b .pre)
+    (c .before .before .before .before .before .before .before .before .before .empty-directory-sector .ensures)
+    (c .before .before .before .before .before .before .before .write-sector .ensures) (c .before .before .overwrite-in .ensures) (omega arith) (omega arith)
 
 pub grow-directory-spec : {M : Type 1} → statement M
 grow-directory-spec =

@@ -1,4 +1,5 @@
 -- `storing::writing::write_chain` meets its contract: the loop's invariant says what is written from place i on, whatever image the last sector was written on (proofs/ChainWriteLaws). Assumes nothing.
+use Rattle.geometry.specs.Layout.{geometryOf}
 use lib.ListN.{length-take, length-drop}
 use Prim.Native.Nat.{_-_}
 use native.Mathlib.Omega.{arith}
@@ -8,10 +9,10 @@ use Rattle.storing.proofs.writing.write_chain.Statement.{statement}
 use Rattle.storing.proofs.writing.write_chain.Tie as tie
 
 abbrev Inv-loop : tie.InvT-loop
-Inv-loop img₀ places content map₀ firsts i₀ img map i = Advancing places content i₀ img₀ map₀ i img map
+Inv-loop layout img₀ places content map₀ firsts i₀ img map i = Advancing (geometryOf layout) places content i₀ img₀ map₀ i img map
 
 abbrev μ-loop : tie.MeasureT-loop
-μ-loop img₀ places content map₀ firsts i₀ img map i = i
+μ-loop layout img₀ places content map₀ firsts i₀ img map i = i
 
 sub-i : tie.Need-sub-i Inv-loop μ-loop
 sub-i c = omega arith
@@ -37,10 +38,10 @@ part-write-last-end c = omega arith
 write-last-requires : tie.Need-write-last-requires Inv-loop μ-loop
 write-last-requires c κs =
     let b = c .before .before .before .before .before .before .before in
-    (place-ready (b .pre) _ (omega (arith, b .pre .some)) refl, length-lastBytes (b .pre) _ (omega (arith, b .pre .some)))
+    (place-ready _ (b .pre) _ (omega (arith, b .pre .some)) refl, length-lastBytes _ (b .pre) _ (omega (arith, b .pre .some)))
 
 loop-holds : tie.Need-loop-holds Inv-loop μ-loop
-loop-holds c = advancing-start _
+loop-holds c = advancing-start _ _
 
 mul-next : tie.Need-mul-next Inv-loop μ-loop
 mul-next c = omega arith
@@ -78,8 +79,12 @@ part-write-linked-end c = omega arith
 write-linked-requires : tie.Need-write-linked-requires Inv-loop μ-loop
 write-linked-requires c κs =
     let l = c .before .before .before .before .before .before .loop in
-    let b = c .before .before .before .before .before .before .before .before .before .before .before .before .before .before .before .before .before in
-    (place-ready (b .pre) (l .i - 1) (omega (arith, b .pre .some, l .inv .below)) (l .inv .size ∙ c .before .before .before .before .before .before .before .before .before .write-last .ensures .size), simp (length-take, length-drop) (omega (arith, b .pre .some, b .pre .full, l .inv .below)))
+    let b = c .before .before .before .before .before .before .before .before .before .before .before .before .before .before .before .before .before in (
+      place-ready _ (b .pre) (l .i - 1) (omega (arith, b .pre .some, l .inv .below))
+          (l .inv .size ∙ c .before .before .before .before .before .before .before .before .before .write-last .ensures .size),
+      simp (length-take, length-drop)
+          (omega (arith, b .pre .some, b .pre .full, l .inv .below)),
+    )
 
 loop-less : tie.Need-loop-less Inv-loop μ-loop
 loop-less c = omega arith
@@ -87,7 +92,7 @@ loop-less c = omega arith
 loop-again : tie.Need-loop-again Inv-loop μ-loop
 loop-again c =
     let l = c .before .before .before .before .before .before .before .before .before .loop in
-    advancing-more (l .inv) (l .i - 1) (omega arith) (c .before .before .write-linked .ensures) refl
+    advancing-more _ (l .inv) (l .i - 1) (omega arith) (c .before .before .write-linked .ensures) refl
 
 same-length : tie.Need-same-length Inv-loop μ-loop
 same-length c = c .before .loop .inv .size ∙ c .before .before .before .before .write-last .ensures .size
@@ -97,7 +102,7 @@ returns c =
     let b = c .before .before .before .before .before .before .before .before .before .before .before .before in
     let w = c .before .before .before .before .write-last .ensures in
     let l = c .before .loop in
-    chain-written (l .inv .writing _ _ (writing-last (omega (arith, b .pre .some)) w)) (omega arith)
+    chain-written _ (l .inv .writing _ _ (writing-last _ (omega (arith, b .pre .some)) w)) (omega arith)
 
 pub write-chain-spec : {M : Type 1} → statement M
 write-chain-spec =

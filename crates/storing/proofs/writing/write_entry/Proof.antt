@@ -1,5 +1,6 @@
 -- `storing::writing::write_entry` meets its contract: the entry is overwritten on the image as it is, or on the one whose directory has grown. Assumes nothing.
 use native.Mathlib.Omega.{arith}
+use Rattle.geometry.proofs.TableLaws.{known-of}
 use Rattle.storing.proofs.EntryWriteLaws.{entry-laid}
 use mathlib.Core.Logic.{inl, inr, ⊎-elim}
 use borrow.Author.Needs.{needs}
@@ -30,7 +31,8 @@ overwrite-in-requires c κs = search needs
 returns : tie.Need-returns
 returns c =
     let b = c .before .before .before .before .before .before .before .before .before in
-    entry-laid (b .pre) (⊎-elim (λ w. inl (w .0 .taken, _, w .2 .ensures, w .5)) (λ w. inr (w .0 .left, w .1)) (c .before .before .before .before .before .before .before .if1 .came)) (c .before .before .overwrite-in .ensures) (omega arith) (omega arith)
+    entry-laid _ (known-of (b .args .layout)) (b .pre) (⊎-elim (λ w. inl (w .0 .taken, _, w .2 .ensures, w .5)) (λ w. inr (w .0 .left, w .1))
+    (c .before .before .before .before .before .before .before .if1 .came)) (c .before .before .overwrite-in .ensures) (omega arith) (omega arith)
 
 same-length : tie.Need-same-length
 same-length c = returns c .size

@@ -1,4 +1,5 @@
 -- `storing::writing::write_last` meets its contract: what comes back of the loan of the sector is the sector written, and its mark is moved. Assumes nothing.
+use Rattle.geometry.proofs.TableLaws.{known-of}
 use native.Mathlib.Omega.{arith}
 use mathlib.Core.Path.{refl}
 use Rattle.storing.proofs.SectorWriteLaws.{sector-written, length-lastSector}
@@ -10,7 +11,7 @@ start-of-requires : tie.Need-start-of-requires
 start-of-requires c κs = search needs
 
 add-fill-last : tie.Need-add-fill-last
-add-fill-last c = omega (arith, c .start-of .ensures .inside)
+add-fill-last c = omega (arith, c .start-of .ensures .inside, known-of (c .before .before .before .args .layout) .most)
 
 sub-fill-last : tie.Need-sub-fill-last
 sub-fill-last c = omega arith
@@ -34,7 +35,8 @@ returns : tie.Need-returns
 returns c =
     let b = c .before .before .before .before .before .before .before .before .before in
     let a = b .args in
-    sector-written (b .pre .0) (c .before .before .before .before .before .before .start-of .ensures) (c .before .before .before .before .fill-last .ensures) (length-lastSector (a .content .now) (b .pre .1)) (c .move-mark .ensures) refl
+    sector-written _ (b .pre .0) (c .before .before .before .before .before .before .start-of .ensures)
+    (c .before .before .before .before .fill-last .ensures) (length-lastSector (a .content .now) (b .pre .1)) (c .move-mark .ensures) refl
 
 pub write-last-spec : {M : Type 1} → statement M
 write-last-spec =

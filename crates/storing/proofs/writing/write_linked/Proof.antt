@@ -1,4 +1,5 @@
 -- `storing::writing::write_linked` meets its contract: what comes back of the loan of the sector is the sector written, and its mark is moved. Assumes nothing.
+use Rattle.geometry.proofs.TableLaws.{known-of}
 use native.Mathlib.Omega.{arith}
 use mathlib.Core.Path.{refl}
 use Rattle.storing.proofs.SectorWriteLaws.{sector-written}
@@ -10,7 +11,7 @@ start-of-requires : tie.Need-start-of-requires
 start-of-requires c κs = search needs
 
 add-fill-linked : tie.Need-add-fill-linked
-add-fill-linked c = omega (arith, c .start-of .ensures .inside)
+add-fill-linked c = omega (arith, c .start-of .ensures .inside, known-of (c .before .before .before .args .layout) .most)
 
 sub-fill-linked : tie.Need-sub-fill-linked
 sub-fill-linked c = omega arith
@@ -34,7 +35,8 @@ returns : tie.Need-returns
 returns c =
     let b = c .before .before .before .before .before .before .before .before .before in
     let a = b .args in
-    sector-written (b .pre .0) (c .before .before .before .before .before .before .start-of .ensures) (c .before .before .before .before .fill-linked .ensures) (omega (arith, b .pre .1)) (c .move-mark .ensures) refl
+    sector-written _ (b .pre .0) (c .before .before .before .before .before .before .start-of .ensures)
+    (c .before .before .before .before .fill-linked .ensures) (omega (arith, b .pre .1)) (c .move-mark .ensures) refl
 
 pub write-linked-spec : {M : Type 1} → statement M
 write-linked-spec =
