@@ -13,20 +13,20 @@
 
 /* The calls of one archive. */
 struct library {
-    uint32_t (*check)(const uint8_t *, size_t, uint8_t *, size_t);
-    uint32_t (*format)(uint8_t *, size_t, const uint8_t *, size_t, uint8_t, uint8_t, uint8_t *, size_t);
-    uint32_t (*store)(uint8_t *, size_t, const uint8_t *, size_t, uint32_t, const uint8_t *, size_t, uint8_t *, size_t);
-    uint32_t (*scratch)(uint8_t *, size_t, const uint8_t *, size_t, uint8_t *, size_t);
-    uint32_t (*listing)(const uint8_t *, size_t, uint8_t *, size_t, uint8_t *, size_t);
+    uint32_t (*check)(uint32_t, const uint8_t *, size_t, uint8_t *, size_t);
+    uint32_t (*format)(uint32_t, uint8_t *, size_t, const uint8_t *, size_t, uint8_t, uint8_t, uint8_t *, size_t);
+    uint32_t (*store)(uint32_t, uint8_t *, size_t, const uint8_t *, size_t, uint32_t, const uint8_t *, size_t, uint8_t *, size_t);
+    uint32_t (*scratch)(uint32_t, uint8_t *, size_t, const uint8_t *, size_t, uint8_t *, size_t);
+    uint32_t (*listing)(uint32_t, const uint8_t *, size_t, uint8_t *, size_t, uint8_t *, size_t);
 };
 
 #define DECLARE(prefix)                                                                                               \
-    uint32_t prefix##d64_check(const uint8_t *, size_t, uint8_t *, size_t);                                           \
-    uint32_t prefix##d64_format(uint8_t *, size_t, const uint8_t *, size_t, uint8_t, uint8_t, uint8_t *, size_t);     \
-    uint32_t prefix##d64_store(uint8_t *, size_t, const uint8_t *, size_t, uint32_t, const uint8_t *, size_t,         \
+    uint32_t prefix##d64_check(uint32_t, const uint8_t *, size_t, uint8_t *, size_t);                                           \
+    uint32_t prefix##d64_format(uint32_t, uint8_t *, size_t, const uint8_t *, size_t, uint8_t, uint8_t, uint8_t *, size_t);     \
+    uint32_t prefix##d64_store(uint32_t, uint8_t *, size_t, const uint8_t *, size_t, uint32_t, const uint8_t *, size_t,         \
                                uint8_t *, size_t);                                                                    \
-    uint32_t prefix##d64_scratch(uint8_t *, size_t, const uint8_t *, size_t, uint8_t *, size_t);                       \
-    uint32_t prefix##d64_listing(const uint8_t *, size_t, uint8_t *, size_t, uint8_t *, size_t)
+    uint32_t prefix##d64_scratch(uint32_t, uint8_t *, size_t, const uint8_t *, size_t, uint8_t *, size_t);                       \
+    uint32_t prefix##d64_listing(uint32_t, const uint8_t *, size_t, uint8_t *, size_t, uint8_t *, size_t)
 DECLARE(old_);
 DECLARE(new_);
 
@@ -37,7 +37,9 @@ static const struct library libraries[2] = {
 
 /* The disks, as many of each as a batch of stores needs. */
 #define COPIES 4
-static uint8_t disks[COPIES][D64_IMAGE_BYTES], other[D64_IMAGE_BYTES], data[168656], block[D64_BLOCK_BYTES];
+static uint8_t disks[COPIES][D64_IMAGE40_BYTES], other[D64_IMAGE40_BYTES], data[190246], block[D64_BLOCK_BYTES];
+static uint32_t layout;
+static size_t image_bytes = D64_IMAGE_BYTES; /* of the layout */
 static double taken[2][MOST_ROUNDS], taken_back[2][MOST_ROUNDS];
 static size_t rounds;
 
@@ -77,15 +79,15 @@ static void must(uint32_t answer)
 /* A disk with as many files of so many bytes: each copy of it. */
 static void make_disk(int files, size_t bytes)
 {
-    must(libraries[0].format(disks[0], D64_IMAGE_BYTES, (const uint8_t *)"BENCH", 5, '0', '1', block, sizeof block));
+    must(libraries[0].format(layout, disks[0], image_bytes, (const uint8_t *)"BENCH", 5, '0', '1', block, sizeof block));
     for (int i = 1; i <= files; i++) {
         char name[17];
         int length = snprintf(name, sizeof name, "FILE %03d", i);
-        must(libraries[0].store(disks[0], D64_IMAGE_BYTES, (const uint8_t *)name, (size_t)length, 2, data, bytes, block,
+        must(libraries[0].store(layout, disks[0], image_bytes, (const uint8_t *)name, (size_t)length, 2, data, bytes, block,
                                 sizeof block));
     }
     for (int i = 1; i < COPIES; i++)
-        memcpy(disks[i], disks[0], D64_IMAGE_BYTES);
+        memcpy(disks[i], disks[0], image_bytes);
 }
 
 static void time_check(const char *name, int files, size_t bytes, int batch)
@@ -96,7 +98,7 @@ static void time_check(const char *name, int files, size_t bytes, int batch)
             size_t which = (round + turn) % 2;
             double start = now();
             for (int i = 0; i < batch; i++)
-                must(libraries[which].check(disks[0], D64_IMAGE_BYTES, block, sizeof block));
+                must(libraries[which].check(layout, disks[0], image_bytes, block, sizeof block));
             taken[which][round] = (now() - start) / batch;
         }
     row(name, taken);
@@ -112,7 +114,7 @@ static void time_listing(const char *name, int files, size_t bytes, int batch)
             size_t which = (round + turn) % 2;
             double start = now();
             for (int i = 0; i < batch; i++)
-                must(libraries[which].listing(track18, D64_TRACK18_BYTES, text, sizeof text, block, sizeof block));
+                must(libraries[which].listing(layout, track18, D64_TRACK18_BYTES, text, sizeof text, block, sizeof block));
             taken[which][round] = (now() - start) / batch;
         }
     row(name, taken);
@@ -128,11 +130,11 @@ static void time_store(const char *store, const char *scratch, int files, size_t
             const struct library *library = &libraries[which];
             double start = now();
             for (int i = 0; i < COPIES; i++)
-                must(library->store(disks[i], D64_IMAGE_BYTES, (const uint8_t *)"NEW", 3, 1, data, stored, block,
+                must(library->store(layout, disks[i], image_bytes, (const uint8_t *)"NEW", 3, 1, data, stored, block,
                                     sizeof block));
             double middle = now();
             for (int i = 0; i < COPIES; i++)
-                must(library->scratch(disks[i], D64_IMAGE_BYTES, (const uint8_t *)"NEW", 3, block, sizeof block));
+                must(library->scratch(layout, disks[i], image_bytes, (const uint8_t *)"NEW", 3, block, sizeof block));
             taken[which][round] = (middle - start) / COPIES;
             taken_back[which][round] = (now() - middle) / COPIES;
         }
@@ -151,6 +153,24 @@ static void time_copy(void)
     printf("%-42s %8.0f\n", "copy of 174,848 bytes", median(taken[0]));
 }
 
+/* The rows of one layout; a file of 'most' bytes fills a disk. */
+static void time_layout(uint32_t number, size_t bytes, size_t most)
+{
+    layout = number;
+    image_bytes = bytes;
+    printf("layout %u\n", (unsigned)number);
+    time_check("check, empty disk", 0, 0, 200);
+    time_check("check, one file of 5,000 bytes", 1, 5000, 200);
+    time_check("check, 144 files", 144, 200, 40);
+    time_check("check, 144 files of two sectors", 144, 300, 40);
+    time_check("check, full disk", 1, most, 30);
+    time_listing("listing, empty disk", 0, 0, 200);
+    time_listing("listing, 144 files", 144, 200, 40);
+    time_store("store of 5,000 bytes, empty disk", "scratch of 5,000 bytes, no other file", 0, 0, 5000);
+    time_store("store of 5,000 bytes, 143 files", "scratch of 5,000 bytes, 143 other files", 143, 200, 5000);
+}
+
+/* The second argument is 0 where an archive has no other layouts than that. */
 int main(int count, char **arguments)
 {
     rounds = count > 1 ? strtoul(arguments[1], NULL, 10) : 1001;
@@ -160,14 +180,10 @@ int main(int count, char **arguments)
         data[i] = (uint8_t)(i * 7 + i / 256);
     printf("%-42s %8s %8s %7s\n", "ns", "old", "new", "ratio");
     time_copy();
-    time_check("check, empty disk", 0, 0, 200);
-    time_check("check, one file of 5,000 bytes", 1, 5000, 200);
-    time_check("check, 144 files", 144, 200, 40);
-    time_check("check, 144 files of two sectors", 144, 300, 40);
-    time_check("check, full disk", 1, sizeof data, 30);
-    time_listing("listing, empty disk", 0, 0, 200);
-    time_listing("listing, 144 files", 144, 200, 40);
-    time_store("store of 5,000 bytes, empty disk", "scratch of 5,000 bytes, no other file", 0, 0, 5000);
-    time_store("store of 5,000 bytes, 143 files", "scratch of 5,000 bytes, 143 other files", 143, 200, 5000);
+    time_layout(D64_LAYOUT_35, D64_IMAGE_BYTES, 168656);
+    if (count > 2 && strcmp(arguments[2], "0") != 0) {
+        time_layout(D64_LAYOUT_SPEEDDOS, D64_IMAGE40_BYTES, 190246);
+        time_layout(D64_LAYOUT_DOLPHIN, D64_IMAGE40_BYTES, 190246);
+    }
     return 0;
 }

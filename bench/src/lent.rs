@@ -42,6 +42,7 @@ impl Call {
 /// All memory that a call is lent, with some images alike. The same bytes for
 /// both sides.
 pub struct Lent {
+    layout: u32,
     images: Vec<Vec<u8>>,
     name: Vec<u8>,
     data: Vec<u8>,
@@ -60,6 +61,7 @@ fn slice_of(bytes: &mut [u8]) -> Slice {
 impl Lent {
     pub fn new(disk: &Disk, images: usize) -> Lent {
         Lent {
+            layout: disk.layout,
             images: vec![disk.image.clone(); images],
             name: disk.name.clone(),
             data: disk.data.clone(),
@@ -76,27 +78,30 @@ impl Lent {
     /// Makes the call once, on one of the images, and gives its number.
     #[inline(always)]
     pub fn run<L: EntryPoints + ?Sized>(&mut self, library: &L, call: Call, image: usize) -> u32 {
+        let layout = self.layout;
         let image = slice_of(&mut self.images[image]);
         let (name, data) = (slice_of(&mut self.name), slice_of(&mut self.data));
         let (out, answer) = (slice_of(&mut self.out), slice_of(&mut self.answer));
         // Separate allocations, and the parts taken of them are inside.
         unsafe {
             match call {
-                Call::Check => library.check(image, answer),
-                Call::Format => library.format(image, name, 0x30, 0x31, answer),
-                Call::Read => library.read(image, name, out, answer),
-                Call::Store | Call::StoreAgain => library.store(image, name, 2, data, answer),
-                Call::Scratch => library.scratch(image, name, answer),
+                Call::Check => library.check(layout, image, answer),
+                Call::Format => library.format(layout, image, name, 0x30, 0x31, answer),
+                Call::Read => library.read(layout, image, name, out, answer),
+                Call::Store | Call::StoreAgain => {
+                    library.store(layout, image, name, 2, data, answer)
+                }
+                Call::Scratch => library.scratch(layout, image, name, answer),
                 Call::Tell => {
                     let len = ENTRY_BYTES;
-                    library.tell(image, self.files - 1, Slice { len, ..out }, answer)
+                    library.tell(layout, image, self.files - 1, Slice { len, ..out }, answer)
                 }
                 Call::Listing => {
                     let track18 = Slice {
                         start: image.start.add(TRACK_18_OFFSET),
                         len: TRACK_18_BYTES,
                     };
-                    library.listing(track18, out, answer)
+                    library.listing(layout, track18, out, answer)
                 }
             }
         }

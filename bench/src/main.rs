@@ -8,8 +8,8 @@ mod measure;
 
 use boundary::archive::Archive;
 use boundary::calls::{EntryPoints, Faithful};
-use disks::{Disk, FILES, FULL_BYTES};
-use independent::geometry::IMAGE_BYTES;
+use disks::{full_bytes, Disk, FILES};
+use independent::geometry::{IMAGE_BYTES, IMAGE_BYTES_40};
 use lent::{Call, Lent};
 use measure::{measure, timer_cost, Samples, Times, BATCHES, IMAGES};
 
@@ -50,11 +50,11 @@ fn near_check(what: &'static str, disk: Disk, call: Call, limit: f64) -> Row {
 
 /// Calls that leave the image.
 fn reading_rows(seed: u64) -> Vec<Row> {
-    let empty = disks::empty;
+    let empty = || disks::empty(0);
     let small = || empty().with(seed, 5_000);
-    let full = || empty().with(seed, FULL_BYTES);
+    let full = || empty().with(seed, full_bytes(0));
     let (many, random) = (
-        || disks::numbered(seed, FILES),
+        || disks::numbered(0, seed, FILES),
         || disks::random_names(seed),
     );
     vec![
@@ -81,10 +81,10 @@ fn writing_rows(seed: u64) -> Vec<Row> {
         |what, disk: Disk, length, limit| row(what, disk.without(seed, length), Call::Store, limit);
     let scratch =
         |what, disk: Disk, length, limit| row(what, disk.with(seed, length), Call::Scratch, limit);
-    let (empty, half) = (disks::empty, || disks::half(seed));
+    let (empty, half) = (|| disks::empty(0), || disks::half(seed));
     let (many, all) = (
-        || disks::numbered(seed, FILES - 1),
-        || disks::numbered(seed, FILES),
+        || disks::numbered(0, seed, FILES - 1),
+        || disks::numbered(0, seed, FILES),
     );
     vec![
         row("format", empty(), Call::Format, Some(1.2)),
@@ -92,12 +92,48 @@ fn writing_rows(seed: u64) -> Vec<Row> {
         store("store 5,000, half-full disk", half(), 5_000, None),
         store("store 5,000, 143 files", many(), 5_000, None),
         near_check("store refused, 144 files", all(), Call::StoreAgain, 1.15),
-        store("store 168,656", empty(), FULL_BYTES, Some(2.4)),
+        store("store 168,656", empty(), full_bytes(0), Some(2.4)),
         scratch("scratch 5,000, no other file", empty(), 5_000, Some(0.15)),
         scratch("scratch 5,000, half-full disk", half(), 5_000, None),
         scratch("scratch 5,000, 143 others", many(), 5_000, None),
         near_check("scratch, last of 144 files", all(), Call::Scratch, 1.15),
-        scratch("scratch 168,656", empty(), FULL_BYTES, Some(3.0)),
+        scratch("scratch 168,656", empty(), full_bytes(0), Some(3.0)),
+    ]
+}
+
+/// The calls in a layout of 40 tracks, held against a copy of such an image by
+/// the limits of 35 tracks.
+fn rows_of_40(layout: u32, seed: u64) -> Vec<Row> {
+    let empty = || disks::empty(layout);
+    let (small, most) = (5_000, full_bytes(layout));
+    let full = || empty().with(seed, most);
+    let many = || disks::numbered(layout, seed, FILES);
+    vec![
+        row("check, empty disk", empty(), Call::Check, Some(0.2)),
+        row("check, 144 files", many(), Call::Check, Some(0.5)),
+        row("check, full disk", full(), Call::Check, Some(1.41)),
+        row("read 190,246", full(), Call::Read, Some(3.15)),
+        row("listing, 144 files", many(), Call::Listing, None),
+        row("format", empty(), Call::Format, Some(1.2)),
+        row(
+            "store 5,000, empty disk",
+            empty().without(seed, small),
+            Call::Store,
+            Some(0.135),
+        ),
+        row(
+            "scratch 5,000, no other file",
+            empty().with(seed, small),
+            Call::Scratch,
+            Some(0.15),
+        ),
+        row(
+            "store 190,246",
+            empty().without(seed, most),
+            Call::Store,
+            Some(2.4),
+        ),
+        row("scratch 190,246", full(), Call::Scratch, Some(3.0)),
     ]
 }
 
@@ -136,8 +172,9 @@ fn print_row(row: &Row, times: &Times) {
     let copies = matches!(row.call, Call::Read | Call::Store);
     let file_copy = copies.then_some(times.file_copy);
     println!(
-        "{:30}{:9.0}{:13.0}{:7.0}{:>11} |{to_independent:10.2}{LIMIT_TO_INDEPENDENT:7.2} \
+        "{} {:30}{:9.0}{:13.0}{:7.0}{:>11} |{to_independent:10.2}{LIMIT_TO_INDEPENDENT:7.2} \
          |{to_copy:11.3}{:>7} |{:>11}{:>7} |{:10.3}{:>11}{}",
+        row.disk.layout,
         row.what,
         times.archive,
         times.independent,
@@ -155,12 +192,13 @@ fn print_row(row: &Row, times: &Times) {
 fn print_head(seed: u64) {
     let (batches, timer) = (PASSES * BATCHES, timer_cost());
     println!(
-        "seed {seed}; an image has {IMAGE_BYTES} bytes; ns per call, medians of {batches} batches"
+        "seed {seed}; by layout, 0 to 2; an image has {IMAGE_BYTES} bytes, or {IMAGE_BYTES_40}; ns per \
+         call, medians of {batches} batches"
     );
     println!("buffers are lent as the call before left them; none is cleared first");
     println!(
         "store and scratch change the image: each is timed on {IMAGES} equal images in one go, for \
-         168,656 bytes on one;"
+         large files on one;"
     );
     println!(
         "then the independent program undoes it, untimed, so that every call meets the same bytes"
@@ -170,7 +208,7 @@ fn print_head(seed: u64) {
          that is in these times\n"
     );
     println!(
-        "{:30}{:>9}{:>13}{:>7}{:>11} |{:>10}{:>7} |{:>11}{:>7} |{:>11}{:>7} |{:>10}{:>11}",
+        "  {:30}{:>9}{:>13}{:>7}{:>11} |{:>10}{:>7} |{:>11}{:>7} |{:>11}{:>7} |{:>10}{:>11}",
         "",
         "archive",
         "independent",
@@ -192,6 +230,8 @@ fn main() {
     let rows: Vec<Row> = reading_rows(seed)
         .into_iter()
         .chain(writing_rows(seed))
+        .chain(rows_of_40(1, seed))
+        .chain(rows_of_40(2, seed))
         .collect();
     let mut samples: Vec<Samples> = rows.iter().map(|_| Samples::default()).collect();
     rows.iter().for_each(agree);

@@ -6,7 +6,6 @@ use crate::disks::Disk;
 use crate::lent::{Call, Lent};
 use boundary::archive::Archive;
 use boundary::calls::{EntryPoints, Faithful};
-use independent::geometry::IMAGE_BYTES;
 use std::hint::black_box;
 use std::time::{Duration, Instant};
 
@@ -85,7 +84,7 @@ fn images_for(disk: &Disk, call: Call) -> usize {
 
 /// One pass of a row: batches of each side in turn.
 pub fn measure(disk: &Disk, call: Call, samples: &mut Samples) {
-    let mut copy = Copy::of(IMAGE_BYTES);
+    let mut copy = Copy::of(disk.image.len());
     let mut file = Copy::of(disk.data.len());
     let mut lent = Lent::new(disk, images_for(disk, call));
     let turns = turns_per_batch(|turns| spent(turns, &mut lent, &Faithful, call));

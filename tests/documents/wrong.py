@@ -61,7 +61,7 @@ README = """```c
 int main(void)
 {
     static uint8_t image[D64_IMAGE_BYTES], answer[D64_BLOCK_BYTES];
-    unsigned number = d64_check(image, sizeof image, answer, sizeof answer);
+    unsigned number = d64_check(0, image, sizeof image, answer, sizeof answer);
     printf("%u, track %u\\n", number, answer[0]);
     return 0;
 }

@@ -68,7 +68,7 @@ build_harness() {
 
 # What the fuzzer prints goes to work/log. Its status is not 0 if it found something.
 fuzz() { # PROGRAM SECONDS CORPUS PREFIX
-    "$built/$1" -max_total_time="$2" -max_len=176000 -timeout=20 -print_final_stats=1 -artifact_prefix="$4" "$3" "$work/seeds" >"$work/log" 2>&1
+    "$built/$1" -max_total_time="$2" -max_len=198000 -timeout=20 -print_final_stats=1 -artifact_prefix="$4" "$3" "$work/seeds" >"$work/log" 2>&1
 }
 
 # Runs a wrong library for so many seconds, from the seeds alone; fails if it is not found.

@@ -1,4 +1,4 @@
-"""Direction one: d64 writes disks, and each peer lists them, reads every file, and adds one of its own.
+"""Direction one: d64 writes disks, and each peer lists them, reads every file, and adds one of its own. On 40 tracks it also replaces one that lies there.
 
 d64 stores SEQ and PRG files; disks with USR files come from the peers, in direction two.
 """
@@ -7,7 +7,8 @@ import os
 import shlex
 
 import disks
-from disks import PRG, SEQ, pattern
+import rules
+from disks import PLAIN, PRG, SEQ, pattern
 from tools import C1541, empty_folder, read_file, run, write_file
 
 ADDED = b"ADDED"
@@ -108,21 +109,55 @@ def awkward():
     return plan
 
 
+def lengths():
+    plan = Plan("lengths around a sector")
+    for length in (1, 2, 252, 253, 254, 255, 256, 507, 508, 509, 510, 5000):
+        plan.store(b"LEN%d" % length, pattern(length, length))
+    return plan
+
+
+def kinds():
+    return Plan("kinds").store(b"SEQFILE", pattern(400, 1), SEQ).store(b"PRGFILE", pattern(400, 2))
+
+
+def full(layout):
+    size = 254 * layout.blocks
+    return Plan(f"full disk: {size:,} bytes in one file").store(b"FULL", pattern(size, 7))
+
+
+def many():
+    plan = Plan("full directory: 144 files")
+    for number in range(144):
+        plan.store(b"FILE%03d" % number, pattern(1 + 7 * number, number))
+    return plan
+
+
+def beyond(title):
+    """NEAR takes tracks 1 to 35 to the last sector, FAR the first 20 sectors behind them."""
+    return Plan(title).store(b"NEAR", pattern(254 * PLAIN.blocks, 8)).store(b"FAR", pattern(5000, 9))
+
+
+def forty(layout):
+    yield Plan("empty disk")
+    yield lengths()
+    yield kinds()
+    yield full(layout)
+    yield many()
+    yield scattered()
+    yield beyond("a file on tracks 36 and 37, the others used")
+    yield beyond("a file on tracks 36 and 37, the others free").scratch(b"NEAR")
+    yield beyond("a file from track 1 to track 40").scratch(b"NEAR").store(b"HOLE", pattern(300, 3)).store(b"LONG", pattern(184000, 4)).scratch(b"HOLE")
+
+
 def plans():
     yield Plan("empty disk")
     yield Plan("document 01's example").store(b"CODE", pattern(300, 1))
     yield Plan("a zero-length file").store(b"ZERO", b"")
     yield Plan("zero length, each kind").store(b"ZS", b"", SEQ).store(b"ZP", b"", PRG)
-    lengths = Plan("lengths around a sector")
-    for length in (1, 2, 252, 253, 254, 255, 256, 507, 508, 509, 510, 5000):
-        lengths.store(b"LEN%d" % length, pattern(length, length))
-    yield lengths
-    yield Plan("kinds").store(b"SEQFILE", pattern(400, 1), SEQ).store(b"PRGFILE", pattern(400, 2))
-    yield Plan("full disk: 168,656 bytes in one file").store(b"FULL", pattern(168656, 7))
-    many = Plan("full directory: 144 files")
-    for number in range(144):
-        many.store(b"FILE%03d" % number, pattern(1 + 7 * number, number))
-    yield many
+    yield lengths()
+    yield kinds()
+    yield full(PLAIN)
+    yield many()
     yield typed()
     yield all_bytes()
     yield awkward()
@@ -142,12 +177,17 @@ def check_own(d64, plan, image, require):
     """d64 accepts its disk and reads each file back; so does the reader that shares nothing with it."""
     title, data = plan.title, read_file(image)
     require(d64.answer("check", "--quiet", image) == "done", f"{title}: d64 does not accept its own disk")
+    require(rules.answer(data, d64.layout) == "done", f"{title}: the rules say {rules.answer(data, d64.layout)} of d64's own disk")
+    require(not any(disks.other_bytes(data, d64.layout)), f"{title}: 18/0 has bytes other than 0 that are no entry of the layout's map")
     wanted = sorted((kind, name, content) for name, (kind, content) in plan.held.items())
-    require(sorted(disks.files(data)) == wanted, f"{title}: the files on the disk are not what was stored")
+    require(sorted(disks.files(data, d64.layout)) == wanted, f"{title}: the files on the disk are not what was stored")
     blocks = sorted((kind, name, max(1, -(-len(content) // 254))) for kind, name, content in wanted)
     require(sorted(d64.entries(image)) == blocks, f"{title}: d64's listing is not what was stored")
     for kind, name, content in wanted:
         require(d64.read(image, name) == content, f"{title}: d64 does not read {name_text(name)} back")
+    if b"FAR" in plan.held:
+        far = next(slot[3:5] for slot in disks.entries(data, d64.layout) if slot[5:21] == disks.padded(b"FAR"))
+        require({track for track, _ in disks.chain(data, far, d64.layout)[0]} == {36, 37}, f"{title}: the file is not on tracks 36 and 37")
 
 
 def same_name(peer, shown, name):
@@ -225,28 +265,30 @@ def extracted_alone(d64, peer, plan, missing, folder, require):
 
 
 def extracted_otherwise(d64, peer, plan, missing, folder, require):
-    """Names and slots that a peer cannot get at are asked for on another disk that d64 writes, so that the bytes are compared all the same."""
+    """Names and slots that a peer cannot get at are asked for on another disk that d64 writes, so that the bytes are compared all the same; on 35 tracks,
+    for what a peer does not get of 40 is not missing for its name or slot."""
     ways = {"floptool": ("with the slots moved", extracted_moved), "c1541": ("alone on a disk", extracted_alone)}
-    if not missing or peer.name not in ways:
+    if not missing or peer.name not in ways or d64.layout is not PLAIN:
         return []
     words, way = ways[peer.name]
     differ = way(d64, peer, plan, missing, folder, require)
     return [f"{words}, {len(missing) - len(differ)} of those {len(missing)} byte for byte" + (f"; {differences(differ)}" if differ else "")]
 
 
-def added(d64, peer, plan, image, folder):
-    """The peer adds a file to d64's disk; what d64 then says, and whether any file's bytes changed."""
+def changed(d64, peer, plan, image, folder, call="add", target=ADDED):
+    """The peer adds a file to d64's disk, or replaces one; what d64 then says, and whether any other file's bytes changed."""
     path, data = os.path.join(folder, "added.bin"), pattern(1000, 77)
+    does, does_not = {"add": ("adds a file", "adds no file"), "replace": (f"replaces {target.decode()}", f"does not replace {target.decode()}")}[call]
     write_file(path, data)
-    outcome = peer.add(image, ADDED, path, folder)
+    outcome = getattr(peer, call)(image, target, path, folder)
     answer = d64.answer("check", "--quiet", image)
     if not outcome.done:
-        return f"adds no file ({outcome.words()})" + ("" if answer == "done" else f" and leaves a disk that d64 refuses: {answer}")
-    held = {name: content for name, (_, content) in plan.held.items()} | {ADDED: data}
+        return f"{does_not} ({outcome.words()})" + ("" if answer == "done" else f" and leaves a disk that d64 refuses: {answer}")
+    held = {name: content for name, (_, content) in plan.held.items()} | {target: data}
     wrong = [name for name, content in held.items() if answer == "done" and d64.read(image, name) != content]
     if wrong:
-        return f"adds a file, then wrong: {some([name_text(name) for name in wrong])}"
-    return "adds a file, and d64 " + ("reads all" if answer == "done" else f"refuses: {answer}")
+        return f"{does}, then wrong: {some([name_text(name) for name in wrong])}"
+    return f"{does}, and d64 " + ("reads all" if answer == "done" else f"refuses: {answer}")
 
 
 def by_peer(d64, peer, plan, image, folder, require):
@@ -260,32 +302,35 @@ def by_peer(d64, peer, plan, image, folder, require):
         parts += [fact] + extracted_otherwise(d64, peer, plan, missing, folder, require)
     parts += ["changes the disk by reading it"] if read_file(copy) != before else []
     if peer.can("add"):
-        parts.append(added(d64, peer, plan, copy, folder))
+        parts.append(changed(d64, peer, plan, copy, folder))
+    if b"FAR" in plan.held and peer.can("replace"):
+        write_file(copy, before)
+        parts.append(changed(d64, peer, plan, copy, folder, "replace", b"FAR"))
     return "; ".join(parts)
 
 
 def through_flux(cc1541, floptool, image, folder):
     """cc1541 writes the disk as a G64, the signal on the disk, and floptool turns that into a D64 again: is it the same?"""
     g64, back = os.path.join(folder, "disk.g64"), os.path.join(folder, "back.d64")
-    first = run([cc1541.command, "-q", "-m", "-g", g64, image], folder)
+    first = cc1541.call(["-g", g64, image], folder)
     second = run([floptool.command, "flopconvert", "g64", "d64", g64, back], folder)
     if not (first.done and second.done):
         return f"cc1541 {first.words()}, floptool {second.words()}"
-    return "the same 174,848 bytes" if read_file(back) == read_file(image) else "other bytes"
+    return f"the same {cc1541.layout.image_bytes:,} bytes" if read_file(back) == read_file(image) else "other bytes"
 
 
 def facts(d64, peers, work, require, only=""):
-    by_name = {peer.name: peer for peer in peers}
-    for plan in plans():
+    by_name, who = {peer.name: peer for peer in peers}, f"written by d64{d64.layout.named}"
+    for plan in plans() if d64.layout is PLAIN else forty(d64.layout):
         if only not in plan.title:
             continue
-        image = os.path.join(work, "by-d64.d64")
+        image = os.path.join(work, f"by-d64-{d64.layout.number}.d64")
         require(plan.write(d64, image) == "done", f"{plan.title}: d64 does not write it")
         check_own(d64, plan, image, require)
         for peer in peers:
             folder = empty_folder(os.path.join(work, "peer"))
-            yield f"written by d64 | {plan.title} | {peer.name} | {by_peer(d64, peer, plan, image, folder, require)}"
-        if "cc1541" in by_name and "floptool" in by_name:
+            yield f"{who} | {plan.title} | {peer.name} | {by_peer(d64, peer, plan, image, folder, require)}"
+        if "cc1541" in by_name and "floptool" in by_name and (d64.layout is PLAIN or not plan.held):
             folder = empty_folder(os.path.join(work, "peer"))
             said = through_flux(by_name["cc1541"], by_name["floptool"], image, folder)
-            yield f"written by d64 | {plan.title} | cc1541 to G64, floptool back | {said}"
+            yield f"{who} | {plan.title} | cc1541 to G64, floptool back | {said}"

@@ -4,7 +4,7 @@ import os
 
 import disks
 import rules
-from disks import PRG, SEQ, USR, pattern
+from disks import OTHER_KIND, PLAIN, PRG, SEQ, SPEEDDOS, USR, pattern
 from tools import empty_folder, read_file, run, write_file
 
 LENGTHS = [(PRG, b"LEN%d" % length, length) for length in (1, 253, 254, 255, 508, 509, 510, 5000)]
@@ -76,6 +76,53 @@ def c1541_shapes():
 SHAPES = {"cc1541": cc1541_shapes, "cbmconvert": cbmconvert_shapes, "c1541": c1541_shapes}
 
 
+def by_option(*option):
+    """The same disk in a call with another option than the layout's, or none."""
+    return lambda peer, image, folder: run([peer.command, "-q", "-m", *option, "-f", "gamma", "-w", "longer", image], folder)
+
+
+def after_plain(option):
+    """The disk is made anew with 35 tracks, and then taken for one of 40."""
+    def then(peer, image, folder):
+        os.remove(image)
+        type(peer)(peer.command).make(image, [(PRG, b"ALPHA", "data0"), (PRG, b"BETA", "data1")], folder)
+        return by_option(option)(peer, image, folder)
+    return then
+
+
+def cc1541_forty(layout):
+    own, other = ("-4", "-5") if layout is SPEEDDOS else ("-5", "-4")
+    yield Shape("empty disk", [])
+    yield Shape("lengths around a sector", LENGTHS)
+    yield Shape("kinds", KINDS)
+    yield Shape("full disk: 190,246 bytes in one file", [(PRG, b"FULL", 190246)])
+    yield Shape("one byte too many for a disk", [(PRG, b"FULL", 190247)])
+    yield Shape("full directory: 144 files", MANY)
+    yield Shape("tracks 1 to 35 full, and a file behind", [(PRG, b"NEAR", 168656), (PRG, b"FAR", 3000)])
+    for option in (["-r", "36"], ["-r", "40"], ["-S", "1"], ["-S", "4"], ["-e"], ["-t"], ["-H", "hidden in 18/0"], ["-d", "40"]):
+        yield Shape("option " + " ".join(option), TWO, option)
+    yield Shape("a file replaced by a longer one", TWO, then=lambda peer, image, folder: peer.replace(image, b"ALPHA", "longer", folder))
+    yield Shape("then a file with the other kind's option", TWO, then=by_option(other))
+    yield Shape("then a file without the option", TWO, then=by_option())
+    yield Shape("option -r 36, then a file without the option", TWO, ["-r", "36"], then=by_option())
+    yield Shape("a disk of 35 tracks, then a file with the option", TWO, then=after_plain(own))
+
+
+def c1541_forty(layout):
+    """It formats an image of 196,608 bytes."""
+    yield Shape("empty disk", [])
+    yield Shape("kinds", KINDS)
+
+
+FORTY = {"cc1541": cc1541_forty, "c1541": c1541_forty}
+
+
+def shapes(peer):
+    if peer.layout is PLAIN:
+        return SHAPES.get(peer.name, lambda: ())()
+    return FORTY.get(peer.name, lambda layout: ())(peer.layout)
+
+
 def make(peer, shape, image, folder):
     """Has the peer make the disk; says how it ended where it was not done."""
     entries = []
@@ -104,35 +151,55 @@ def given(shape, held):
     return f", but not as given: {', '.join(lost[:4])}" if lost else ""
 
 
+def left_alone(image, layout):
+    """What a store and a scratch leave as it is: the map's spare bits, and the bytes behind the disk's name and id that are no entry of its map."""
+    return disks.spare_bits(image, layout), disks.other_bytes(image, layout)
+
+
 def written_on(d64, image, held, require, title):
     """d64 stores a file on the peer's disk and scratches one: the others, and the map's spare bits, stay as they are."""
-    path, bits = os.path.join(d64.work, "new"), disks.spare_bits(read_file(image))
+    path, bits, others = os.path.join(d64.work, "new"), *left_alone(read_file(image), d64.layout)
     write_file(path, pattern(600, 222))
     answer = d64.answer("store", "--quiet", image, NEW.decode(), path)
     if answer != "done":
         return f"; a store gives {answer}"
     for _, name, _ in held[:1]:
         require(d64.answer("scratch", "--quiet", image, d64.text(name)) == "done", f"{title}: d64 does not scratch a file")
-    after = sorted(disks.files(read_file(image)))
+    after = sorted(disks.files(read_file(image), d64.layout))
     wanted = sorted(held[1:] + [(PRG, NEW, pattern(600, 222))])
-    sound = d64.answer("check", "--quiet", image) == "done"
+    sound = d64.answer("check", "--quiet", image) == "done" == rules.answer(read_file(image), d64.layout)
     require(after == wanted and sound, f"{title}: the disk is not as it must be after d64's store and scratch")
-    require(disks.spare_bits(read_file(image)) == bits, f"{title}: d64's store and scratch changed the map's spare bits")
+    require(left_alone(read_file(image), d64.layout) == (bits, others), f"{title}: d64's store and scratch changed the map's spare bits, or bytes behind it")
     return "; d64 stores and scratches on it"
 
 
+def in_the_other(d64, image, held, require, title):
+    """What d64 says of a disk of 40 tracks in the other layouts; in 35 it answers 1."""
+    if d64.layout is PLAIN:
+        return ""
+    data, other = read_file(image), d64.within(OTHER_KIND[d64.layout])
+    said = {layout: d64.within(layout).answer("check", "--quiet", image) for layout in (PLAIN, other.layout)}
+    require(all(rules.answer(data, layout) == answer for layout, answer in said.items()), f"{title}: in another layout d64 does not say what the rules say")
+    plain = "" if said[PLAIN] == "1" else f", in layout 35: {said[PLAIN].replace('done', 'accepted')}"
+    if said[other.layout] != "done":
+        return f"; in the other layout: {said[other.layout]}{plain}"
+    require(all(other.read(image, name) == content for _, name, content in held), f"{title}: in the other layout d64 reads other bytes")
+    return f"; in the other layout: accepted{plain}"
+
+
 def fact(d64, peer, shape, folder, require):
-    image, title = os.path.join(folder, "made.d64"), f"{peer.name}, {shape.title}"
+    image, title, layout = os.path.join(folder, "made.d64"), f"{peer.name}{d64.layout.named}, {shape.title}", d64.layout
     said = make(peer, shape, image, folder)
     data = read_file(image)
     if data is None:
         return said + "no disk"
     answer = d64.answer("check", "--quiet", image)
-    require(answer == rules.answer(data), f"{title}: d64 says {answer}, and the rules say {rules.answer(data)}")
+    require(answer == rules.answer(data, layout), f"{title}: d64 says {answer}, and the rules say {rules.answer(data, layout)}")
+    held = disks.files(data, layout)
+    other = in_the_other(d64, image, held, require, title)
     if answer != "done":
-        return f"{said}refused: {answer}"
-    held = disks.files(data)
-    text = f"{said}accepted, {read_all(d64, image, held)}{given(shape, held)}"
+        return f"{said}refused: {answer}{other}"
+    text = f"{said}accepted, {read_all(d64, image, held)}{given(shape, held)}{other}"
     return text + written_on(d64, image, held, require, title)
 
 
@@ -180,11 +247,11 @@ def left_by_d64(d64, require):
 
 def facts(d64, peers, work, require, only=""):
     for peer in peers:
-        for shape in SHAPES.get(peer.name, lambda: ())():
+        for shape in shapes(peer):
             if only in shape.title:
                 folder = empty_folder(os.path.join(work, "peer"))
-                yield f"written by {peer.name} | {shape.title} | d64 | {fact(d64, peer, shape, folder, require)}"
-    if only in "a secret":
+                yield f"written by {peer.name}{d64.layout.named} | {shape.title} | d64 | {fact(d64, peer, shape, folder, require)}"
+    if d64.layout is PLAIN and only in "a secret":
         yield f"left over | a secret | d64 | {left_by_d64(d64, require)}"
         for peer in peers:
             if peer.can("replace"):

@@ -13,6 +13,7 @@ import signal
 import subprocess
 
 import disks
+from disks import DOLPHIN, OTHER_KIND, PLAIN, SPEEDDOS
 
 SECONDS = 10
 CPU_SECONDS = 4
@@ -34,6 +35,12 @@ class Outcome:
         if self.ending == f"killed by {signal.Signals.SIGXFSZ.name}":
             return "writes without end"
         return self.ending.replace("killed by", "crashes:")
+
+
+def together(outcomes):
+    """Several calls as one, which ends as the last of them that was not done."""
+    endings = ["exit 0"] + [outcome.ending for outcome in outcomes if not outcome.done]
+    return Outcome(endings[-1], *(b"\n".join(getattr(outcome, what) for outcome in outcomes) for what in ("out", "err")))
 
 
 def limit():
@@ -87,24 +94,33 @@ class D64:
     """The program under test, through man/d64.1 alone. Names go in as \\xNN, which can write every byte."""
 
     map_line = re.compile(r"refused, 8: map entry wrong: track (\d+), (?:sector (\d+) is marked (?:free but owned|used but owned by nobody)"
-                          r"|the count is \d+, (?:1 sector is|\d+ sectors are) marked free)")
+                          r"|the count is \d+, (?:1 sector is|\d+ sectors are) marked free)(; layout .*)?")
 
-    def __init__(self, path, work):
-        self.path, self.work = os.path.abspath(path), work
+    def __init__(self, path, work, layout=PLAIN):
+        self.path, self.work, self.layout = os.path.abspath(path), work, layout
 
-    def call(self, *words):
-        return run([self.path, *words], self.work)
+    def within(self, layout):
+        return D64(self.path, self.work, layout)
+
+    def call(self, command, *words):
+        """The layout is named in every command but those on 35 tracks, where it need not be."""
+        return run([self.path, command, *([] if self.layout is PLAIN else ["--layout", self.layout.word]), *words], self.work)
 
     @staticmethod
     def text(name):
         return "".join(f"\\x{byte:02X}" for byte in name)
 
-    @classmethod
-    def refusal(cls, outcome):
+    def is_map_line(self, line):
+        """From track 36 on the line names the other layout, and only there."""
+        said, other = self.map_line.fullmatch(line), OTHER_KIND.get(self.layout)
+        beyond = said and int(said[1]) > 35 and f"; layout {other.word} ({other.number}) has this entry elsewhere"
+        return said and (said[3] or "") == (beyond or "")
+
+    def refusal(self, outcome):
         """A refusal's number and place, as its one line says them: "3 at 17/4 slot 2"; of the map "8 at 17/4", and "8 at track 17" for a count."""
         line = outcome.err.decode("latin-1").strip()
         said = re.match(r"refused, (\d+): ", line)
-        if not said or "\n" in line or outcome.ending != f"exit {said[1]}" or said[1] == "8" and not cls.map_line.fullmatch(line):
+        if not said or "\n" in line or outcome.ending != f"exit {said[1]}" or said[1] == "8" and not self.is_map_line(line):
             return f"no refusal: {outcome.ending}, {line!r}"
         track, sector, slot = (re.search(rf"\b{word} (\d+)", line) for word in ("track", "sector", "slot"))
         if not track or not 2 <= int(said[1]) <= 8:
@@ -137,11 +153,17 @@ class D64:
 class Peer:
     """What a peer can do is what its class defines of list, blocks_free, extract, make, add, replace and validate."""
 
-    def __init__(self, command):
-        self.command = command
+    layouts = (PLAIN,)  # those whose map it knows
+
+    def __init__(self, command, layout=PLAIN):
+        self.command, self.layout = command, layout
 
     def can(self, what):
         return hasattr(self, what)
+
+    def maps(self):
+        """Does it know the map of all tracks?"""
+        return self.layout in self.layouts
 
     progress = re.compile(rb"\Z")
 
@@ -156,16 +178,21 @@ class Peer:
 
 
 class Cc1541(Peer):
-    """It cannot extract a file. -m lets two names have the same hash, which matters to one loader for the C64 only."""
+    """It cannot extract a file. -m lets two names have the same hash, which matters to one loader for the C64 only. 40 tracks are asked for with -4 or -5."""
 
     name = "cc1541"
+    layouts = disks.LAYOUTS
+    flags = {PLAIN: ["-m"], SPEEDDOS: ["-m", "-4"], DOLPHIN: ["-m", "-5"]}
+
+    def call(self, words, folder):
+        return run([self.command, "-q", *self.flags[self.layout], *words], folder)
 
     def version(self, folder):
         return re.search(rb"version (\S+)", run([self.command, "-h"], folder).out)[1].decode()
 
     def list(self, image, folder):
         """Its -a prints the directory as options, in which # and two digits stand for a byte."""
-        outcome = run([self.command, "-q", "-m", "-a", image], folder)
+        outcome = self.call(["-a", image], folder)
         art = re.search(rb"directory art: (.*)", outcome.out)
         found, kind, blocks, words = [], disks.PRG, 0, iter(shlex.split(art[1].decode("latin-1")) if art else [])
         for word in words:
@@ -180,7 +207,7 @@ class Cc1541(Peer):
 
     def blocks_free(self, image, folder):
         """Without a file to write it prints the directory and leaves the image as it is."""
-        return int(re.search(rb"(\d+) blocks free", run([self.command, "-m", image], folder).out)[1])
+        return int(re.search(rb"(\d+) blocks free", run([self.command, *self.flags[self.layout], image], folder).out)[1])
 
     @staticmethod
     def bytes_of(text):
@@ -199,17 +226,17 @@ class Cc1541(Peer):
         return ["-T", disks.KIND_WORD[kind].upper(), "-f", "".join(f"#{byte:02x}" for byte in name), "-w", path]
 
     def add(self, image, name, path, folder, kind=disks.PRG):
-        return run([self.command, "-q", "-m", *self.options(name, path, kind), image], folder)
+        return self.call([*self.options(name, path, kind), image], folder)
 
     def make(self, image, entries, folder, options=()):
         words = [word for kind, name, path in entries for word in self.options(name, path, kind)]
-        return run([self.command, "-q", "-m", "-n", "peers", "-i", "01", *options, *words, image], folder)
+        return self.call(["-n", "peers", "-i", "01", *options, *words, image], folder)
 
     replace = add
 
     def validate(self, image, folder):
         """-V is its check; with a file to write it would stand before the writing."""
-        return run([self.command, "-q", "-m", "-V", image], folder)
+        return self.call(["-V", image], folder)
 
     def map_place(self, outcome):
         said = re.search(r"BAM .* for track (\d+)(?: sector (\d+))?\n", outcome.err.decode("latin-1"))
@@ -275,21 +302,23 @@ class Floptool(Peer):
 
     def extract(self, image, wanted, folder):
         out = empty_folder(os.path.join(folder, "out"))
-        worst, found = None, {}
+        outcomes, found = [], {}
         for number, (kind, name) in enumerate(wanted):
             found[kind, name] = None
             if 0 in name:
                 continue
             target = os.path.join(out, f"f{number}")
             outcome = run([self.command.encode(), b"flopread", b"d64", b"cbmdos", image.encode(), name, target.encode()], folder)
-            worst = outcome if worst is None or not outcome.done else worst
+            outcomes.append(outcome)
             if outcome.done:
                 found[kind, name] = read_file(target)
-        return worst, found
+        return together(outcomes), found
 
 
 class C1541(Peer):
-    """VICE's c1541. A byte that cannot be typed in a name is asked for as "?", its wildcard, if that leaves one file only."""
+    """VICE's c1541. A byte that cannot be typed in a name is asked for as "?", its wildcard, if that leaves one file only.
+
+    It has no word for 40 tracks; it is given an image of that size to format."""
 
     name = "c1541"
     suffix = {disks.SEQ: ",s", disks.PRG: ",p", disks.USR: ",u"}
@@ -314,7 +343,7 @@ class C1541(Peer):
 
     def extract(self, image, wanted, folder):
         out = empty_folder(os.path.join(folder, "out"))
-        worst, found = None, {}
+        outcomes, found = [], {}
         asked = [self.typed(name) for _, name in wanted]
         for number, (kind, name) in enumerate(wanted):
             found[kind, name] = None
@@ -322,16 +351,19 @@ class C1541(Peer):
             if sum(bool(pattern.fullmatch(other)) for other in asked) > 1:
                 continue
             target = f"f{number}"
-            outcome = run([self.command, image, "-read", asked[number] + self.suffix[kind], target], out)
-            worst = outcome if worst is None or not outcome.done else worst
+            outcomes.append(run([self.command, image, "-read", asked[number] + self.suffix[kind], target], out))
             found[kind, name] = read_file(os.path.join(out, target))
-        return worst, found
+        return together(outcomes), found
 
     def writes(self, entries):
         return [word for kind, name, path in entries for word in ("-write", path, self.typed(name) + self.suffix[kind])]
 
-    def make(self, image, entries, folder, options=("-format", "peers,01", "d64")):
-        return run([self.command, *options, image, *self.writes(entries)], folder)
+    def make(self, image, entries, folder):
+        words = ["-format", "peers,01", "d64", image]
+        if self.layout is not PLAIN:
+            write_file(image, bytes(self.layout.image_bytes))
+            words = [image, "-format", "peers,01"]
+        return run([self.command, *words, *self.writes(entries)], folder)
 
     def add(self, image, name, path, folder, kind=disks.PRG):
         return run([self.command, image, *self.writes([(kind, name, path)])], folder)
@@ -347,7 +379,7 @@ class C1541(Peer):
 ALL = (Cc1541, Cbmconvert, Floptool, C1541)
 
 
-def found():
+def found(layout=PLAIN):
     """The peers that are there; the environment can name another c1541, for one unpacked beside the system."""
     commands = {peer.name: os.environ.get(peer.name.upper(), peer.name) for peer in ALL}
-    return [peer(shutil.which(commands[peer.name])) for peer in ALL if shutil.which(commands[peer.name])]
+    return [peer(shutil.which(commands[peer.name]), layout) for peer in ALL if shutil.which(commands[peer.name])]

@@ -3,6 +3,8 @@
 set -eu
 cd "$WORK"
 group=$(basename "$0" .sh) what=start cases=0
+# The words that name the layout of the image in what follows; none are layout 35.
+layout=
 mkdir seen
 
 # Begins a case.
@@ -102,13 +104,15 @@ refuses() { # STATUS MODEL IMAGE ARGUMENT..
     no_rest
 }
 
-# A damaged image bad with a file CODE, and a file other: every command that checks the image refuses it with the same line, and leaves it as it was.
+# A damaged image bad with a file CODE, and a file other: in the layout every command that checks the image refuses it with the same line, and leaves it as it
+# was.
 all_refuse() { # WHAT NUMBER LINE
     cp bad before
+    rm -f out
     for command in "check bad" "dir bad" "read bad CODE out" "store bad NEW other" "scratch bad CODE"; do
-        case_is "$1: $command"
+        case_is "$1: $command $layout"
         # shellcheck disable=SC2086 # the words of a command
-        refuses "$2" before bad $command
+        refuses "$2" before bad $command $layout
         says "$3"
         [ ! -e out ] || fail "no file out"
     done
@@ -137,6 +141,18 @@ refusal() { # NUMBER [PLACE]
     printf '%s\n' "refused, $1: $meaning${2:+$between $2}"
 }
 
+# What the line of answer 1 says of an image of so many bytes, as the manual has it; the layout is told by name and number.
+size_told() { # BYTES [LAYOUT]
+    number=$(echo "$1" | sed 's/\(.*[0-9]\)\([0-9]\{3\}\)$/\1,\2/')
+    [ "$1" -le 196608 ] || number="more than 196,608"
+    case $1 in
+    174848) sizes=", the size of layout 35 (0), not of layout ${2:-35 (0)}" ;;
+    196608) sizes=", the size of layouts speeddos (1) and dolphin (2), not of layout ${2:-35 (0)}" ;;
+    *) sizes="; layout 35 (0) has 174,848, layouts speeddos (1) and dolphin (2) have 196,608" ;;
+    esac
+    echo "this image has $number bytes$sizes"
+}
+
 # Writes bytes, given as numbers, into a file.
 patch() { # FILE OFFSET BYTE..
     file=$1 offset=$2
@@ -153,6 +169,13 @@ slot() { echo $((91648 + 32 * $1)); }
 example_disk() { # IMAGE FILE
     cp "$TOP/crates/listing/stdin" "$1"
     { tail -c +86019 "$1" | head -c 254; tail -c +86275 "$1" | head -c 46; } >"$2"
+}
+
+# The same disk with 40 tracks: 36 to 40 are zeros, and the map has 17 free sectors for each, in entries from this byte of 18/0 on.
+example_disk_40() { # IMAGE FILE ENTRIES
+    example_disk "$1" "$2"
+    head -c 21760 /dev/zero >>"$1"
+    for at in 0 4 8 12 16; do patch "$1" $(($(track18 0) + $3 + at)) 17 0xFF 0xFF 1; done
 }
 
 # Bytes that differ from place to place and from seed to seed.

@@ -11,7 +11,23 @@
 #define SECTOR_BYTES 256
 #define DATA_BYTES 254 /* of a sector, after its link */
 #define SLOT_BYTES 32
+
+/* The layout that a test is built for (-DLAYOUT=1), and what it fixes. */
+#ifndef LAYOUT
+#define LAYOUT D64_LAYOUT_35
+#endif
+#if LAYOUT == D64_LAYOUT_35
 #define TRACKS 35
+#define IMAGE_BYTES 174848
+#define BY_TRACKS(on_35, on_40) on_35
+#else
+#define TRACKS 40
+#define IMAGE_BYTES 196608
+#define BY_TRACKS(on_35, on_40) on_40
+#endif
+#define EXTRA_ENTRIES (LAYOUT == D64_LAYOUT_SPEEDDOS ? 0xC0 : 0xAC) /* in 18/0, those of tracks 36 to 40 */
+#define ROOM (IMAGE_BYTES / SECTOR_BYTES - 19)                       /* free sectors of a fresh disk off track 18 */
+#define MOST_BYTES ((size_t)DATA_BYTES * ROOM)                       /* of a file on it */
 #define PAD 0xA0
 
 static int sectors_of(int track)
@@ -38,7 +54,7 @@ static void set_link(uint8_t *image, int track, int sector, int to_track, int to
 /* The map entry of a track: the count of free sectors, then three bytes of bits. */
 static uint8_t *map_entry(uint8_t *image, int track)
 {
-    return sector_at(image, 18, 0) + 4 * track;
+    return sector_at(image, 18, 0) + (track > 35 ? EXTRA_ENTRIES + 4 * (track - 36) : 4 * track);
 }
 
 static void mark_used(uint8_t *image, int track, int sector)
@@ -59,7 +75,7 @@ static void format_by_hand(uint8_t *image, const char *name, int id1, int id2)
 {
     static const uint8_t head[4] = {0x12, 0x01, 0x41, 0x00};
     uint8_t *map = sector_at(image, 18, 0);
-    memset(image, 0, D64_IMAGE_BYTES);
+    memset(image, 0, IMAGE_BYTES);
     memcpy(map, head, sizeof head);
     for (int track = 1; track <= TRACKS; track++) {
         uint8_t *entry = map_entry(image, track);
@@ -79,7 +95,7 @@ static void format_by_hand(uint8_t *image, const char *name, int id1, int id2)
     set_link(image, 18, 1, 0, 0xFF);
 }
 
-/* The next sector that files take: tracks 17 down to 1, then 19 up to 35, sectors upward. */
+/* The next sector that files take: tracks 17 down to 1, then 19 up to the last, sectors upward. */
 static void next_sector(int *track, int *sector)
 {
     if (++*sector < sectors_of(*track))

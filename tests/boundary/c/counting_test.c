@@ -7,7 +7,7 @@
 #include "expect.h"
 
 #define COUNT(table) (sizeof(table) / sizeof *(table))
-#define MOST 683
+#define MOST (IMAGE_BYTES / SECTOR_BYTES)
 
 struct place {
     int track, sector;
@@ -59,13 +59,13 @@ static void lay(int slot, const char *name)
     }
 }
 
-/* A bit of a track's entry; 18/0 starts at byte 91,392. */
+/* A bit of a track's entry. */
 static int is_marked_free(int track, int bit)
 {
-    return image[D64_TRACK18_OFFSET + 4 * track + 1 + bit / 8] >> (bit % 8) & 1;
+    return map_entry(image, track)[1 + bit / 8] >> (bit % 8) & 1;
 }
 
-/* The first track with a wrong bit or count, 36 if there is none, and its lowest wrong sector or 255. */
+/* The first track with a wrong bit or count, one past the last if there is none, and its lowest wrong sector or 255. */
 static struct place owed_place(void)
 {
     struct place place = {1, 255};
@@ -124,18 +124,18 @@ static uint32_t store(const char *name, size_t length)
 {
     static uint8_t data[MOST * DATA_BYTES];
     memset(data, 0x77, sizeof data);
-    return d64_store(image, sizeof image, (const uint8_t *)name, strlen(name), 1, data, length, block, sizeof block);
+    return d64_store(LAYOUT, image, sizeof image, (const uint8_t *)name, strlen(name), 1, data, length, block, sizeof block);
 }
 
 static uint32_t scratch(const char *name)
 {
-    return d64_scratch(image, sizeof image, (const uint8_t *)name, strlen(name), block, sizeof block);
+    return d64_scratch(LAYOUT, image, sizeof image, (const uint8_t *)name, strlen(name), block, sizeof block);
 }
 
 /* The other calls find the image sound too: it is told, stored to, and as it was once that is scratched. */
 static void serves_all_calls(const char *name)
 {
-    EXPECT(d64_tell(image, sizeof image, 0, out, D64_ENTRY_BYTES, block, sizeof block), D64_DONE);
+    EXPECT(d64_tell(LAYOUT, image, sizeof image, 0, out, D64_ENTRY_BYTES, block, sizeof block), D64_DONE);
     EXPECT_NOWHERE();
     EXPECT(memcmp(out + 1, name, strlen(name)), 0);
     memcpy(before, image, sizeof image);
@@ -166,7 +166,7 @@ static void links_are_refused(int slot, struct place other)
         int track = chain[i].track, sector = chain[i].sector;
         uint8_t *link = sector_at(image, track, sector), old[2] = {link[0], link[1]};
         const struct place to[] = {chain[i], chain[i / 2], i > 1 ? chain[i - 2] : other, chain[0], other, {18, 0},
-                                   {18, 1}, {track, sectors_of(track)}, {0, 0}, {36, 0}};
+                                   {18, 1}, {track, sectors_of(track)}, {0, 0}, {TRACKS + 1, 0}};
         for (size_t at = 0; at < COUNT(to); at++) {
             set_link(image, track, sector, to[at].track, to[at].sector);
             EXPECT(check(), at < 7 ? D64_OWNED : D64_BAD_LINK);
@@ -183,7 +183,7 @@ static void lead_along(int track, int from, int sectors, int down)
         lead_to(track, down ? sectors_of(track) - 1 - at : at);
 }
 
-/* From each track to the next and back, 35 and 1 among them, one to three sectors at a time, upward and downward. */
+/* From each track to the next and back, the last and 1 among them, one to three sectors at a time, upward and downward. */
 static void zigzags(void)
 {
     for (int track = 1; track <= TRACKS; track++) {
@@ -207,7 +207,7 @@ static void zigzags(void)
     }
 }
 
-/* One chain of all 681 sectors, each on another track than the one before; then it goes downward. */
+/* One chain of all sectors that a file may have, each on another track than the one before; then it goes downward. */
 static void rounds(void)
 {
     for (int down = 0; down < 2; down++) {
@@ -216,7 +216,7 @@ static void rounds(void)
             for (int track = 1; track <= TRACKS; track++)
                 lead_to(down ? TRACKS + 1 - track : track, down ? 20 - sector : sector);
         lay(0, "ROUNDS");
-        EXPECT(links, 681);
+        EXPECT(links, MOST - 2);
         ACCEPTED();
         for (int track = 1; track <= TRACKS; track++)
             each_bit(track);
@@ -284,11 +284,11 @@ static void many_files(void)
     ACCEPTED();
     for (int track = 1; track <= TRACKS; track++)
         each_bit(track);
-    map_entry(image, 35)[0] += 2; /* 664 - 576 free sectors, and two that are not there: the listing adds up bytes */
+    map_entry(image, 35)[0] += 2; /* the free sectors less 576, and two that are not there: the listing adds up bytes */
     REFUSED();
     EXPECT(list(D64_LISTING_BYTES), D64_DONE);
     EXPECT_BLOCK(0, 0, 255, 42 + 43L * 144, 0);
-    EXPECT(memcmp(out + 37 + 43 * 144, "005A\n", 5), 0);
+    EXPECT(memcmp(out + 37 + 43 * 144, BY_TRACKS("005A\n", "00AF\n"), 5), 0);
 }
 
 /* --- Every track: counts and bitmaps ------------------------------------------------------------------------------ */
@@ -445,7 +445,7 @@ static void takes_the_first(int k)
     ACCEPTED();
     for (int track = 1; track <= TRACKS; track++)
         for (int bit = sectors_of(track); bit < 24; bit++)
-            EXPECT(is_marked_free(track, bit), before[D64_TRACK18_OFFSET + 4 * track + 3] >> (bit % 8) & 1);
+            EXPECT(is_marked_free(track, bit), map_entry(before, track)[3] >> (bit % 8) & 1);
 }
 
 /* Stores of so many sectors of the room, each on the disk as it was; one sector more does not fit. */

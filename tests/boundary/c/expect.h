@@ -7,9 +7,9 @@
 #include <stdio.h>
 #include <stdlib.h>
 
-static uint8_t image[D64_IMAGE_BYTES];
-static uint8_t before[D64_IMAGE_BYTES];
-static uint8_t out[D64_IMAGE_BYTES];
+static uint8_t image[IMAGE_BYTES];
+static uint8_t before[IMAGE_BYTES];
+static uint8_t out[IMAGE_BYTES];
 static uint8_t block[D64_BLOCK_BYTES];
 static int tests;
 
@@ -40,17 +40,17 @@ static void expect_block(int track, int sector, int slot, long length, int secto
 
 static uint32_t check(void)
 {
-    return d64_check(image, sizeof image, block, sizeof block);
+    return d64_check(LAYOUT, image, sizeof image, block, sizeof block);
 }
 
 static uint32_t read_file(const char *name, size_t out_len)
 {
-    return d64_read(image, sizeof image, (const uint8_t *)name, strlen(name), out, out_len, block, sizeof block);
+    return d64_read(LAYOUT, image, sizeof image, (const uint8_t *)name, strlen(name), out, out_len, block, sizeof block);
 }
 
 static uint32_t list(size_t text_len)
 {
-    return d64_listing(image + D64_TRACK18_OFFSET, D64_TRACK18_BYTES, out, text_len, block, sizeof block);
+    return d64_listing(LAYOUT, image + D64_TRACK18_OFFSET, D64_TRACK18_BYTES, out, text_len, block, sizeof block);
 }
 
 #endif

@@ -29,6 +29,11 @@ static struct hand code_disk(void)
 static void constants(void)
 {
     EXPECT(D64_IMAGE_BYTES, 683 * 256);
+    EXPECT(D64_IMAGE40_BYTES, 768 * 256);
+    EXPECT(D64_LAYOUT_35, 0);
+    EXPECT(D64_LAYOUT_SPEEDDOS, 1);
+    EXPECT(D64_LAYOUT_DOLPHIN, 2);
+    EXPECT(D64_UNKNOWN_LAYOUT, 17);
     EXPECT(D64_TRACK18_BYTES, 19 * 256);
     EXPECT(D64_TRACK18_OFFSET, 357 * 256);
     EXPECT(D64_LISTING_BYTES, 37 + 144 * 43 + 5);
@@ -97,18 +102,18 @@ static void a_file_is_told(void)
     struct hand hand = code_disk();
     add_file(image, &hand, 0xC1, "LOCKED", 0);
     fill_out(0xEE);
-    EXPECT(d64_tell(image, sizeof image, 0, out, D64_ENTRY_BYTES, block, sizeof block), D64_DONE);
+    EXPECT(d64_tell(LAYOUT, image, sizeof image, 0, out, D64_ENTRY_BYTES, block, sizeof block), D64_DONE);
     EXPECT_NOWHERE();
     EXPECT(memcmp(out, code, sizeof code), 0);
     EXPECT(is_filled(D64_ENTRY_BYTES, 0xEE), 1);
-    EXPECT(d64_tell(image, sizeof image, 1, out, sizeof out, block, sizeof block), D64_DONE);
+    EXPECT(d64_tell(LAYOUT, image, sizeof image, 1, out, sizeof out, block, sizeof block), D64_DONE);
     EXPECT(out[0], 0xC1);
     EXPECT(is_filled(D64_ENTRY_BYTES, 0xEE), 1);
     fill_out(0xEE);
-    EXPECT(d64_tell(image, sizeof image, 2, out, sizeof out, block, sizeof block), D64_NOT_FOUND);
-    EXPECT(d64_tell(image, sizeof image, SIZE_MAX, out, sizeof out, block, sizeof block), D64_NOT_FOUND);
-    EXPECT(d64_tell(image, sizeof image, 1, out, 24, block, sizeof block), D64_SHORT);
-    EXPECT(d64_tell(image, sizeof image, 2, out, 24, block, sizeof block), D64_NOT_FOUND);
+    EXPECT(d64_tell(LAYOUT, image, sizeof image, 2, out, sizeof out, block, sizeof block), D64_NOT_FOUND);
+    EXPECT(d64_tell(LAYOUT, image, sizeof image, SIZE_MAX, out, sizeof out, block, sizeof block), D64_NOT_FOUND);
+    EXPECT(d64_tell(LAYOUT, image, sizeof image, 1, out, 24, block, sizeof block), D64_SHORT);
+    EXPECT(d64_tell(LAYOUT, image, sizeof image, 2, out, 24, block, sizeof block), D64_NOT_FOUND);
     EXPECT_NOWHERE();
     EXPECT(is_filled(0, 0xEE), 1);
 }
@@ -117,7 +122,7 @@ static void the_whole_listing(void)
 {
     static const char text[] = "434F444553A0A0A0A0A0A0A0A0A0A0A03031\n"
                                "821100434F4445A0A0A0A0A0A0A0A0A0A0A0A00200\n"
-                               "0296\n";
+                               BY_TRACKS("0296\n", "02EB\n");
     const size_t length = sizeof text - 1;
     code_disk();
     EXPECT(length, 37 + 43 + 5);
@@ -149,12 +154,12 @@ static void the_largest_file(void)
 {
     struct hand hand = {17, 0, 0};
     format_by_hand(image, "FULL", 0x30, 0x31);
-    add_file(image, &hand, 0x83, "ALL", 168656);
+    add_file(image, &hand, 0x83, "ALL", MOST_BYTES);
     EXPECT(check(), D64_DONE);
-    EXPECT(read_file("ALL", 168655), D64_SHORT);
-    EXPECT(read_file("ALL", 168656), D64_DONE);
-    EXPECT_BLOCK(0, 0, 255, 168656, 664);
-    for (size_t i = 0; i < 168656; i++)
+    EXPECT(read_file("ALL", MOST_BYTES - 1), D64_SHORT);
+    EXPECT(read_file("ALL", MOST_BYTES), D64_DONE);
+    EXPECT_BLOCK(0, 0, 255, (long)MOST_BYTES, ROOM);
+    for (size_t i = 0; i < MOST_BYTES; i++)
         EXPECT(out[i], file_byte(i));
 }
 
@@ -206,7 +211,7 @@ static void all_refuse(uint32_t number, int track, int sector, int slot, int lin
     expect_block(track, sector, slot, 0, 0, __FILE__, line);
     expect(read_file("ONE", sizeof out), number, "read", __FILE__, line);
     expect_block(track, sector, slot, 0, 0, __FILE__, line);
-    expect(d64_tell(image, sizeof image, 0, out, sizeof out, block, sizeof block), number, "tell", __FILE__, line);
+    expect(d64_tell(LAYOUT, image, sizeof image, 0, out, sizeof out, block, sizeof block), number, "tell", __FILE__, line);
     expect_block(track, sector, slot, 0, 0, __FILE__, line);
     expect(is_filled(0, 0xEE), 1, "out as it was", __FILE__, line);
     expect(memcmp(before, image, sizeof image), 0, "the image's change", __FILE__, line);
@@ -232,7 +237,7 @@ static void chains_that_go_wrong(void)
     set_link(image, 17, 2, 0, 0); /* last link 00 00 */
     ALL_REFUSE(D64_BAD_LINK, 17, 2, 0);
     two_files();
-    set_link(image, 17, 2, 36, 0); /* off the disk */
+    set_link(image, 17, 2, TRACKS + 1, 0); /* off the disk */
     ALL_REFUSE(D64_BAD_LINK, 17, 2, 0);
     two_files();
     set_link(image, 17, 2, 18, 0); /* the map's sector */
@@ -312,7 +317,7 @@ static void with_spare(const struct ends *end, int bits, int counted)
     EXPECT(read_file("TWO", 600), D64_DONE);
     EXPECT_BLOCK(0, 0, 255, 600, 3);
     EXPECT(list(sizeof out), D64_DONE);
-    EXPECT(memcmp(out + 37 + 2 * 43, "0292\n", 5), 0);
+    EXPECT(memcmp(out + 37 + 2 * 43, BY_TRACKS("0292\n", "02E7\n"), 5), 0);
     entry[0] = (uint8_t)(end->entry[0] + counted);
     ALL_REFUSE(D64_WRONG_MAP, end->track, 255, 255);
     entry[0] = end->entry[0];
@@ -341,16 +346,16 @@ static void bits_past_the_last_sector(void)
 
 static void sizes(void)
 {
-    static uint8_t long_image[D64_IMAGE_BYTES + 1];
+    static uint8_t long_image[IMAGE_BYTES + 1];
     code_disk();
     memcpy(long_image, image, sizeof image);
-    EXPECT(d64_check(image, sizeof image - 1, block, sizeof block), D64_WRONG_SIZE);
-    EXPECT(d64_check(long_image, sizeof long_image, block, sizeof block), D64_WRONG_SIZE);
+    EXPECT(d64_check(LAYOUT, image, sizeof image - 1, block, sizeof block), D64_WRONG_SIZE);
+    EXPECT(d64_check(LAYOUT, long_image, sizeof long_image, block, sizeof block), D64_WRONG_SIZE);
     EXPECT_NOWHERE();
     /* the size comes before the name */
-    EXPECT(d64_read(image, 1, NULL, 0, out, sizeof out, block, sizeof block), D64_WRONG_SIZE);
+    EXPECT(d64_read(LAYOUT, image, 1, NULL, 0, out, sizeof out, block, sizeof block), D64_WRONG_SIZE);
     /* track 18 is asked for, not the image */
-    EXPECT(d64_listing(image, sizeof image, out, sizeof out, block, sizeof block), D64_WRONG_SIZE);
+    EXPECT(d64_listing(LAYOUT, image, sizeof image, out, sizeof out, block, sizeof block), D64_WRONG_SIZE);
     EXPECT_NOWHERE();
 }
 
@@ -364,10 +369,10 @@ static void blocks_of_other_sizes(void)
     for (size_t size = 0; size <= sizeof wide; size++) {
         if (size == D64_BLOCK_BYTES)
             continue;
-        EXPECT(d64_check(image, 0, wide, size), D64_SHORT);
-        EXPECT(d64_read(image, sizeof image, name, sizeof name, out, sizeof out, wide, size), D64_SHORT);
-        EXPECT(d64_tell(image, sizeof image, 0, out, sizeof out, wide, size), D64_SHORT);
-        EXPECT(d64_listing(image + D64_TRACK18_OFFSET, D64_TRACK18_BYTES, out, sizeof out, wide, size), D64_SHORT);
+        EXPECT(d64_check(LAYOUT, image, 0, wide, size), D64_SHORT);
+        EXPECT(d64_read(LAYOUT, image, sizeof image, name, sizeof name, out, sizeof out, wide, size), D64_SHORT);
+        EXPECT(d64_tell(LAYOUT, image, sizeof image, 0, out, sizeof out, wide, size), D64_SHORT);
+        EXPECT(d64_listing(LAYOUT, image + D64_TRACK18_OFFSET, D64_TRACK18_BYTES, out, sizeof out, wide, size), D64_SHORT);
     }
     for (size_t i = 0; i < sizeof wide; i++)
         EXPECT(wide[i], 0x55);
@@ -378,26 +383,26 @@ static void null_is_an_empty_slice(void)
 {
     struct hand hand = code_disk();
     add_file(image, &hand, 0x82, "NONE", 0);
-    EXPECT(d64_check(NULL, 0, block, sizeof block), D64_WRONG_SIZE);
+    EXPECT(d64_check(LAYOUT, NULL, 0, block, sizeof block), D64_WRONG_SIZE);
     EXPECT_NOWHERE();
-    EXPECT(d64_check(image, sizeof image, NULL, 0), D64_SHORT);
-    EXPECT(d64_check(NULL, 0, NULL, 0), D64_SHORT);
-    EXPECT(d64_read(NULL, 0, NULL, 0, NULL, 0, block, sizeof block), D64_WRONG_SIZE);
-    EXPECT(d64_read(image, sizeof image, NULL, 0, NULL, 0, block, sizeof block), D64_BAD_NAME);
+    EXPECT(d64_check(LAYOUT, image, sizeof image, NULL, 0), D64_SHORT);
+    EXPECT(d64_check(LAYOUT, NULL, 0, NULL, 0), D64_SHORT);
+    EXPECT(d64_read(LAYOUT, NULL, 0, NULL, 0, NULL, 0, block, sizeof block), D64_WRONG_SIZE);
+    EXPECT(d64_read(LAYOUT, image, sizeof image, NULL, 0, NULL, 0, block, sizeof block), D64_BAD_NAME);
     EXPECT_NOWHERE();
-    EXPECT(d64_read(image, sizeof image, (const uint8_t *)"CODE", 4, NULL, 0, block, sizeof block), D64_SHORT);
+    EXPECT(d64_read(LAYOUT, image, sizeof image, (const uint8_t *)"CODE", 4, NULL, 0, block, sizeof block), D64_SHORT);
     EXPECT_NOWHERE();
-    EXPECT(d64_read(image, sizeof image, (const uint8_t *)"NONE", 4, NULL, 0, block, sizeof block), D64_DONE);
+    EXPECT(d64_read(LAYOUT, image, sizeof image, (const uint8_t *)"NONE", 4, NULL, 0, block, sizeof block), D64_DONE);
     EXPECT_BLOCK(0, 0, 255, 0, 1);
-    EXPECT(d64_read(NULL, 0, NULL, 0, NULL, 0, NULL, 0), D64_SHORT);
-    EXPECT(d64_tell(image, sizeof image, 0, NULL, 0, block, sizeof block), D64_SHORT);
-    EXPECT(d64_tell(NULL, 0, 0, NULL, 0, block, sizeof block), D64_WRONG_SIZE);
-    EXPECT(d64_tell(NULL, 0, 0, NULL, 0, NULL, 0), D64_SHORT);
-    EXPECT(d64_listing(NULL, 0, NULL, 0, block, sizeof block), D64_WRONG_SIZE);
+    EXPECT(d64_read(LAYOUT, NULL, 0, NULL, 0, NULL, 0, NULL, 0), D64_SHORT);
+    EXPECT(d64_tell(LAYOUT, image, sizeof image, 0, NULL, 0, block, sizeof block), D64_SHORT);
+    EXPECT(d64_tell(LAYOUT, NULL, 0, 0, NULL, 0, block, sizeof block), D64_WRONG_SIZE);
+    EXPECT(d64_tell(LAYOUT, NULL, 0, 0, NULL, 0, NULL, 0), D64_SHORT);
+    EXPECT(d64_listing(LAYOUT, NULL, 0, NULL, 0, block, sizeof block), D64_WRONG_SIZE);
     EXPECT_NOWHERE();
-    EXPECT(d64_listing(image + D64_TRACK18_OFFSET, D64_TRACK18_BYTES, NULL, 0, block, sizeof block), D64_SHORT);
+    EXPECT(d64_listing(LAYOUT, image + D64_TRACK18_OFFSET, D64_TRACK18_BYTES, NULL, 0, block, sizeof block), D64_SHORT);
     EXPECT_NOWHERE();
-    EXPECT(d64_listing(NULL, 0, NULL, 0, NULL, 0), D64_SHORT);
+    EXPECT(d64_listing(LAYOUT, NULL, 0, NULL, 0, NULL, 0), D64_SHORT);
 }
 
 int main(void)

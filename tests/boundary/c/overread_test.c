@@ -13,7 +13,7 @@
 #include <unistd.h>
 
 #define PAGE 4096
-#define PAGES_BYTES (46 * PAGE) /* room for an image and more */
+#define PAGES_BYTES (50 * PAGE) /* room for an image and more */
 
 enum side { AT_END, AT_START };
 
@@ -24,7 +24,7 @@ struct lent {
     size_t len;
 };
 
-static uint8_t disk[D64_IMAGE_BYTES];
+static uint8_t disk[IMAGE_BYTES];
 static struct lent image, track18, name, data, out, block;
 static struct lent written; /* the image, for a call that may write it */
 static enum side side;
@@ -81,7 +81,7 @@ static void lend_block(size_t len)
 static void check(void)
 {
     now = "d64_check()";
-    d64_check(image.bytes, image.len, block.bytes, block.len);
+    d64_check(LAYOUT, image.bytes, image.len, block.bytes, block.len);
     calls++;
 }
 
@@ -90,7 +90,7 @@ static void read_file(const char *file, size_t name_len, size_t out_len)
     now = "d64_read()";
     lend_read_only(&name, (const uint8_t *)file, name_len);
     lend(&out, NULL, out_len);
-    d64_read(image.bytes, image.len, name.bytes, name.len, out.bytes, out.len, block.bytes, block.len);
+    d64_read(LAYOUT, image.bytes, image.len, name.bytes, name.len, out.bytes, out.len, block.bytes, block.len);
     calls++;
 }
 
@@ -98,7 +98,7 @@ static void tell(size_t position, size_t entry_len)
 {
     now = "d64_tell()";
     lend(&out, NULL, entry_len);
-    d64_tell(image.bytes, image.len, position, out.bytes, out.len, block.bytes, block.len);
+    d64_tell(LAYOUT, image.bytes, image.len, position, out.bytes, out.len, block.bytes, block.len);
     calls++;
 }
 
@@ -106,7 +106,7 @@ static void list(size_t text_len)
 {
     now = "d64_listing()";
     lend(&out, NULL, text_len);
-    d64_listing(track18.bytes, track18.len, out.bytes, out.len, block.bytes, block.len);
+    d64_listing(LAYOUT, track18.bytes, track18.len, out.bytes, out.len, block.bytes, block.len);
     calls++;
 }
 
@@ -124,7 +124,7 @@ static void format(const char *disk_name, size_t name_len)
     now = "d64_format()";
     lend_read_only(&name, (const uint8_t *)disk_name, name_len);
     lend_written();
-    d64_format(written.bytes, written.len, name.bytes, name.len, 0x30, 0x31, block.bytes, block.len);
+    d64_format(LAYOUT, written.bytes, written.len, name.bytes, name.len, 0x30, 0x31, block.bytes, block.len);
     calls++;
 }
 
@@ -134,7 +134,7 @@ static void store(const char *file, size_t name_len, uint32_t kind, size_t lengt
     lend_read_only(&name, (const uint8_t *)file, name_len);
     lend_read_only(&data, NULL, length);
     lend_written();
-    d64_store(written.bytes, written.len, name.bytes, name.len, kind, data.bytes, data.len, block.bytes, block.len);
+    d64_store(LAYOUT, written.bytes, written.len, name.bytes, name.len, kind, data.bytes, data.len, block.bytes, block.len);
     calls++;
 }
 
@@ -143,7 +143,7 @@ static void scratch(const char *file, size_t name_len)
     now = "d64_scratch()";
     lend_read_only(&name, (const uint8_t *)file, name_len);
     lend_written();
-    d64_scratch(written.bytes, written.len, name.bytes, name.len, block.bytes, block.len);
+    d64_scratch(LAYOUT, written.bytes, written.len, name.bytes, name.len, block.bytes, block.len);
     calls++;
 }
 
@@ -152,7 +152,7 @@ static void call_writing(void)
 {
     static const char file[] = "F000 AND MORE THAN THAT";
     static const size_t names[] = {0, 1, 4, 15, 16, 17};
-    static const size_t lengths[] = {0, 1, 253, 254, 255, 508, 509, 5000, 168656, 168657};
+    static const size_t lengths[] = {0, 1, 253, 254, 255, 508, 509, 5000, MOST_BYTES, MOST_BYTES + 1};
     for (size_t i = 0; i < sizeof names / sizeof names[0]; i++) {
         format(file, names[i]);
         store(file, names[i], 2, 300);
@@ -192,8 +192,10 @@ static void call_on_disk(size_t length)
 
 static void call_on_sizes(void)
 {
-    static const size_t sizes[] = {0, 1, 2, 255, 256, 4863, 91392, 91650, D64_IMAGE_BYTES - 1};
+    static const size_t sizes[] = {0, 1, 2, 255, 256, 4863, 91392, 91650, 174847, 174848, 196607, 196608};
     for (size_t i = 0; i < sizeof sizes / sizeof sizes[0]; i++) {
+        if (sizes[i] > sizeof disk)
+            continue;
         lend_read_only(&image, disk, sizes[i]);
         lend_read_only(&track18, disk, sizes[i]);
         call_all(10);
@@ -203,7 +205,7 @@ static void call_on_sizes(void)
 /* Every first byte of every sector, and every link of the directory, leads astray. */
 static void call_on_bad_links(void)
 {
-    static const uint8_t tracks[] = {0, 1, 17, 18, 35, 36, 255};
+    static const uint8_t tracks[] = {0, 1, 17, 18, 35, 36, 40, 41, 255};
     struct hand hand = {17, 0, 0};
     format_by_hand(disk, "LINKS", 0x30, 0x31);
     add_files(disk, &hand, 9, 600);
@@ -217,7 +219,7 @@ static void call_on_bad_links(void)
         }
 }
 
-/* All bits past the tracks' last sectors are set, and 35/16 alone is free or all: 35/17 would lie behind the image. */
+/* All bits past the tracks' last sectors are set, and the last sector alone is free or all: the one after it would lie behind the image. */
 static void call_on_spare_bits(void)
 {
     struct hand hand = {17, 0, 0};
@@ -225,8 +227,8 @@ static void call_on_spare_bits(void)
     for (int track = 1; track <= TRACKS; track++)
         map_entry(disk, track)[3] |= (uint8_t)(0xFF << (sectors_of(track) - 16));
     call_on_disk(0);
-    add_files(disk, &hand, 1, 168656 - DATA_BYTES);
-    call_on_disk(168656 - DATA_BYTES);
+    add_files(disk, &hand, 1, MOST_BYTES - DATA_BYTES);
+    call_on_disk(MOST_BYTES - DATA_BYTES);
 }
 
 static void call_on_many_disks(void)
@@ -242,8 +244,8 @@ static void call_on_many_disks(void)
     hand.track = 17;
     hand.sector = hand.slot = 0;
     format_by_hand(disk, "FULL", 0x30, 0x31);
-    add_files(disk, &hand, 1, 168656);
-    call_on_disk(168656);
+    add_files(disk, &hand, 1, MOST_BYTES);
+    call_on_disk(MOST_BYTES);
     memset(disk, 0xFF, sizeof disk);
     call_on_disk(10);
     call_on_bad_links();

@@ -11,7 +11,7 @@
 static const char text[] = "434F444553A0A0A0A0A0A0A0A0A0A0A03031\n"
                            "8111004F4E45A0A0A0A0A0A0A0A0A0A0A0A0A00300\n"
                            "81110354574FA0A0A0A0A0A0A0A0A0A0A0A0A00300\n"
-                           "0292\n";
+                           BY_TRACKS("0292\n", "02E7\n");
 
 /* ONE is 17/0 to 17/2, TWO is 17/3 to 17/5. */
 static struct hand two_files(void)
@@ -28,18 +28,18 @@ static struct hand two_files(void)
 static uint32_t store(const char *name, uint32_t kind, size_t length)
 {
     static const uint8_t data[200000] = {0};
-    return d64_store(image, sizeof image, (const uint8_t *)name, strlen(name), kind, data, length, block,
+    return d64_store(LAYOUT, image, sizeof image, (const uint8_t *)name, strlen(name), kind, data, length, block,
                      sizeof block);
 }
 
 static uint32_t scratch(const char *name)
 {
-    return d64_scratch(image, sizeof image, (const uint8_t *)name, strlen(name), block, sizeof block);
+    return d64_scratch(LAYOUT, image, sizeof image, (const uint8_t *)name, strlen(name), block, sizeof block);
 }
 
 static uint32_t tell(size_t position, size_t entry_len)
 {
-    return d64_tell(image, sizeof image, position, out, entry_len, block, sizeof block);
+    return d64_tell(LAYOUT, image, sizeof image, position, out, entry_len, block, sizeof block);
 }
 
 /* A call that has just answered 'number': it was 8, at this place, and it wrote nothing. */
@@ -180,7 +180,7 @@ static void before_the_later_answers(void)
     struct hand hand = two_files();
     flip(1, 7);
     EXPECT_EIGHT(store("ONE", 1, 300), 1, 7);
-    EXPECT_EIGHT(store("NEW", 1, 168657), 1, 7);
+    EXPECT_EIGHT(store("NEW", 1, MOST_BYTES + 1), 1, 7);
     EXPECT_EIGHT(read_file("THREE", sizeof out), 1, 7);
     EXPECT_EIGHT(scratch("THREE"), 1, 7);
     EXPECT_EIGHT(tell(2, D64_ENTRY_BYTES), 1, 7);
@@ -205,7 +205,7 @@ static void after_the_earlier_answers(void)
 {
     two_files();
     flip(1, 0);
-    EXPECT(d64_check(image, sizeof image - 1, block, sizeof block), D64_WRONG_SIZE);
+    EXPECT(d64_check(LAYOUT, image, sizeof image - 1, block, sizeof block), D64_WRONG_SIZE);
     EXPECT_NOWHERE();
     EXPECT(read_file("", sizeof out), D64_BAD_NAME);
     EXPECT_NOWHERE();

@@ -10,10 +10,10 @@
 #define LIMIT (16 * 1024)
 #define PAINT 0xA5
 
-static uint8_t image[D64_IMAGE_BYTES];
-static uint8_t before[D64_IMAGE_BYTES];
-static uint8_t out[D64_IMAGE_BYTES];
-static uint8_t data[168657];
+static uint8_t image[IMAGE_BYTES];
+static uint8_t before[IMAGE_BYTES];
+static uint8_t out[IMAGE_BYTES];
+static uint8_t data[254 * ROOM + 1];
 static uint8_t block[D64_BLOCK_BYTES];
 static uint8_t stack[512 * 1024];
 static const char *name;
@@ -26,37 +26,37 @@ static void nothing(void)
 
 static void check(void)
 {
-    d64_check(image, sizeof image, block, sizeof block);
+    d64_check(LAYOUT, image, sizeof image, block, sizeof block);
 }
 
 static void format(void)
 {
-    d64_format(image, sizeof image, (const uint8_t *)name, strlen(name), 0x30, 0x31, block, sizeof block);
+    d64_format(LAYOUT, image, sizeof image, (const uint8_t *)name, strlen(name), 0x30, 0x31, block, sizeof block);
 }
 
 static void read_file(void)
 {
-    d64_read(image, sizeof image, (const uint8_t *)name, strlen(name), out, sizeof out, block, sizeof block);
+    d64_read(LAYOUT, image, sizeof image, (const uint8_t *)name, strlen(name), out, sizeof out, block, sizeof block);
 }
 
 static void store(void)
 {
-    d64_store(image, sizeof image, (const uint8_t *)"NEW", 3, 2, data, length, block, sizeof block);
+    d64_store(LAYOUT, image, sizeof image, (const uint8_t *)"NEW", 3, 2, data, length, block, sizeof block);
 }
 
 static void scratch(void)
 {
-    d64_scratch(image, sizeof image, (const uint8_t *)name, strlen(name), block, sizeof block);
+    d64_scratch(LAYOUT, image, sizeof image, (const uint8_t *)name, strlen(name), block, sizeof block);
 }
 
 static void tell(void)
 {
-    d64_tell(image, sizeof image, position, out, sizeof out, block, sizeof block);
+    d64_tell(LAYOUT, image, sizeof image, position, out, sizeof out, block, sizeof block);
 }
 
 static void list(void)
 {
-    d64_listing(image + D64_TRACK18_OFFSET, D64_TRACK18_BYTES, out, sizeof out, block, sizeof block);
+    d64_listing(LAYOUT, image + D64_TRACK18_OFFSET, D64_TRACK18_BYTES, out, sizeof out, block, sizeof block);
 }
 
 static struct {
@@ -105,8 +105,8 @@ static void measure_on_many_disks(void)
     struct hand hand = {17, 0, 0};
     format_by_hand(image, "EMPTY", 0x30, 0x31);
     measure("NONE", 0, 0);
-    measure("NONE", 0, 168656);
-    measure("NONE", 0, 168657);
+    measure("NONE", 0, MOST_BYTES);
+    measure("NONE", 0, MOST_BYTES + 1);
     add_files(image, &hand, 8, 600); /* the directory grows */
     measure("F000", 0, 5000);
     add_files(image, &hand, 143, 600);
@@ -121,7 +121,7 @@ static void measure_on_many_disks(void)
     hand.track = 17;
     hand.sector = hand.slot = 0;
     format_by_hand(image, "FULL", 0x30, 0x31);
-    add_file(image, &hand, 0x82, "ALL", 168656);
+    add_file(image, &hand, 0x82, "ALL", MOST_BYTES);
     measure("ALL", 0, 0);
     memset(image, 0xFF, sizeof image);
     measure("ALL", 0, 0);

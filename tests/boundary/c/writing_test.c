@@ -4,52 +4,9 @@
  * before. Ends with status 1 at the first difference. Compiled as C11 and as C++.
  */
 #define _DEFAULT_SOURCE
-#include "expect.h"
+#include "changing.h"
 
 #include <sys/mman.h>
-
-#define MOST 168656 /* bytes that a fresh disk takes */
-
-static uint8_t wanted[D64_IMAGE_BYTES]; /* the disk written by hand */
-static uint8_t data[MOST + 1];
-
-static uint32_t format(const char *name, int id1, int id2)
-{
-    return d64_format(image, sizeof image, (const uint8_t *)name, strlen(name), (uint8_t)id1, (uint8_t)id2, block,
-                      sizeof block);
-}
-
-static uint32_t store(const char *name, uint32_t kind, size_t length)
-{
-    return d64_store(image, sizeof image, (const uint8_t *)name, strlen(name), kind, data, length, block, sizeof block);
-}
-
-static uint32_t scratch(const char *name)
-{
-    return d64_scratch(image, sizeof image, (const uint8_t *)name, strlen(name), block, sizeof block);
-}
-
-/* The image is as 'other', byte for byte. */
-static void expect_image(const uint8_t *other, int line)
-{
-    for (size_t i = 0; i < sizeof image; i++)
-        if (image[i] != other[i]) {
-            printf("sector %zu, byte %zu: ", i / SECTOR_BYTES, i % SECTOR_BYTES);
-            expect(image[i], other[i], "a byte of the image", __FILE__, line);
-        }
-    tests++;
-}
-
-#define EXPECT_WANTED() expect_image(wanted, __LINE__)
-
-/* Compares the number of a call that is refused without a place, and that it changes nothing. */
-#define EXPECT_REFUSED(call, number)          \
-    do {                                      \
-        memcpy(before, image, sizeof image);  \
-        EXPECT(call, number);                 \
-        EXPECT_NOWHERE();                     \
-        expect_image(before, __LINE__);       \
-    } while (0)
 
 static void expect_entry(int track, int count, int first, int second, int third, int line)
 {
@@ -85,7 +42,7 @@ static void a_disk_is_formatted(void)
     format_by_hand(wanted, "CODES", 0x30, 0x31);
     EXPECT_WANTED();
     expect_entry(18, 0x11, 0xFC, 0xFF, 0x07, __LINE__);
-    EXPECT(free_off_track_18(), 664);
+    EXPECT(free_off_track_18(), ROOM);
     EXPECT(check(), D64_DONE);
     EXPECT(format("SIXTEEN BYTES!!!", 0x00, 0xFF), D64_DONE);
     format_by_hand(wanted, "SIXTEEN BYTES!!!", 0x00, 0xFF);
@@ -101,7 +58,7 @@ static void a_format_is_refused(void)
     EXPECT_REFUSED(format("", 0x30, 0x31), D64_BAD_NAME);
     EXPECT_REFUSED(format("SEVENTEEN BYTES! ", 0x30, 0x31), D64_BAD_NAME);
     EXPECT_REFUSED(format("A\xA0", 0x30, 0x31), D64_BAD_NAME);
-    EXPECT_REFUSED(d64_format(image, sizeof image - 1, NULL, 0, 1, 2, block, sizeof block), D64_WRONG_SIZE);
+    EXPECT_REFUSED(d64_format(LAYOUT, image, sizeof image - 1, NULL, 0, 1, 2, block, sizeof block), D64_WRONG_SIZE);
 }
 
 /* Document 01: format (CODES, 30 31), then store 300 bytes as CODE, PRG. */
@@ -109,7 +66,7 @@ static void the_example(void)
 {
     static const char text[] = "434F444553A0A0A0A0A0A0A0A0A0A0A03031\n"
                                "821100434F4445A0A0A0A0A0A0A0A0A0A0A0A00200\n"
-                               "0296\n";
+                               BY_TRACKS("0296\n", "02EB\n");
     const size_t length = sizeof text - 1;
     struct hand hand = fresh();
     EXPECT(store("CODE", 2, 300), D64_DONE);
@@ -134,11 +91,11 @@ static void the_largest_file(void)
     struct hand hand = fresh();
     EXPECT_REFUSED(store("ALL", 2, MOST + 1), D64_DISK_FULL);
     EXPECT(store("ALL", 2, MOST), D64_DONE);
-    EXPECT_BLOCK(0, 0, 255, MOST, 664);
+    EXPECT_BLOCK(0, 0, 255, MOST, ROOM);
     add_file(wanted, &hand, 0x82, "ALL", MOST);
     EXPECT_WANTED();
     EXPECT(scratch("ALL"), D64_DONE);
-    EXPECT_BLOCK(0, 0, 255, MOST, 664);
+    EXPECT_BLOCK(0, 0, 255, MOST, ROOM);
     format_by_hand(wanted, "CODES", 0x30, 0x31);
     EXPECT_WANTED();
 }
@@ -226,7 +183,7 @@ static void expect_told(size_t position, int type, const char *name, const char 
     told[0] = (uint8_t)type;
     put_name(told + 1, name);
     memcpy(told + 17, rest, 8);
-    EXPECT(d64_tell(image, sizeof image, position, out, sizeof told, block, sizeof block), D64_DONE);
+    EXPECT(d64_tell(LAYOUT, image, sizeof image, position, out, sizeof told, block, sizeof block), D64_DONE);
     EXPECT_NOWHERE();
     for (size_t i = 0; i < sizeof told; i++)
         EXPECT(out[i], told[i]);
@@ -237,7 +194,7 @@ static void usr_files_are_shown(void)
     static const char text[] = "434F444553A0A0A0A0A0A0A0A0A0A0A03031\n"
                                "8311004F4C44A0A0A0A0A0A0A0A0A0A0A0A0A00200\n"
                                "C311024C4F434B4544A0A0A0A0A0A0A0A0A0A00100\n"
-                               "0295\n";
+                               BY_TRACKS("0295\n", "02EA\n");
     const size_t length = sizeof text - 1;
     usr_disk();
     expect_told(0, 0x83, "OLD", "\x11\x00\x02\x00\x2C\x01\x00\x00");
@@ -292,7 +249,7 @@ static void a_full_directory(void)
         add_files(wanted, &hand, hand.slot + 1, 10);
         EXPECT_WANTED();
     }
-    EXPECT(free_off_track_18(), 664 - 144);
+    EXPECT(free_off_track_18(), ROOM - 144);
     EXPECT_REFUSED(store("MORE", 2, 10), D64_DIRECTORY_FULL);
     EXPECT_REFUSED(store("MORE", 2, MOST), D64_DIRECTORY_FULL);
     EXPECT_REFUSED(store("F000", 2, MOST), D64_NAME_TAKEN);
@@ -406,9 +363,11 @@ static const char full_map[SECTOR_BYTES + 1] = MAP_HEAD
     "\x00\x00\x00\x02" "\x00\x00\x00\x04" "\x00\x00\x00\x80" "\x00\x00\x00\x00" "\x00\x00\x00\xFE"
     MAP_NAME;
 
+#define MAP_BYTES BY_TRACKS(SECTOR_BYTES, 0xAC) /* layout_test has the entries of tracks 36 to 40 */
+
 static void expect_map(const char *map, int line)
 {
-    for (int i = 0; i < SECTOR_BYTES; i++)
+    for (int i = 0; i < MAP_BYTES; i++)
         expect(sector_at(image, 18, 0)[i], (uint8_t)map[i], "a byte of 18/0", __FILE__, line);
 }
 
@@ -416,7 +375,7 @@ static void expect_map(const char *map, int line)
 static void spare_disk(void)
 {
     format_by_hand(wanted, "CODES", 0x30, 0x31);
-    memcpy(sector_at(wanted, 18, 0), empty_map, SECTOR_BYTES);
+    memcpy(sector_at(wanted, 18, 0), empty_map, MAP_BYTES);
     memcpy(image, wanted, sizeof image);
     EXPECT(check(), D64_DONE);
 }
@@ -427,7 +386,7 @@ static void spare_bits_stay(void)
     spare_disk();
     EXPECT_REFUSED(store("ALL", 2, MOST + 1), D64_DISK_FULL);
     EXPECT(store("ALL", 2, MOST), D64_DONE);
-    EXPECT_BLOCK(0, 0, 255, MOST, 664);
+    EXPECT_BLOCK(0, 0, 255, MOST, ROOM);
     expect_map(full_map, __LINE__);
     EXPECT_REFUSED(store("NONE", 2, 0), D64_DISK_FULL);
     EXPECT_REFUSED(scratch("NONE"), D64_NOT_FOUND);
@@ -519,10 +478,10 @@ static void blocks_of_other_sizes(void)
     for (size_t size = 0; size <= sizeof wide; size++) {
         if (size == D64_BLOCK_BYTES)
             continue;
-        EXPECT(d64_format(image, sizeof image, name, sizeof name, 1, 2, wide, size), D64_SHORT);
-        EXPECT(d64_store(image, sizeof image, name, 3, 2, data, 300, wide, size), D64_SHORT);
-        EXPECT(d64_scratch(image, sizeof image, name, sizeof name, wide, size), D64_SHORT);
-        EXPECT(d64_store(image, 0, NULL, 0, 0, NULL, 0, wide, size), D64_SHORT);
+        EXPECT(d64_format(LAYOUT, image, sizeof image, name, sizeof name, 1, 2, wide, size), D64_SHORT);
+        EXPECT(d64_store(LAYOUT, image, sizeof image, name, 3, 2, data, 300, wide, size), D64_SHORT);
+        EXPECT(d64_scratch(LAYOUT, image, sizeof image, name, sizeof name, wide, size), D64_SHORT);
+        EXPECT(d64_store(LAYOUT, image, 0, NULL, 0, 0, NULL, 0, wide, size), D64_SHORT);
     }
     for (size_t i = 0; i < sizeof wide; i++)
         EXPECT(wide[i], 0x55);
@@ -533,17 +492,17 @@ static void null_is_an_empty_slice(void)
 {
     const uint8_t *code = (const uint8_t *)"CODE";
     struct hand hand = fresh();
-    EXPECT_REFUSED(d64_format(NULL, 0, code, 4, 1, 2, block, sizeof block), D64_WRONG_SIZE);
-    EXPECT_REFUSED(d64_format(image, sizeof image, NULL, 0, 1, 2, block, sizeof block), D64_BAD_NAME);
-    EXPECT_REFUSED(d64_store(NULL, 0, NULL, 0, 0, NULL, 0, block, sizeof block), D64_WRONG_SIZE);
-    EXPECT_REFUSED(d64_store(image, sizeof image, NULL, 0, 2, NULL, 0, block, sizeof block), D64_BAD_NAME);
-    EXPECT_REFUSED(d64_scratch(NULL, 0, NULL, 0, block, sizeof block), D64_WRONG_SIZE);
-    EXPECT_REFUSED(d64_scratch(image, sizeof image, NULL, 0, block, sizeof block), D64_BAD_NAME);
-    EXPECT(d64_format(NULL, 0, NULL, 0, 0, 0, NULL, 0), D64_SHORT);
-    EXPECT(d64_store(NULL, 0, NULL, 0, 0, NULL, 0, NULL, 0), D64_SHORT);
-    EXPECT(d64_scratch(NULL, 0, NULL, 0, NULL, 0), D64_SHORT);
+    EXPECT_REFUSED(d64_format(LAYOUT, NULL, 0, code, 4, 1, 2, block, sizeof block), D64_WRONG_SIZE);
+    EXPECT_REFUSED(d64_format(LAYOUT, image, sizeof image, NULL, 0, 1, 2, block, sizeof block), D64_BAD_NAME);
+    EXPECT_REFUSED(d64_store(LAYOUT, NULL, 0, NULL, 0, 0, NULL, 0, block, sizeof block), D64_WRONG_SIZE);
+    EXPECT_REFUSED(d64_store(LAYOUT, image, sizeof image, NULL, 0, 2, NULL, 0, block, sizeof block), D64_BAD_NAME);
+    EXPECT_REFUSED(d64_scratch(LAYOUT, NULL, 0, NULL, 0, block, sizeof block), D64_WRONG_SIZE);
+    EXPECT_REFUSED(d64_scratch(LAYOUT, image, sizeof image, NULL, 0, block, sizeof block), D64_BAD_NAME);
+    EXPECT(d64_format(LAYOUT, NULL, 0, NULL, 0, 0, 0, NULL, 0), D64_SHORT);
+    EXPECT(d64_store(LAYOUT, NULL, 0, NULL, 0, 0, NULL, 0, NULL, 0), D64_SHORT);
+    EXPECT(d64_scratch(LAYOUT, NULL, 0, NULL, 0, NULL, 0), D64_SHORT);
     EXPECT_WANTED();
-    EXPECT(d64_store(image, sizeof image, code, 4, 2, NULL, 0, block, sizeof block), D64_DONE);
+    EXPECT(d64_store(LAYOUT, image, sizeof image, code, 4, 2, NULL, 0, block, sizeof block), D64_DONE);
     EXPECT_BLOCK(0, 0, 255, 0, 1);
     add_file(wanted, &hand, 0x82, "CODE", 0);
     EXPECT_WANTED();
@@ -558,18 +517,17 @@ static void vast_lengths(void)
     if (pages == MAP_FAILED)
         exit(2);
     fresh();
-    EXPECT_REFUSED(d64_store(image, sizeof image, (const uint8_t *)"CODE", 4, 2, bytes, vast, block, sizeof block),
+    EXPECT_REFUSED(d64_store(LAYOUT, image, sizeof image, (const uint8_t *)"CODE", 4, 2, bytes, vast, block, sizeof block),
                    D64_DISK_FULL);
-    EXPECT_REFUSED(d64_store(image, sizeof image, bytes, name_len, 2, data, 300, block, sizeof block), D64_BAD_NAME);
-    EXPECT_REFUSED(d64_scratch(image, sizeof image, bytes, name_len, block, sizeof block), D64_BAD_NAME);
-    EXPECT_REFUSED(d64_format(image, sizeof image, bytes, name_len, 1, 2, block, sizeof block), D64_BAD_NAME);
+    EXPECT_REFUSED(d64_store(LAYOUT, image, sizeof image, bytes, name_len, 2, data, 300, block, sizeof block), D64_BAD_NAME);
+    EXPECT_REFUSED(d64_scratch(LAYOUT, image, sizeof image, bytes, name_len, block, sizeof block), D64_BAD_NAME);
+    EXPECT_REFUSED(d64_format(LAYOUT, image, sizeof image, bytes, name_len, 1, 2, block, sizeof block), D64_BAD_NAME);
     munmap(pages, vast);
 }
 
 int main(void)
 {
-    for (size_t i = 0; i < sizeof data; i++)
-        data[i] = file_byte(i);
+    fill_data();
     a_disk_is_formatted();
     a_format_is_refused();
     the_example();

@@ -4,8 +4,15 @@ use crate::calls::{EntryPoints, Slice};
 
 #[link(name = "d64", kind = "static")]
 unsafe extern "C" {
-    fn d64_check(image: *const u8, image_len: usize, answer: *mut u8, answer_len: usize) -> u32;
+    fn d64_check(
+        layout: u32,
+        image: *const u8,
+        image_len: usize,
+        answer: *mut u8,
+        answer_len: usize,
+    ) -> u32;
     fn d64_format(
+        layout: u32,
         image: *mut u8,
         image_len: usize,
         name: *const u8,
@@ -16,6 +23,7 @@ unsafe extern "C" {
         answer_len: usize,
     ) -> u32;
     fn d64_read(
+        layout: u32,
         image: *const u8,
         image_len: usize,
         name: *const u8,
@@ -26,6 +34,7 @@ unsafe extern "C" {
         answer_len: usize,
     ) -> u32;
     fn d64_store(
+        layout: u32,
         image: *mut u8,
         image_len: usize,
         name: *const u8,
@@ -37,6 +46,7 @@ unsafe extern "C" {
         answer_len: usize,
     ) -> u32;
     fn d64_scratch(
+        layout: u32,
         image: *mut u8,
         image_len: usize,
         name: *const u8,
@@ -45,6 +55,7 @@ unsafe extern "C" {
         answer_len: usize,
     ) -> u32;
     fn d64_tell(
+        layout: u32,
         image: *const u8,
         image_len: usize,
         position: usize,
@@ -54,6 +65,7 @@ unsafe extern "C" {
         answer_len: usize,
     ) -> u32;
     fn d64_listing(
+        layout: u32,
         track18: *const u8,
         track18_len: usize,
         text: *mut u8,
@@ -67,13 +79,22 @@ unsafe extern "C" {
 pub struct Archive;
 
 impl EntryPoints for Archive {
-    unsafe fn check(&self, image: Slice, answer: Slice) -> u32 {
-        unsafe { d64_check(image.start, image.len, answer.start, answer.len) }
+    unsafe fn check(&self, layout: u32, image: Slice, answer: Slice) -> u32 {
+        unsafe { d64_check(layout, image.start, image.len, answer.start, answer.len) }
     }
 
-    unsafe fn format(&self, image: Slice, name: Slice, id1: u8, id2: u8, answer: Slice) -> u32 {
+    unsafe fn format(
+        &self,
+        layout: u32,
+        image: Slice,
+        name: Slice,
+        id1: u8,
+        id2: u8,
+        answer: Slice,
+    ) -> u32 {
         unsafe {
             d64_format(
+                layout,
                 image.start,
                 image.len,
                 name.start,
@@ -86,9 +107,17 @@ impl EntryPoints for Archive {
         }
     }
 
-    unsafe fn read(&self, image: Slice, name: Slice, out: Slice, answer: Slice) -> u32 {
+    unsafe fn read(
+        &self,
+        layout: u32,
+        image: Slice,
+        name: Slice,
+        out: Slice,
+        answer: Slice,
+    ) -> u32 {
         unsafe {
             d64_read(
+                layout,
                 image.start,
                 image.len,
                 name.start,
@@ -103,6 +132,7 @@ impl EntryPoints for Archive {
 
     unsafe fn store(
         &self,
+        layout: u32,
         image: Slice,
         name: Slice,
         kind: u32,
@@ -111,6 +141,7 @@ impl EntryPoints for Archive {
     ) -> u32 {
         unsafe {
             d64_store(
+                layout,
                 image.start,
                 image.len,
                 name.start,
@@ -124,9 +155,10 @@ impl EntryPoints for Archive {
         }
     }
 
-    unsafe fn scratch(&self, image: Slice, name: Slice, answer: Slice) -> u32 {
+    unsafe fn scratch(&self, layout: u32, image: Slice, name: Slice, answer: Slice) -> u32 {
         unsafe {
             d64_scratch(
+                layout,
                 image.start,
                 image.len,
                 name.start,
@@ -137,9 +169,17 @@ impl EntryPoints for Archive {
         }
     }
 
-    unsafe fn tell(&self, image: Slice, position: usize, entry: Slice, answer: Slice) -> u32 {
+    unsafe fn tell(
+        &self,
+        layout: u32,
+        image: Slice,
+        position: usize,
+        entry: Slice,
+        answer: Slice,
+    ) -> u32 {
         unsafe {
             d64_tell(
+                layout,
                 image.start,
                 image.len,
                 position,
@@ -151,9 +191,10 @@ impl EntryPoints for Archive {
         }
     }
 
-    unsafe fn listing(&self, track18: Slice, text: Slice, answer: Slice) -> u32 {
+    unsafe fn listing(&self, layout: u32, track18: Slice, text: Slice, answer: Slice) -> u32 {
         unsafe {
             d64_listing(
+                layout,
                 track18.start,
                 track18.len,
                 text.start,

@@ -43,26 +43,42 @@ impl Slice {
 /// a byte with another, as d64.h asks.
 #[allow(clippy::missing_safety_doc)]
 pub trait EntryPoints {
-    unsafe fn check(&self, image: Slice, answer: Slice) -> u32 {
-        unsafe { host::check(image.bytes(), answer.bytes_mut()) }
+    unsafe fn check(&self, layout: u32, image: Slice, answer: Slice) -> u32 {
+        unsafe { host::check(layout, image.bytes(), answer.bytes_mut()) }
     }
 
-    unsafe fn format(&self, image: Slice, name: Slice, id1: u8, id2: u8, answer: Slice) -> u32 {
+    unsafe fn format(
+        &self,
+        layout: u32,
+        image: Slice,
+        name: Slice,
+        id1: u8,
+        id2: u8,
+        answer: Slice,
+    ) -> u32 {
         unsafe {
             let (image, answer) = (image.bytes_mut(), answer.bytes_mut());
-            host::format(image, name.bytes(), id1, id2, answer)
+            host::format(layout, image, name.bytes(), id1, id2, answer)
         }
     }
 
-    unsafe fn read(&self, image: Slice, name: Slice, out: Slice, answer: Slice) -> u32 {
+    unsafe fn read(
+        &self,
+        layout: u32,
+        image: Slice,
+        name: Slice,
+        out: Slice,
+        answer: Slice,
+    ) -> u32 {
         unsafe {
             let (out, answer) = (out.bytes_mut(), answer.bytes_mut());
-            host::read(image.bytes(), name.bytes(), out, answer)
+            host::read(layout, image.bytes(), name.bytes(), out, answer)
         }
     }
 
     unsafe fn store(
         &self,
+        layout: u32,
         image: Slice,
         name: Slice,
         kind: u32,
@@ -71,26 +87,40 @@ pub trait EntryPoints {
     ) -> u32 {
         unsafe {
             let (image, answer) = (image.bytes_mut(), answer.bytes_mut());
-            host::store(image, name.bytes(), kind, data.bytes(), answer)
+            host::store(layout, image, name.bytes(), kind, data.bytes(), answer)
         }
     }
 
-    unsafe fn scratch(&self, image: Slice, name: Slice, answer: Slice) -> u32 {
+    unsafe fn scratch(&self, layout: u32, image: Slice, name: Slice, answer: Slice) -> u32 {
         unsafe {
             let (image, answer) = (image.bytes_mut(), answer.bytes_mut());
-            host::scratch(image, name.bytes(), answer)
+            host::scratch(layout, image, name.bytes(), answer)
         }
     }
 
-    unsafe fn tell(&self, image: Slice, position: usize, entry: Slice, answer: Slice) -> u32 {
+    unsafe fn tell(
+        &self,
+        layout: u32,
+        image: Slice,
+        position: usize,
+        entry: Slice,
+        answer: Slice,
+    ) -> u32 {
         unsafe {
             let (entry, answer) = (entry.bytes_mut(), answer.bytes_mut());
-            host::tell(image.bytes(), position, entry, answer)
+            host::tell(layout, image.bytes(), position, entry, answer)
         }
     }
 
-    unsafe fn listing(&self, track18: Slice, text: Slice, answer: Slice) -> u32 {
-        unsafe { host::listing(track18.bytes(), text.bytes_mut(), answer.bytes_mut()) }
+    unsafe fn listing(&self, layout: u32, track18: Slice, text: Slice, answer: Slice) -> u32 {
+        unsafe {
+            host::listing(
+                layout,
+                track18.bytes(),
+                text.bytes_mut(),
+                answer.bytes_mut(),
+            )
+        }
     }
 }
 

@@ -3,7 +3,7 @@
 
 use crate::calls::{EntryPoints, Slice};
 use crate::memory::Guarded;
-use independent::geometry::{IMAGE_BYTES, TRACK_18_BYTES, TRACK_18_OFFSET};
+use independent::geometry::{IMAGE_BYTES, IMAGE_BYTES_40, TRACK_18_BYTES, TRACK_18_OFFSET};
 use independent::request::{lent, perform, Call, Independent, Reply, Request};
 use independent::rng::Rng;
 
@@ -74,9 +74,9 @@ pub fn word_of(call: &Call) -> &'static str {
     }
 }
 
-/// Track 18 of a whole image; anything else as it is.
+/// Track 18 of a whole image, of either size; anything else as it is.
 fn track_18_in(disk: Slice) -> Slice {
-    if disk.len != IMAGE_BYTES {
+    if disk.len != IMAGE_BYTES && disk.len != IMAGE_BYTES_40 {
         return disk;
     }
     Slice {
@@ -86,19 +86,20 @@ fn track_18_in(disk: Slice) -> Slice {
 }
 
 /// The call itself.
-fn run(library: &dyn EntryPoints, call: &Call, disk: Slice, memory: &mut Lent) -> u32 {
+fn run(library: &dyn EntryPoints, request: &Request, disk: Slice, memory: &mut Lent) -> u32 {
+    let layout = request.layout;
     let (name, data) = (memory.name.lend(), memory.data.lend());
     let (output, answer) = (memory.output.lend(), memory.answer.lend());
     // The slices are of five allocations, each lent once.
     unsafe {
-        match *call {
-            Call::Check => library.check(disk, answer),
-            Call::Format { id1, id2, .. } => library.format(disk, name, id1, id2, answer),
-            Call::Read { .. } => library.read(disk, name, output, answer),
-            Call::Store { kind, .. } => library.store(disk, name, kind, data, answer),
-            Call::Scratch { .. } => library.scratch(disk, name, answer),
-            Call::Tell { position, .. } => library.tell(disk, position, output, answer),
-            Call::Listing { .. } => library.listing(track_18_in(disk), output, answer),
+        match request.call {
+            Call::Check => library.check(layout, disk, answer),
+            Call::Format { id1, id2, .. } => library.format(layout, disk, name, id1, id2, answer),
+            Call::Read { .. } => library.read(layout, disk, name, output, answer),
+            Call::Store { kind, .. } => library.store(layout, disk, name, kind, data, answer),
+            Call::Scratch { .. } => library.scratch(layout, disk, name, answer),
+            Call::Tell { position, .. } => library.tell(layout, disk, position, output, answer),
+            Call::Listing { .. } => library.listing(layout, track_18_in(disk), output, answer),
         }
     }
 }
@@ -113,7 +114,7 @@ pub fn compare(
     let owed = perform(&Independent, &mut disk.expected, request)
         .expect("the independent program has every call");
     let mut memory = Lent::to(request, rng);
-    let number = run(library, &request.call, disk.lent.lend(), &mut memory);
+    let number = run(library, request, disk.lent.lend(), &mut memory);
     let mut found = Vec::new();
     if number != owed.number {
         found.push(format!("number: {number}, not {}", owed.number));

@@ -7,9 +7,10 @@ use crate::compare::{compare, Disk};
 use crate::tally::{Failure, Tally};
 use independent::calls::format;
 use independent::generate::{sound, SOUND};
-use independent::geometry::{IMAGE_BYTES, TRACK_18_OFFSET};
+use independent::geometry::{Geometry, LAYOUTS, TRACK_18_OFFSET};
 use independent::host::BLOCK_BYTES;
 use independent::lists::{requests, Style, STYLES};
+use independent::naive::last_track;
 use independent::plain::demand3;
 use independent::request::{Library, Request};
 use independent::rng::Rng;
@@ -30,9 +31,11 @@ const STARTS: [&str; 5] = [
     "last-slots",
 ];
 
-/// An accepted image, and calls on it in turn.
+/// An image accepted in a layout, and calls on it in turn, which all name that
+/// layout.
 pub struct List {
     pub seed: u64,
+    pub layout: u32,
     pub kind: &'static str,
     pub style: Style,
     pub start: Vec<u8>,
@@ -40,16 +43,19 @@ pub struct List {
 }
 
 impl List {
-    /// Every kind of start image in turn, and then again in another style.
+    /// Every kind of start image in turn, and then again in another style and
+    /// another layout.
     pub fn new(seed: u64) -> List {
         let kinds = [&STARTS[..], SOUND].concat();
         let (turn, at) = (seed as usize / kinds.len(), seed as usize % kinds.len());
         let (kind, style) = (kinds[at], STYLES[(turn + at) % STYLES.len()]);
+        let layout = LAYOUTS[(turn + at) % LAYOUTS.len()];
         let rng = &mut Rng::new(seed);
-        let start = start(rng, kind);
-        let requests = requests(rng, &start, style, CALLS);
+        let start = start(layout, rng, kind);
+        let requests = requests(layout, rng, &start, style, CALLS);
         List {
             seed,
+            layout,
             kind,
             style,
             start,
@@ -58,43 +64,52 @@ impl List {
     }
 
     fn shown(&self, at: usize) -> String {
-        let (seed, kind, style) = (self.seed, self.kind, self.style);
         let request = self.requests[at].shown();
-        format!("call {at} of list {seed}, {kind}, {style:?}: {request}")
+        format!("call {at} of {}: {request}", self.called())
+    }
+
+    /// The list's seed, layout, start and style.
+    fn called(&self) -> String {
+        let (seed, layout, kind, style) = (self.seed, self.layout, self.kind, self.style);
+        format!("list {seed}, layout {layout}, {kind}, {style:?}")
     }
 }
 
 /// A start image. Its DOS version forbids writing now and then.
-fn start(rng: &mut Rng, kind: &str) -> Vec<u8> {
+fn start(layout: u32, rng: &mut Rng, kind: &str) -> Vec<u8> {
     let mut image = match kind {
-        "formatted" => formatted(rng),
-        "formatted-spare" => formatted_elsewhere(rng),
+        "formatted" => formatted(layout, rng),
+        "formatted-spare" => formatted_elsewhere(layout, rng),
         "few-slots" | "few-slots-18-full" | "last-slots" => {
             let shape = few_slots(rng, kind);
-            build(rng, &shape).image
+            build(layout, rng, &shape).image
         }
-        _ => sound(kind, rng).expect("a kind of sound image").image,
+        _ => {
+            let plan = sound(layout, kind, rng);
+            plan.expect("a kind of sound image").image
+        }
     };
     let version = if rng.one_in(8) { rng.byte() } else { 0x41 };
     image[TRACK_18_OFFSET + 2] = rng.pick(&[0x41, version, version, 0x00]);
     image
 }
 
-fn formatted(rng: &mut Rng) -> Vec<u8> {
-    let mut image = rng.bytes(IMAGE_BYTES);
-    let answer = format(&mut image, b"START", rng.byte(), rng.byte());
+fn formatted(layout: u32, rng: &mut Rng) -> Vec<u8> {
+    let bytes = Geometry::of(layout).expect("a layout").image_bytes();
+    let mut image = rng.bytes(bytes);
+    let answer = format(layout, &mut image, b"START", rng.byte(), rng.byte());
     assert_eq!(answer.number, 0);
     image
 }
 
 /// As another program formats a disk, or as owners send it: all bits past a
 /// track's last sector are set, or any of them.
-fn formatted_elsewhere(rng: &mut Rng) -> Vec<u8> {
-    let mut image = formatted(rng);
+fn formatted_elsewhere(layout: u32, rng: &mut Rng) -> Vec<u8> {
+    let mut image = formatted(layout, rng);
     let all = rng.one_in(2);
-    for track in 1..=35 {
+    for track in 1..=last_track(layout) {
         let bits = if all { 0xFF } else { rng.byte() };
-        image[map_offset(track) + 3] |= bits & spare_mask(track);
+        image[map_offset(layout, track) + 3] |= bits & spare_mask(track);
     }
     image
 }
@@ -137,7 +152,7 @@ pub fn compare_list(
             eprintln!("{}", list.shown(at));
         }
         match compare(library, &mut disk, request, rng) {
-            Ok(owed) => tally.count(&request.call, &owed),
+            Ok(owed) => tally.count(request, &owed),
             Err(differences) => {
                 return Err(Failure {
                     request: list.shown(at),
@@ -161,8 +176,8 @@ pub fn demand3_over(library: &dyn EntryPoints, list: &List) -> Result<(), Failur
         library,
         refused: Cell::new(0),
     };
-    hosted.look(&list.start);
-    let broken = match demand3(&hosted, &list.start, &list.requests) {
+    hosted.look(list.layout, &list.start);
+    let broken = match demand3(&hosted, list.layout, &list.start, &list.requests) {
         Err(broken) => Some(broken),
         Ok(_) if hosted.refused.get() > 0 => {
             let images = hosted.refused.get();
@@ -171,7 +186,7 @@ pub fn demand3_over(library: &dyn EntryPoints, list: &List) -> Result<(), Failur
         Ok(_) => None,
     };
     let failure = |broken| Failure {
-        request: format!("list {}, {}, {:?}", list.seed, list.kind, list.style),
+        request: list.called(),
         differences: vec![broken],
         seed: list.seed,
     };
@@ -203,8 +218,8 @@ fn writable(bytes: &mut [u8]) -> Slice {
 
 impl Hosted<'_> {
     /// Asks the library's check for an image, which it is to accept.
-    fn look(&self, image: &[u8]) {
-        let number = self.check(image, &mut [0; BLOCK_BYTES]);
+    fn look(&self, layout: u32, image: &[u8]) {
+        let number = self.check(layout, image, &mut [0; BLOCK_BYTES]);
         self.refused
             .set(self.refused.get() + usize::from(number != 0));
     }
@@ -212,25 +227,44 @@ impl Hosted<'_> {
 
 // Each slice is of a borrow that lasts as long as the call.
 impl Library for Hosted<'_> {
-    fn check(&self, image: &[u8], block: &mut [u8]) -> u32 {
-        unsafe { self.library.check(read_only(image), writable(block)) }
+    fn check(&self, layout: u32, image: &[u8], block: &mut [u8]) -> u32 {
+        unsafe {
+            self.library
+                .check(layout, read_only(image), writable(block))
+        }
     }
 
-    fn format(&self, image: &mut [u8], name: &[u8], id1: u8, id2: u8, block: &mut [u8]) -> u32 {
+    fn format(
+        &self,
+        layout: u32,
+        image: &mut [u8],
+        name: &[u8],
+        id1: u8,
+        id2: u8,
+        block: &mut [u8],
+    ) -> u32 {
         let (lent, name, answer) = (writable(image), read_only(name), writable(block));
-        let number = unsafe { self.library.format(lent, name, id1, id2, answer) };
-        self.look(image);
+        let number = unsafe { self.library.format(layout, lent, name, id1, id2, answer) };
+        self.look(layout, image);
         number
     }
 
-    fn read(&self, image: &[u8], name: &[u8], out: &mut [u8], block: &mut [u8]) -> u32 {
+    fn read(
+        &self,
+        layout: u32,
+        image: &[u8],
+        name: &[u8],
+        out: &mut [u8],
+        block: &mut [u8],
+    ) -> u32 {
         let (image, name) = (read_only(image), read_only(name));
         let (out, answer) = (writable(out), writable(block));
-        unsafe { self.library.read(image, name, out, answer) }
+        unsafe { self.library.read(layout, image, name, out, answer) }
     }
 
     fn store(
         &self,
+        layout: u32,
         image: &mut [u8],
         name: &[u8],
         kind: u32,
@@ -239,15 +273,15 @@ impl Library for Hosted<'_> {
     ) -> u32 {
         let (lent, answer) = (writable(image), writable(block));
         let (name, data) = (read_only(name), read_only(data));
-        let number = unsafe { self.library.store(lent, name, kind, data, answer) };
-        self.look(image);
+        let number = unsafe { self.library.store(layout, lent, name, kind, data, answer) };
+        self.look(layout, image);
         number
     }
 
-    fn scratch(&self, image: &mut [u8], name: &[u8], block: &mut [u8]) -> u32 {
+    fn scratch(&self, layout: u32, image: &mut [u8], name: &[u8], block: &mut [u8]) -> u32 {
         let (lent, name, answer) = (writable(image), read_only(name), writable(block));
-        let number = unsafe { self.library.scratch(lent, name, answer) };
-        self.look(image);
+        let number = unsafe { self.library.scratch(layout, lent, name, answer) };
+        self.look(layout, image);
         number
     }
 }

@@ -1,27 +1,33 @@
 //! The requests on one image of a round, by what is on it.
 
 use independent::arguments::{
-    data, entry_room, kind, name, position, room, with_block, wrong_name,
+    any_layout, data, entry_room, kind, name, position, room, unknown_layout, with_block,
+    wrong_name,
 };
-use independent::geometry::{IMAGE_BYTES, TRACK_18_BYTES};
+use independent::geometry::{Geometry, IMAGE_BYTES, LAYOUTS, TRACK_18_BYTES};
 use independent::listing::{listing, LONGEST};
-use independent::naive::{contents, Contents};
+use independent::lists::room_of;
+use independent::naive::{accepted, contents, Contents};
 use independent::request::{track_18_of, Call, Request};
 use independent::rng::Rng;
 use independent::sound::fresh_name;
 
 /// Lengths of data at the edges: of a sector, of a fresh disk, past any disk.
-const LENGTHS: [usize; 13] = [
-    0, 0, 1, 253, 254, 255, 256, 508, 509, 510, 168_656, 168_657, 200_000,
-];
+const LENGTHS: [usize; 10] = [0, 0, 1, 253, 254, 255, 256, 508, 509, 510];
+
+fn length(layout: u32, rng: &mut Rng) -> usize {
+    let fresh = 254 * room_of(layout);
+    let long = [fresh, fresh + 1, 200_000];
+    rng.pick(&[&LENGTHS[..], &long].concat())
+}
 
 /// What is lent of an image, each with the requests on it in turn: the image,
 /// and track 18 or what a caller may take for it.
-pub fn lent_parts(rng: &mut Rng, image: &[u8]) -> [(Vec<u8>, Vec<Request>); 2] {
+pub fn lent_parts(layout: u32, rng: &mut Rng, image: &[u8]) -> [(Vec<u8>, Vec<Request>); 2] {
     let track18 = track_18(rng, image);
-    let listings = listing_requests(rng, &track18);
+    let listings = listing_requests(layout, rng, &track18);
     [
-        (image.to_vec(), image_requests(rng, image)),
+        (image.to_vec(), image_requests(layout, rng, image)),
         (track18, listings),
     ]
 }
@@ -40,8 +46,8 @@ fn track_18(rng: &mut Rng, image: &[u8]) -> Vec<u8> {
 /// Check, and reads, tells, stores and scratches in any order; now and then a
 /// format after them. An image that isn't accepted refuses all alike but a
 /// format, so it gets fewer of them.
-fn image_requests(rng: &mut Rng, image: &[u8]) -> Vec<Request> {
-    let held = contents(image);
+fn image_requests(layout: u32, rng: &mut Rng, image: &[u8]) -> Vec<Request> {
+    let held = contents(layout, image);
     let mut names = match &held {
         Some(held) => held.files.iter().map(|file| file.name.clone()).collect(),
         None => names_seen(image),
@@ -52,17 +58,37 @@ fn image_requests(rng: &mut Rng, image: &[u8]) -> Vec<Request> {
     for _ in 0..again {
         calls.push(read_call(rng, held.as_ref(), &names));
         calls.push(tell_call(rng, names.len()));
-        calls.push(store_call(rng, &mut names, free));
+        calls.push(store_call(layout, rng, &mut names, free));
         calls.push(scratch_call(rng, &names));
     }
     rng.shuffle(&mut calls);
-    if image.len() != IMAGE_BYTES || rng.one_in(3) {
+    if is_wrong_size(layout, image) || rng.one_in(3) {
         calls.push(format_call(rng, &names));
-        calls.push(store_call(rng, &mut names, 664));
+        calls.push(store_call(layout, rng, &mut names, room_of(layout)));
     }
-    calls
-        .into_iter()
-        .map(|call| with_block(rng, call))
+    let named = layouts_named(layout, rng, image, calls.len());
+    let with_block = |(layout, call)| with_block(layout, rng, call);
+    named.into_iter().zip(calls).map(with_block).collect()
+}
+
+fn is_wrong_size(layout: u32, image: &[u8]) -> bool {
+    Geometry::of(layout).is_some_and(|geometry| image.len() != geometry.image_bytes())
+}
+
+/// The layouts that the calls name in turn: mostly the image's own. Where
+/// another one accepts the image too, the calls from one of them on name that;
+/// where the size is wrong, which comes after an unknown layout, more are none.
+fn layouts_named(layout: u32, rng: &mut Rng, image: &[u8], calls: usize) -> Vec<u32> {
+    let accepts = |other: &u32| *other != layout && accepted(*other, image);
+    let other = LAYOUTS.into_iter().find(accepts);
+    let change = rng.below(calls);
+    let unknown = if is_wrong_size(layout, image) { 3 } else { 16 };
+    (0..calls)
+        .map(|turn| match other {
+            Some(other) if turn >= change => other,
+            _ if rng.one_in(unknown) => unknown_layout(rng),
+            _ => any_layout(layout, rng),
+        })
         .collect()
 }
 
@@ -104,7 +130,7 @@ fn tell_call(rng: &mut Rng, files: usize) -> Call {
 
 /// A store, mostly of a new name, which the calls made up after it may ask
 /// for.
-fn store_call(rng: &mut Rng, names: &mut Vec<Vec<u8>>, free: usize) -> Call {
+fn store_call(layout: u32, rng: &mut Rng, names: &mut Vec<Vec<u8>>, free: usize) -> Call {
     let name = if rng.one_in(4) {
         name(rng, names)
     } else {
@@ -114,10 +140,10 @@ fn store_call(rng: &mut Rng, names: &mut Vec<Vec<u8>>, free: usize) -> Call {
         fresh
     };
     let data = if rng.one_in(3) {
-        let length = rng.pick(&LENGTHS);
+        let length = length(layout, rng);
         rng.bytes(length)
     } else {
-        data(rng, free)
+        data(layout, rng, free)
     };
     Call::Store {
         name,
@@ -146,11 +172,11 @@ fn format_call(rng: &mut Rng, names: &[Vec<u8>]) -> Call {
 
 /// Two listings: room at the edges of the text's length, and the room that
 /// always suffices.
-fn listing_requests(rng: &mut Rng, track18: &[u8]) -> Vec<Request> {
-    let answer = listing(track18, &mut [0; LONGEST]);
+fn listing_requests(layout: u32, rng: &mut Rng, track18: &[u8]) -> Vec<Request> {
+    let answer = listing(layout, track18, &mut [0; LONGEST]);
     let edge = room(rng, answer.length as usize);
     let rooms = [edge, rng.pick(&[LONGEST, LONGEST, 0, LONGEST + 1])];
     rooms
-        .map(|room| with_block(rng, Call::Listing { room }))
+        .map(|room| with_block(any_layout(layout, rng), rng, Call::Listing { room }))
         .to_vec()
 }

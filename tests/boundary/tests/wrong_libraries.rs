@@ -9,17 +9,19 @@ use boundary::lists::{compare_list, demand3_over, List, OWN_CHECK};
 use boundary::rounds::run_round;
 use boundary::tally::{Failure, Tally};
 use independent::plain::{
-    ACCEPTED, CLAUSES, GIVEN_BACK, PLAIN_LIST, READ_BYTES, READ_SECTORS, REFUSED, SPARE_BITS,
+    ACCEPTED, CLAUSES, GIVEN_BACK, OTHER_ENTRIES, PLAIN_LIST, READ_BYTES, READ_SECTORS, REFUSED,
+    SPARE_BITS,
 };
 use wrong::changes::{ScratchEdited, StoreEdited};
 use wrong::formatting::FormatEdited;
 use wrong::spare::CheckSees;
 use wrong::{
-    counting, formatting, masks, place, reading, scratching, spare, stored, storing, usr, Row,
+    counting, formatting, last_tracks, layouts, masks, place, reading, scratching, spare, stored,
+    storing, usr, Row,
 };
 
 /// Rounds within which each wrong library is to be found.
-const ROUNDS: u64 = 24;
+const ROUNDS: u64 = 40;
 
 /// Lists within which a cheat is to be found by demand 3.
 const LISTS: u64 = 75;
@@ -96,6 +98,12 @@ fn each_wrong_about_counts_is_found() {
     each_is_found(counting::STORES);
 }
 
+#[test]
+fn each_wrong_about_layouts_is_found() {
+    each_is_found(layouts::WRONG);
+    each_is_found(last_tracks::WRONG);
+}
+
 /// What demand 3 finds by itself, with no independent program beside the
 /// library: the clauses that each breaks, and no others.
 const CHEATS: &[(&str, &dyn EntryPoints, &[&str])] = &[
@@ -118,7 +126,7 @@ const CHEATS: &[(&str, &dyn EntryPoints, &[&str])] = &[
     (
         "a refused format clears",
         &formatting::RefusedYetCleared,
-        &[ACCEPTED, REFUSED, SPARE_BITS],
+        &[ACCEPTED, REFUSED, SPARE_BITS, OTHER_ENTRIES],
     ),
     (
         "store stores nothing",
@@ -346,6 +354,66 @@ const CHEATS: &[(&str, &dyn EntryPoints, &[&str])] = &[
         "store lowers each count by one",
         &StoreEdited(counting::lowered_by_one),
         &[ACCEPTED],
+    ),
+    (
+        "check refuses links to tracks 36 to 40",
+        &last_tracks::LinksRefused(36..=40),
+        &[OWN_CHECK],
+    ),
+    (
+        "a read of 749 sectors reports 681",
+        &last_tracks::AtMost681,
+        &[READ_SECTORS],
+    ),
+    (
+        "store leaves the entries of tracks 36 to 40",
+        &StoreEdited(last_tracks::entries_left),
+        &[ACCEPTED],
+    ),
+    (
+        "store writes the other layout's entries",
+        &StoreEdited(last_tracks::at_the_other),
+        &[ACCEPTED, OTHER_ENTRIES],
+    ),
+    (
+        "store writes both layouts' entries",
+        &StoreEdited(last_tracks::at_both),
+        &[OTHER_ENTRIES],
+    ),
+    (
+        "store clears the other layout's entries",
+        &StoreEdited(last_tracks::others_cleared),
+        &[OTHER_ENTRIES],
+    ),
+    (
+        "scratch leaves the entries of tracks 36 to 40",
+        &ScratchEdited(last_tracks::entries_left),
+        &[ACCEPTED],
+    ),
+    (
+        "scratch clears the other layout's entries",
+        &ScratchEdited(last_tracks::others_cleared),
+        &[OTHER_ENTRIES],
+    ),
+    (
+        "scratch leaves codes on tracks 36 to 40",
+        &ScratchEdited(last_tracks::codes_left),
+        &[GIVEN_BACK],
+    ),
+    (
+        "format keeps the other layout's entries",
+        &FormatEdited(last_tracks::others_kept),
+        &[OTHER_ENTRIES],
+    ),
+    (
+        "format writes both layouts' entries",
+        &FormatEdited(last_tracks::both_filled),
+        &[OTHER_ENTRIES],
+    ),
+    (
+        "format leaves codes on tracks 36 to 40",
+        &FormatEdited(last_tracks::tracks_kept),
+        &[GIVEN_BACK],
     ),
 ];
 

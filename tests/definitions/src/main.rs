@@ -10,7 +10,7 @@ mod rows;
 
 use independent::arguments::kind;
 use independent::generate::{generate, kinds};
-use independent::geometry::IMAGE_BYTES;
+use independent::geometry::{Geometry, LAYOUTS};
 use independent::rng::Rng;
 use rows::Row;
 use std::fs;
@@ -35,7 +35,8 @@ fn main() {
     println!("{} cases of {images} images from seed {seed}", rows.len());
 }
 
-/// The cases of so many images, each of a kind and a seed drawn anew. The
+/// The cases of so many images, each of a kind and a seed drawn anew, one
+/// layout after the other. The
 /// first two have no file and one file, so that a store and a scratch are
 /// among the cases, and change map entries with bits past the track's last
 /// sector. The kinds that a store takes or refuses come last.
@@ -51,11 +52,14 @@ fn draw_rows(seed: u64, images: usize) -> Vec<Row> {
             _ => (rng.pick(&kinds), rows::MOST_FILES),
         };
         let at = rng.draw() % 1_000_000;
-        let Some(made) = generate(&kind, at) else {
+        // one layout after the other, from a drawn one on
+        let layout = LAYOUTS[(seed as usize + taken) % LAYOUTS.len()];
+        let Some(made) = generate(layout, &kind, at) else {
             continue;
         };
-        if made.image.len() == IMAGE_BYTES && rows::occupied(&made.image) <= most {
-            let drawn = rows::of_image(&kind, at, &made.image);
+        let whole = Geometry::of(layout).is_some_and(|g| made.image.len() == g.image_bytes());
+        if whole && rows::occupied(&made.image) <= most {
+            let drawn = rows::of_image(layout, &kind, at, &made.image);
             if taken > 1 || drawn.iter().any(|row| row.beside_spare) {
                 rows.extend(drawn);
                 taken += 1;

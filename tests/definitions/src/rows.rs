@@ -3,8 +3,9 @@
 use independent::answer::Answer;
 use independent::calls::{format, scratch, store, tell};
 use independent::check::check;
-use independent::geometry::{sectors_on, IMAGE_BYTES, TRACK_18_BYTES, TRACK_18_OFFSET};
+use independent::geometry::{IMAGE_BYTES, TRACK_18_BYTES, TRACK_18_OFFSET};
 use independent::listing::sleeve_output;
+use independent::naive::{last_track, track_length};
 use independent::rng::Rng;
 use independent::sound::{map_offset, spare_mask};
 
@@ -65,79 +66,88 @@ pub fn occupied(image: &[u8]) -> usize {
 /// accepted a store if it has no file, and a scratch if it has one. These two
 /// are checked once more with wrong bits of the map, and an empty disk with a
 /// count that is wrong.
-pub fn of_image(kind: &str, seed: u64, image: &[u8]) -> Vec<Row> {
-    let answer = check(image);
-    let listed = format!("{} {}", sectors(image), numbers(&sleeve_output(image)));
+pub fn of_image(layout: u32, kind: &str, seed: u64, image: &[u8]) -> Vec<Row> {
+    let answer = check(layout, image);
+    let digit = layout.to_string();
+    let printed = sleeve_output(Some(digit.as_bytes()), image);
+    let listed = format!("{} {}", sectors(image), numbers(&printed));
     let mut rows = vec![
-        check_row(kind, seed, image),
-        row(kind, seed, "lists", listed),
+        check_row(layout, kind, seed, image),
+        row(layout, kind, seed, "lists", listed),
     ];
     // with more files a write takes the prover more steps than it has
     match occupied(image) {
         0 if answer.number == 0 => {
-            rows.extend(store_row(kind, seed, image));
-            rows.extend(counted_row(kind, seed, image));
-            rows.push(wrong_bits_row(kind, seed, image));
+            rows.extend(store_row(layout, kind, seed, image));
+            rows.extend(counted_row(layout, kind, seed, image));
+            rows.push(wrong_bits_row(layout, kind, seed, image));
         }
         1 if answer.number == 0 => {
-            rows.extend(scratch_row(kind, seed, image));
-            rows.push(wrong_bits_row(kind, seed, image));
+            rows.extend(scratch_row(layout, kind, seed, image));
+            rows.push(wrong_bits_row(layout, kind, seed, image));
         }
         _ => {}
     }
     rows
 }
 
-fn row(kind: &str, seed: u64, head: &str, rest: String) -> Row {
+fn row(layout: u32, kind: &str, seed: u64, head: &str, rest: String) -> Row {
     Row {
-        what: format!("{kind} {seed}: {head}"),
-        term: format!("{head} {rest}"),
+        what: format!("layout {layout}, {kind} {seed}: {head}"),
+        term: format!("{head} {layout} {rest}"),
         beside_spare: false,
     }
 }
 
 /// A case with the disk after a call.
-fn row_of_change(kind: &str, seed: u64, head: &str, rest: String, disks: [&[u8]; 2]) -> Row {
+fn row_of_change(
+    layout: u32,
+    kind: &str,
+    seed: u64,
+    head: &str,
+    rest: String,
+    disks: [&[u8]; 2],
+) -> Row {
     let [before, after] = disks;
     let beside_spare = |track| {
-        let at = map_offset(track);
+        let at = map_offset(layout, track);
         before[at + 3] & spare_mask(track) != 0 && before[at..at + 4] != after[at..at + 4]
     };
     Row {
-        beside_spare: (1..=35).any(beside_spare),
-        ..row(kind, seed, head, rest)
+        beside_spare: (1..=last_track(layout)).any(beside_spare),
+        ..row(layout, kind, seed, head, rest)
     }
 }
 
-fn check_row(kind: &str, seed: u64, image: &[u8]) -> Row {
-    let answer = answer_of(&check(image));
+fn check_row(layout: u32, kind: &str, seed: u64, image: &[u8]) -> Row {
+    let answer = answer_of(&check(layout, image));
     let rest = format!("{} {}", disk(image), numbers(&answer));
-    row(kind, seed, "checks", rest)
+    row(layout, kind, seed, "checks", rest)
 }
 
 /// The check where the last track with bits past its last sector counts them.
-fn counted_row(kind: &str, seed: u64, image: &[u8]) -> Option<Row> {
-    let spare = |track: u8| image[map_offset(track) + 3] & spare_mask(track);
-    let track = (1..=35).rfind(|&track| spare(track) != 0)?;
+fn counted_row(layout: u32, kind: &str, seed: u64, image: &[u8]) -> Option<Row> {
+    let spare = |track: u8| image[map_offset(layout, track) + 3] & spare_mask(track);
+    let track = (1..=last_track(layout)).rfind(|&track| spare(track) != 0)?;
     let mut counted = image.to_vec();
-    counted[map_offset(track)] += spare(track).count_ones() as u8;
+    counted[map_offset(layout, track)] += spare(track).count_ones() as u8;
     let kind = format!("{kind}, track {track} counted,");
-    Some(check_row(&kind, seed, &counted))
+    Some(check_row(layout, &kind, seed, &counted))
 }
 
 /// The check where one bit or two of a track are wrong, of sectors with an
 /// owner or without: the lower one is named (02, §3).
-fn wrong_bits_row(kind: &str, seed: u64, image: &[u8]) -> Row {
+fn wrong_bits_row(layout: u32, kind: &str, seed: u64, image: &[u8]) -> Row {
     let rng = &mut Rng::new(seed);
-    let track = rng.range(1, 35) as u8;
-    let bits = [(); 2].map(|()| rng.below(sectors_on(track).into()) as u8);
+    let track = rng.range(1, last_track(layout).into()) as u8;
+    let bits = [(); 2].map(|()| rng.below(track_length(track).into()) as u8);
     let mut spoilt = image.to_vec();
     for byte in 0..3 {
         let mask = |bit: u8| if bit / 8 == byte { 1 << (bit % 8) } else { 0 };
-        spoilt[map_offset(track) + 1 + usize::from(byte)] ^= mask(bits[0]) | mask(bits[1]);
+        spoilt[map_offset(layout, track) + 1 + usize::from(byte)] ^= mask(bits[0]) | mask(bits[1]);
     }
     let kind = format!("{kind}, bits {bits:?} of track {track} wrong,");
-    check_row(&kind, seed, &spoilt)
+    check_row(layout, &kind, seed, &spoilt)
 }
 
 fn answer_of(answer: &Answer) -> [u8; 4] {
@@ -150,13 +160,13 @@ fn answer_of(answer: &Answer) -> [u8; 4] {
 }
 
 /// A store that is done, and the disk after it.
-fn store_row(kind: &str, seed: u64, image: &[u8]) -> Option<Row> {
+fn store_row(layout: u32, kind: &str, seed: u64, image: &[u8]) -> Option<Row> {
     let length = LENGTHS[(seed % 4) as usize];
     let data: Vec<u8> = (0..length).map(|i| ((i * 7 + 3) % 256) as u8).collect();
     let mut after = image.to_vec();
     let name = b"NEW FILE";
     let file_kind = 1 + (seed / 4 % 2) as u32;
-    if store(&mut after, name, file_kind, &data).number != 0 {
+    if store(layout, &mut after, name, file_kind, &data).number != 0 {
         return None;
     }
     let rest = format!(
@@ -166,14 +176,21 @@ fn store_row(kind: &str, seed: u64, image: &[u8]) -> Option<Row> {
         disk(&after),
         changed(image, &after)
     );
-    Some(row_of_change(kind, seed, "stores", rest, [image, &after]))
+    Some(row_of_change(
+        layout,
+        kind,
+        seed,
+        "stores",
+        rest,
+        [image, &after],
+    ))
 }
 
 /// The number that a store of a kind gives on a formatted disk.
 pub fn of_kind(kind: u32) -> Row {
     let mut image = vec![0; IMAGE_BYTES];
-    format(&mut image, b"CASES", b'0', b'1');
-    let number = store(&mut image, b"NEW FILE", kind, b"").number;
+    format(0, &mut image, b"CASES", b'0', b'1');
+    let number = store(0, &mut image, b"NEW FILE", kind, b"").number;
     Row {
         what: format!("kind {kind}: takes"),
         term: format!("takes {kind} {number}"),
@@ -182,10 +199,10 @@ pub fn of_kind(kind: u32) -> Row {
 }
 
 /// A scratch of the first file, and the disk after it.
-fn scratch_row(kind: &str, seed: u64, image: &[u8]) -> Option<Row> {
-    let name = first_name(image)?;
+fn scratch_row(layout: u32, kind: &str, seed: u64, image: &[u8]) -> Option<Row> {
+    let name = first_name(layout, image)?;
     let mut after = image.to_vec();
-    if scratch(&mut after, &name).number != 0 {
+    if scratch(layout, &mut after, &name).number != 0 {
         return None;
     }
     let rest = format!(
@@ -196,12 +213,12 @@ fn scratch_row(kind: &str, seed: u64, image: &[u8]) -> Option<Row> {
         changed(image, &after)
     );
     let disks = [image, &after[..]];
-    Some(row_of_change(kind, seed, "scratches", rest, disks))
+    Some(row_of_change(layout, kind, seed, "scratches", rest, disks))
 }
 
 /// The name of the file at position 0.
-fn first_name(image: &[u8]) -> Option<Vec<u8>> {
-    let (answer, told) = tell(image, 0);
+fn first_name(layout: u32, image: &[u8]) -> Option<Vec<u8>> {
+    let (answer, told) = tell(layout, image, 0);
     (answer.number == 0).then(|| {
         told.name
             .iter()
@@ -246,7 +263,7 @@ fn run_lengths(sector: &[u8]) -> String {
 fn links(image: &[u8]) -> String {
     let first = TRACK_18_OFFSET / 256;
     let last = first + TRACK_18_BYTES / 256;
-    let text: String = (0..IMAGE_BYTES / 256)
+    let text: String = (0..image.len() / 256)
         .filter(|n| !(first..last).contains(n))
         .map(|n| (n, image[256 * n], image[256 * n + 1]))
         .filter(|&(_, a, b)| (a, b) != (0, 0))
@@ -260,7 +277,7 @@ fn links(image: &[u8]) -> String {
 fn changed(before: &[u8], after: &[u8]) -> String {
     let first = TRACK_18_OFFSET / 256;
     let last = first + TRACK_18_BYTES / 256;
-    let text: String = (0..IMAGE_BYTES / 256)
+    let text: String = (0..before.len() / 256)
         .filter(|n| !(first..last).contains(n))
         .filter(|n| before[256 * n..256 * n + 256] != after[256 * n..256 * n + 256])
         .map(|n| format!("({n} ∷ {}) ∷ ", run_lengths(&after[256 * n..256 * n + 256])))

@@ -6,7 +6,7 @@ static size_t next_where(const struct disk *disk, struct input *input)
     struct three where = next_three(input);
     switch (where.kind % WHERES) {
     case IN_FILE: return SECTOR_BYTES * sector_of_file(disk, file_slot(disk, where.a), where.b);
-    case BY_NUMBER: return SECTOR_BYTES * ((where.a + 256 * (size_t)where.b) % DISK_SECTORS);
+    case BY_NUMBER: return SECTOR_BYTES * ((where.a + 256 * (size_t)where.b) % sectors_of_layout(disk->layout));
     default: return D64_TRACK18_OFFSET + SECTOR_BYTES * (size_t)(where.a % 19);
     }
 }
@@ -47,8 +47,8 @@ static void change_slot(struct disk *disk, struct input *input)
 
 static void change_map_bit(struct disk *disk, struct input *input)
 {
-    uint8_t track = next_byte(input) % 36, sector = next_byte(input);
-    size_t entry = D64_TRACK18_OFFSET + 4 * (size_t)track, at = entry + 1 + (sector & 127) % 24 / 8;
+    uint8_t track = (uint8_t)(next_byte(input) % (last_track(disk->layout) + 1)), sector = next_byte(input);
+    size_t entry = map_entry_offset(disk->layout, track), at = entry + 1 + (sector & 127) % 24 / 8;
     uint8_t bit = (uint8_t)(1 << (sector & 127) % 24 % 8), old = disk->owed[at];
     disk_poke(disk, at, old ^ bit);
     if (sector & 128)
@@ -70,7 +70,7 @@ static void change_byte(struct disk *disk, struct input *input)
 
 static void change_map_entry(struct disk *disk, struct input *input)
 {
-    size_t at = D64_TRACK18_OFFSET + 4 * (size_t)(next_byte(input) % 36);
+    size_t at = map_entry_offset(disk->layout, next_byte(input) % (last_track(disk->layout) + 1));
     at += next_byte(input) % 4;
     disk_poke(disk, at, next_byte(input));
 }

@@ -80,13 +80,13 @@ static size_t needed(const struct disk *disk, const struct request *request)
     if (!disk_whole(disk))
         return 0;
     if (request->call == READ)
-        oracle_read(disk->owed, disk->len, request->name, request->name_len, spare, sizeof spare, answer, 9);
+        oracle_read(disk->named, disk->owed, disk->len, request->name, request->name_len, spare, sizeof spare, answer, 9);
     if (request->call == LISTING)
-        oracle_listing(disk->owed + D64_TRACK18_OFFSET, D64_TRACK18_BYTES, spare, sizeof spare, answer, 9);
+        oracle_listing(disk->named, disk->owed + D64_TRACK18_OFFSET, D64_TRACK18_BYTES, spare, sizeof spare, answer, 9);
     if (request->call != STORE)
         return answer[3] | (size_t)answer[4] << 8 | (size_t)answer[5] << 16;
-    for (unsigned track = 1; track <= 35; track++)
-        free_sectors += track == 18 ? 0 : disk->owed[D64_TRACK18_OFFSET + 4 * track];
+    for (unsigned track = 1; track <= last_track(disk->layout); track++)
+        free_sectors += track == 18 ? 0 : disk->owed[map_entry_offset(disk->layout, track)];
     return 254 * free_sectors;
 }
 
@@ -94,7 +94,7 @@ static size_t next_amount(const struct disk *disk, const struct request *request
 {
     static const size_t edges[] = {
         0, 1, 2, 253, 254, 255, 256, 507, 508, 509, 510, 5000, 6233, 6234, 6235, 65535, 65536, 65537,
-        168655, 168656, 168657, 168910, MOST_LENT,
+        168655, 168656, 168657, 168910, MOST_LENT, 190245, 190246, 190247,
     };
     struct three sort = next_three(input);
     size_t amount = 0;

@@ -13,7 +13,7 @@ static uint8_t whole_input[MOST_LENT];
 static struct start {
     uint8_t *bytes;
     size_t len;
-} *starts;
+} *starts[LAYOUTS];
 static size_t start_count;
 
 int LLVMFuzzerInitialize(int *argc, char ***argv)
@@ -21,11 +21,14 @@ int LLVMFuzzerInitialize(int *argc, char ***argv)
     (void)argc, (void)argv;
     requests_prepare(&disk);
     start_count = oracle_starts();
-    starts = calloc(start_count, sizeof *starts);
-    for (size_t i = 0; i < start_count; i++) {
-        starts[i].len = oracle_start(i, whole_input, sizeof whole_input);
-        starts[i].bytes = malloc(starts[i].len + 1);
-        memcpy(starts[i].bytes, whole_input, starts[i].len);
+    for (uint32_t layout = 0; layout < LAYOUTS; layout++) {
+        starts[layout] = calloc(start_count, sizeof **starts);
+        for (size_t i = 0; i < start_count; i++) {
+            struct start *start = &starts[layout][i];
+            start->len = oracle_start(layout, i, whole_input, sizeof whole_input);
+            start->bytes = malloc(start->len + 1);
+            memcpy(start->bytes, whole_input, start->len);
+        }
     }
     return 0;
 }
@@ -83,7 +86,7 @@ static void fixed_calls(void)
 
 static void raw_track18(const uint8_t *bytes, size_t len)
 {
-    disk_start(&disk, starts[0].bytes, starts[0].len, 0);
+    disk_start(&disk, starts[disk.layout][0].bytes, starts[disk.layout][0].len, 0);
     for (size_t i = 0; i < len && i < D64_TRACK18_BYTES; i++)
         disk_poke(&disk, D64_TRACK18_OFFSET + i, bytes[i]);
     fixed_calls();
@@ -92,8 +95,8 @@ static void raw_track18(const uint8_t *bytes, size_t len)
 /* The start image, of a wrong size where the input asks for one. */
 static void start_program(struct input *input)
 {
-    static const size_t wrong[] = {0, 1, 4864, 91392, 96256, 174592, 174847, 174849, 175104, 175531, 196608};
-    const struct start *start = &starts[next_byte(input) % start_count];
+    static const size_t wrong[] = {0, 1, 4864, 91392, 96256, 174592, 174847, 174849, 175104, 175531, 196608, 174848, 196607, 196609};
+    const struct start *start = &starts[disk.layout][next_byte(input) % start_count];
     uint8_t size = next_byte(input), place = next_byte(input);
     if (size <= RIGHT_UP_TO) {
         disk_start(&disk, start->bytes, start->len, place);
@@ -121,11 +124,22 @@ static void run_program(struct input *input)
     }
 }
 
+/* The layout of the image and of the calls: 0, 1 or 2 for both, and the last numbers for calls in none. */
+static void choose_layout(unsigned number)
+{
+    static const uint32_t unknown[] = {3, 255, 256, UINT32_MAX};
+    disk.layout = disk.named = number % LAYOUTS;
+    if (number >= FIRST_UNKNOWN)
+        disk.named = unknown[number - FIRST_UNKNOWN];
+}
+
 int LLVMFuzzerTestOneInput(const uint8_t *bytes, size_t len)
 {
     struct input input = {bytes, bytes + len};
     requests_begin();
-    switch (next_byte(&input) & 7) {
+    uint8_t mode = next_byte(&input);
+    choose_layout(mode >> 3);
+    switch (mode & 7) {
     case RAW_IMAGE:
         disk_start(&disk, input.at, (size_t)(input.end - input.at), 0);
         fixed_calls();

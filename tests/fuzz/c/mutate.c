@@ -58,6 +58,8 @@ size_t LLVMFuzzerCustomMutator(uint8_t *bytes, size_t len, size_t most, unsigned
         return LLVMFuzzerMutate(bytes, len, most);
     if (random_number(&state) % 8 == 0)
         bytes[1] = (uint8_t)random_number(&state); /* the same on another start image */
+    if (random_number(&state) % 16 == 0)
+        bytes[0] = (uint8_t)((bytes[0] & 7) | random_number(&state) % LAYOUT_NUMBERS << 3); /* and in another layout */
     while (changes-- > 0)
         len = change_operations(bytes, len, most, &state);
     return len;

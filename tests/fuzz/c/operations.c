@@ -34,7 +34,7 @@ uint32_t random_number(uint64_t *state)
 static void favour_edges(uint64_t *state, uint8_t *argument)
 {
     static const uint8_t edges[] = {
-        0, 1, 2, 3, 16, 17, 18, 19, 20, 21, 35, 36, 0x41, 0x80, 0x81, 0x82, 0x83, 0x84, 0xA0, 0xC1, 0xC3, 254, 255,
+        0, 1, 2, 3, 16, 17, 18, 19, 20, 21, 35, 36, 40, 41, 0x41, 0x80, 0x81, 0x82, 0x83, 0x84, 0xA0, 0xC1, 0xC3, 254, 255,
     };
     if (random_number(state) % 2 == 0)
         *argument = edges[random_number(state) % sizeof edges];

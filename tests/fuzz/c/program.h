@@ -1,7 +1,8 @@
 /*
  * What an input of the fuzzer says. Its first byte is the mode: in its low three bits 0 is an image as it stands, 1 is
  * track 18 as it stands on a formatted disk, and all others are a program: the start image, a size, the place of the
- * image in memory, then operations, until the input ends. Bytes past the end are 0.
+ * image in memory, then operations, until the input ends. Its high five bits are the layout, which is that of the image
+ * and of all calls, modulo 3; from 28 on the calls name a number that is none. Bytes past the end are 0.
  *
  * The low four bits of an operation's first byte say what it is; its arguments follow, most of one byte:
  *
@@ -23,6 +24,7 @@
 #define PROGRAM_H
 
 enum mode { RAW_IMAGE, RAW_TRACK18, PROGRAM };
+enum { LAYOUTS = 3, FIRST_UNKNOWN = 28, LAYOUT_NUMBERS = 32 };
 
 enum operation {
     OP_BYTE, OP_LINK, OP_SLOT, OP_MAP_ENTRY, OP_MAP_BIT, OP_REPAIR, OP_COPY_SLOT, OP_COPY_SECTOR, OP_VERSION,

@@ -23,7 +23,7 @@ static unsigned made; /* calls of this input */
  * number and the one before it; each track, sector and slot of a fault; each length of a name; the bytes in the last
  * sector of a file that is stored, by its kind, 1 or 2; and how many sectors a file has.
  */
-#define ANSWERS 17
+#define ANSWERS 18
 __attribute__((used, section("__libfuzzer_extra_counters")))
 static struct {
     uint8_t pairs[CALLS * ANSWERS][CALLS * ANSWERS];
@@ -62,25 +62,25 @@ void requests_begin(void)
     last_met = 0;
 }
 
-static uint32_t run(const struct library *library, const struct request *request, const struct side *m)
+static uint32_t run(const struct library *library, uint32_t layout, const struct request *request, const struct side *m)
 {
     struct piece i = m->image, n = m->name, d = m->data, o = m->output, a = m->answer, t = m->track18;
     switch (request->call) {
-    case CHECK: return library->check(i.start, i.len, a.start, a.len);
+    case CHECK: return library->check(layout, i.start, i.len, a.start, a.len);
     case FORMAT:
-        return library->format(i.start, i.len, n.start, n.len, request->ids[0], request->ids[1], a.start, a.len);
-    case READ: return library->read(i.start, i.len, n.start, n.len, o.start, o.len, a.start, a.len);
+        return library->format(layout, i.start, i.len, n.start, n.len, request->ids[0], request->ids[1], a.start, a.len);
+    case READ: return library->read(layout, i.start, i.len, n.start, n.len, o.start, o.len, a.start, a.len);
     case STORE:
-        return library->store(i.start, i.len, n.start, n.len, request->kind, d.start, d.len, a.start, a.len);
-    case SCRATCH: return library->scratch(i.start, i.len, n.start, n.len, a.start, a.len);
-    case TELL: return library->tell(i.start, i.len, request->position, o.start, o.len, a.start, a.len);
-    default: return library->listing(t.start, t.len, o.start, o.len, a.start, a.len);
+        return library->store(layout, i.start, i.len, n.start, n.len, request->kind, d.start, d.len, a.start, a.len);
+    case SCRATCH: return library->scratch(layout, i.start, i.len, n.start, n.len, a.start, a.len);
+    case TELL: return library->tell(layout, i.start, i.len, request->position, o.start, o.len, a.start, a.len);
+    default: return library->listing(layout, t.start, t.len, o.start, o.len, a.start, a.len);
     }
 }
 
-static void describe(const struct request *request)
+static void describe(const struct disk *disk, const struct request *request)
 {
-    fprintf(stderr, "call %u: %s, name", made, call_names[request->call]);
+    fprintf(stderr, "call %u: %s in layout %u, name", made, call_names[request->call], disk->named);
     for (size_t i = 0; i < request->name_len && i < 20; i++)
         fprintf(stderr, " %02X", request->name[i]);
     fprintf(stderr, " (%zu bytes), kind %u, data %zu bytes, room %zu, position %zu, track 18 %zu bytes, block %zu\n",
@@ -166,16 +166,16 @@ void request_compare(struct disk *disk, const struct request *request)
         lent_piece(&lent_answer), lent_piece(&lent_track18),
     };
     if (trace)
-        describe(request);
-    uint32_t number = run(tested_library(), request, &lent), due = run(&oracle, request, &owed);
+        describe(disk, request);
+    uint32_t number = run(tested_library(), disk->named, request, &lent), due = run(&oracle, disk->named, request, &owed);
     if (number != due)
         fprintf(stderr, "  number: %u, not %u\n", number, due);
-    bool named = tally(request->call, due, owed_answer[1]);
+    bool named = tally(request->call, disk->named, due, owed_answer);
     if (!named)
         fprintf(stderr, "  number: %u, which d64.h does not name for this call\n", due);
     if (all_differences(disk, &owed) + (number != due) + !named != 0) {
         fprintf(stderr, "DIFFERENCE from the independent program in ");
-        describe(request);
+        describe(disk, request);
         abort();
     }
     if (trace)

@@ -2,7 +2,7 @@
  * Writes the seed corpus to the folder given: for each start image the calls in turn, then damage of every sort, with
  * the map made right again and not, then full disks, USR files, bits past the last sectors, wrong bits of the map,
  * chains that leave a track and come back, counts and bitmaps, the edges of names, amounts and sizes, and bytes as they
- * stand.
+ * stand; and in layouts 1 and 2 the last tracks and the other layout's bytes, and calls in no layout.
  */
 #include <stdio.h>
 #include <stdlib.h>
@@ -18,11 +18,12 @@ enum { FEW_FILES = 3, SCATTERED = 5, FULL_DIRECTORY = 11 };
 /* Bytes that a store's kind is made of: these give 2 and 3 (decode.c). */
 enum kind { PRG = 1, USR = 7 };
 
-enum { TOO_MUCH = 20 }; /* of the edges of an amount */
+enum { TOO_MUCH = 20, MOST_AND_ONE = 25 }; /* of the edges of an amount; the second on a disk of 40 tracks */
 
 static const char *folder;
 static FILE *seed;
 static unsigned written;
+static unsigned layout; /* of the seeds that follow, as their mode has it (program.h) */
 
 static void put(const unsigned char *bytes, size_t len)
 {
@@ -52,7 +53,7 @@ static void begin_raw(enum mode mode)
         perror(path);
         exit(1);
     }
-    PUT(mode);
+    PUT((unsigned char)(mode | layout << 3));
 }
 
 /* A program on a start image, lent against the page behind it. */
@@ -97,7 +98,8 @@ static void put_looks(void)
 
 static void seeds_of_starts(void)
 {
-    for (unsigned start = 0; start < oracle_starts(); start++) {
+    /* Of layouts 1 and 2 every third. */
+    for (unsigned start = layout; start < oracle_starts(); start += layout == 0 ? 1 : 3) {
         begin(start, 0, start % 3);
         put_looks();
         PUT(OP_VERSION, 0x41);
@@ -316,7 +318,7 @@ static void seeds_of_bitmaps(void)
 static void seeds_of_edges(void)
 {
     for (unsigned char i = 0; i < 16; i++) {
-        begin(3 + i, i < 11 ? 240 + i : 0, i);
+        begin(3 + i, i < 14 ? 240 + i : 0, i);
         PUT(OP_STORE, i, 240 + i, FROM_POOL, i, 0, 1, AS_IS, i, 0, 0);
         PUT(OP_READ, i, 0, WRONG, i, i, AS_IS, 255, 0);
         PUT(OP_STORE, 128, 0, FROM_POOL, i, 0, 200 + i, AS_IS, 0, 0, 0);
@@ -335,15 +337,75 @@ static void seeds_of_edges(void)
 
 static void seeds_of_images(void)
 {
-    static uint8_t image[D64_IMAGE_BYTES];
+    static uint8_t image[D64_IMAGE40_BYTES];
     for (unsigned start = 0; start < 24; start += 4) {
-        oracle_start(start + 3, image, sizeof image);
+        oracle_start(layout, start + 3, image, sizeof image);
         begin_raw(RAW_TRACK18);
         put(image + D64_TRACK18_OFFSET, D64_TRACK18_BYTES);
     }
-    oracle_start(FEW_FILES, image, sizeof image);
+    size_t len = oracle_start(layout, FEW_FILES, image, sizeof image);
     begin_raw(RAW_IMAGE);
-    put(image, sizeof image);
+    put(image, len);
+}
+
+/* Chains over tracks 36 to 40, with all repaired; links off the disk; the map of these tracks, wrong and right. */
+static void seeds_of_last_tracks(void)
+{
+    static const unsigned char pairs[][2] = {{36, 40}, {40, 36}, {35, 36}, {40, 1}, {18, 40}};
+    static const unsigned char links[][2] = {{40, 16}, {40, 17}, {41, 1}, {36, 17}};
+    static const unsigned char map[][3] = {{36, 0, 16}, {40, 0, 25}, {38, 0, 9}, {40, 3, 0}, {36, 1, 254}, {40, 3, 255}};
+    for (size_t i = 0; i < sizeof pairs / sizeof *pairs * (sizeof links / sizeof *links); i++) {
+        const unsigned char *tracks = pairs[i / 4], *link = links[i % 4];
+        begin(0, 0, i % 3);
+        put_store(FROM_POOL, 0, AS_IS, 44, 0);
+        put_zigzag(0, tracks, 2);
+        PUT(OP_LINK, IN_FILE, 0, 8, TO_PLACE, link[0], link[1]);
+        PUT(OP_LINK, IN_FILE, 0, 9, TO_END, 255, 0);
+        PUT(OP_REPAIR, 3);
+        put_looks();
+        put_scratch(OF_FILE, 0);
+    }
+    for (size_t i = 0; i < sizeof map / sizeof *map; i++) {
+        begin(0, 0, 0);
+        PUT(OP_MAP_ENTRY, map[i][0], map[i][1], map[i][2]);
+        put_looks();
+        put_store(FROM_POOL, 0, AS_IS, 44, 1);
+        put_scratch(FROM_POOL, 0);
+        PUT(OP_FORMAT, 0, 0, FROM_POOL, 7, 0, '3', '0');
+    }
+}
+
+/* Bytes that are another layout's entries; a disk that fills and is emptied, and formatted, beside them. */
+static void seeds_of_other_entries(void)
+{
+    begin(0, 0, 0);
+    for (unsigned char at = 0xAC; at < 0xD4; at += 5)
+        PUT(OP_BYTE, ON_TRACK_18, 0, 0, at, 0x5A);
+    PUT(OP_REPAIR, 2);
+    put_looks();
+    put_store(FROM_POOL, 0, AROUND_NEED, 128, 0);
+    put_read(FROM_POOL, 0);
+    put_scratch(FROM_POOL, 0);
+    PUT(OP_FORMAT, 0, 0, FROM_POOL, 7, 0, '3', '0');
+    put_store(FROM_POOL, 1, AT_EDGE, MOST_AND_ONE, 0);
+    put_store(FROM_POOL, 1, AT_EDGE, MOST_AND_ONE - 1, 0);
+    PUT(OP_CHECK, 2, 0);
+}
+
+/* Calls in a layout that is none, on a disk with files and with a block of a wrong size too. */
+static void seeds_of_unknown(void)
+{
+    for (layout = FIRST_UNKNOWN; layout < LAYOUT_NUMBERS; layout++) {
+        begin(FEW_FILES, layout % 2 ? 0 : 250, 0);
+        put_looks();
+        put_store(FROM_POOL, 0, AS_IS, 44, 1);
+        put_scratch(OF_FILE, 0);
+        PUT(OP_FORMAT, 0, 0, FROM_POOL, 7, 0, '3', '0');
+        PUT(OP_FORMAT, 0, 241, FROM_POOL, 7, 0, '3', '0');
+        PUT(OP_CHECK, 0, 242);
+        PUT(OP_READ, 0, 0, WRONG, 0, 0, AS_IS, 255, 0);
+    }
+    layout = 0;
 }
 
 int main(int argc, char **argv)
@@ -353,9 +415,16 @@ int main(int argc, char **argv)
         return 64;
     }
     folder = argv[1];
-    seeds_of_starts();
+    for (layout = 0; layout < LAYOUTS; layout++) {
+        seeds_of_starts();
+        seeds_of_filling();
+        seeds_of_other_entries();
+        seeds_of_images();
+        if (layout != 0)
+            seeds_of_last_tracks();
+    }
+    seeds_of_unknown();
     seeds_of_damage();
-    seeds_of_filling();
     seeds_of_orders();
     seeds_of_usr();
     seeds_of_spare();
@@ -364,7 +433,6 @@ int main(int argc, char **argv)
     seeds_of_counts();
     seeds_of_bitmaps();
     seeds_of_edges();
-    seeds_of_images();
     finish();
     return 0;
 }

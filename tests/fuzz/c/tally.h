@@ -1,6 +1,6 @@
 /*
- * How often each call was answered by each number, and 8 with a sector and with 255, over all inputs of a run; and
- * which shapes of disks the checks have met.
+ * How often each call was answered by each number, and 8 with a sector and with 255, over all inputs of a run; in which
+ * layouts each was done; and which shapes of disks the checks have met.
  */
 #ifndef TALLY_H
 #define TALLY_H
@@ -11,8 +11,8 @@
 #include "disk.h"
 #include "request.h"
 
-/* Counts an answer and its place's sector; gives whether d64.h names the number for the call. */
-bool tally(enum call call, uint32_t number, uint8_t sector);
+/* Counts an answer and the block that it fills; gives whether d64.h names the number for the call. */
+bool tally(enum call call, uint32_t layout, uint32_t number, const uint8_t *answer);
 
 /* Looks at the disk of a check that was answered by this number and block. */
 void tally_disk(const struct disk *disk, uint32_t number, const uint8_t *answer);

@@ -6,13 +6,13 @@
 #include "library.h"
 
 bool wrong_choose(size_t row);
-uint32_t wrong_check(const uint8_t *, size_t, uint8_t *, size_t);
-uint32_t wrong_format(uint8_t *, size_t, const uint8_t *, size_t, uint8_t, uint8_t, uint8_t *, size_t);
-uint32_t wrong_read(const uint8_t *, size_t, const uint8_t *, size_t, uint8_t *, size_t, uint8_t *, size_t);
-uint32_t wrong_store(uint8_t *, size_t, const uint8_t *, size_t, uint32_t, const uint8_t *, size_t, uint8_t *, size_t);
-uint32_t wrong_scratch(uint8_t *, size_t, const uint8_t *, size_t, uint8_t *, size_t);
-uint32_t wrong_tell(const uint8_t *, size_t, size_t, uint8_t *, size_t, uint8_t *, size_t);
-uint32_t wrong_listing(const uint8_t *, size_t, uint8_t *, size_t, uint8_t *, size_t);
+uint32_t wrong_check(uint32_t, const uint8_t *, size_t, uint8_t *, size_t);
+uint32_t wrong_format(uint32_t, uint8_t *, size_t, const uint8_t *, size_t, uint8_t, uint8_t, uint8_t *, size_t);
+uint32_t wrong_read(uint32_t, const uint8_t *, size_t, const uint8_t *, size_t, uint8_t *, size_t, uint8_t *, size_t);
+uint32_t wrong_store(uint32_t, uint8_t *, size_t, const uint8_t *, size_t, uint32_t, const uint8_t *, size_t, uint8_t *, size_t);
+uint32_t wrong_scratch(uint32_t, uint8_t *, size_t, const uint8_t *, size_t, uint8_t *, size_t);
+uint32_t wrong_tell(uint32_t, const uint8_t *, size_t, size_t, uint8_t *, size_t, uint8_t *, size_t);
+uint32_t wrong_listing(uint32_t, const uint8_t *, size_t, uint8_t *, size_t, uint8_t *, size_t);
 
 const struct library *tested_library(void)
 {

@@ -1,4 +1,4 @@
-//! Answer numbers and places (01, Answer numbers).
+//! Answer numbers and places (01, Answer numbers; 02, §8).
 
 pub const DONE: u8 = 0;
 pub const WRONG_SIZE: u8 = 1;
@@ -17,6 +17,7 @@ pub const NOT_THERE: u8 = 13;
 pub const DIRECTORY_FULL: u8 = 14;
 pub const DISK_FULL: u8 = 15;
 pub const NO_ROOM: u8 = 16;
+pub const UNKNOWN_LAYOUT: u8 = 17;
 
 /// The value that stands for "no slot" and, in answer 8, for "no sector": only
 /// the track's count is wrong (02, §3).

@@ -61,17 +61,27 @@ pub fn kind(rng: &mut Rng) -> u32 {
     }
 }
 
+/// Lengths at the edges of a sector, of an empty disk, and past all of them.
+const EDGES_35: [usize; 21] = [
+    0, 1, 2, 252, 253, 254, 255, 256, 507, 508, 509, 510, 511, 762, 763, 168_655, 168_656, 168_657,
+    172_974, 174_848, 200_000,
+];
+const EDGES_40: [usize; 21] = [
+    0, 1, 2, 252, 253, 254, 255, 256, 507, 508, 509, 510, 511, 762, 763, 168_657, 190_245, 190_246,
+    190_247, 194_564, 200_000,
+];
+
 /// A length of data: at the edges of a sector, of the free sectors, of the
 /// disk, or past all of them.
-pub fn length(rng: &mut Rng, free: usize) -> usize {
-    const EDGES: &[usize] = &[
-        0, 1, 2, 252, 253, 254, 255, 256, 507, 508, 509, 510, 511, 762, 763, 168_655, 168_656,
-        168_657, 172_974, 174_848, 200_000,
-    ];
+pub fn length(layout: u32, rng: &mut Rng, free: usize) -> usize {
+    let edges = match layout {
+        0 => EDGES_35,
+        _ => EDGES_40,
+    };
     match rng.below(6) {
         0 | 1 => rng.below(4 * 254),
         2 => rng.below(254 * 30),
-        3 => rng.pick(EDGES),
+        3 => rng.pick(&edges),
         // Exactly what is free, one byte less, one more, one sector less.
         4 => rng.pick(&[
             free * 254,
@@ -83,8 +93,8 @@ pub fn length(rng: &mut Rng, free: usize) -> usize {
     }
 }
 
-pub fn data(rng: &mut Rng, free: usize) -> Vec<u8> {
-    let length = length(rng, free);
+pub fn data(layout: u32, rng: &mut Rng, free: usize) -> Vec<u8> {
+    let length = length(layout, rng, free);
     rng.bytes(length)
 }
 
@@ -108,9 +118,24 @@ fn block(rng: &mut Rng) -> usize {
     }
 }
 
+/// A layout to name for an image of one: mostly its own, now and then another,
+/// or a number that is no layout.
+pub fn any_layout(layout: u32, rng: &mut Rng) -> u32 {
+    match rng.below(24) {
+        0 | 1 => rng.pick(&[0, 1, 2]),
+        2 => unknown_layout(rng),
+        _ => layout,
+    }
+}
+
+/// A number that is no layout.
+pub fn unknown_layout(rng: &mut Rng) -> u32 {
+    rng.pick(&[3, 4, 35, 40, 255, 256, 258, u32::MAX])
+}
+
 /// Any call that fits the image or doesn't. `contents` is what the image
-/// holds, if it is accepted.
-pub fn request(rng: &mut Rng, contents: Option<&Contents>) -> Request {
+/// holds, if it is accepted in the layout.
+pub fn request(layout: u32, rng: &mut Rng, contents: Option<&Contents>) -> Request {
     let files = contents.map_or(&[][..], |c| &c.files[..]);
     let present: Vec<Vec<u8>> = files.iter().map(|file| file.name.clone()).collect();
     let free = contents.map_or(100, Contents::free_off_track_18);
@@ -133,7 +158,7 @@ pub fn request(rng: &mut Rng, contents: Option<&Contents>) -> Request {
         5..=7 => Call::Store {
             name,
             kind: kind(rng),
-            data: data(rng, free),
+            data: data(layout, rng, free),
         },
         8 | 9 => Call::Scratch { name },
         10 => Call::Tell {
@@ -144,13 +169,17 @@ pub fn request(rng: &mut Rng, contents: Option<&Contents>) -> Request {
             room: room(rng, 42 + 43 * files.len()),
         },
     };
-    with_block(rng, call)
+    with_block(layout, rng, call)
 }
 
 /// A call with a block of any size.
-pub fn with_block(rng: &mut Rng, call: Call) -> Request {
+pub fn with_block(layout: u32, rng: &mut Rng, call: Call) -> Request {
     let block = block(rng);
-    Request { call, block }
+    Request {
+        layout,
+        call,
+        block,
+    }
 }
 
 /// The size of the entry lent to tell; mostly as long as it has to be.

@@ -5,16 +5,13 @@ use crate::answer::{
     Answer, DIRECTORY_FULL, DISK_FULL, DOS_VERSION, KIND_ASKED, NAME_ASKED, NAME_THERE, NOT_THERE,
     NO_ROOM, WRONG_SIZE,
 };
-use crate::check::{examine, Layout};
+use crate::check::{examine, geometry_of, Found};
 use crate::disk::{
     disk, disk_mut, free_off_track_18, is_empty, lowest_free, map, mark_free, mark_used, own_bits,
     slot_at, slot_count, slot_in_mut, slot_name, Chain, Directory, Disk, Sector, DATA_BYTES,
     NAME_BYTES, PAD,
 };
-use crate::geometry::{
-    house_tracks, number, on_track_18, sectors_on, DIRECTORY_TRACK, IMAGE_BYTES, MAP_NUMBER,
-    SECTOR_BYTES, TRACKS,
-};
+use crate::geometry::{on_track_18, Geometry, DIRECTORY_TRACK, MAP_NUMBER, SECTOR_BYTES};
 
 /// What tell reports; all zero if refused.
 #[derive(Clone, Copy, PartialEq, Eq, Debug, Default)]
@@ -27,10 +24,10 @@ pub struct Told {
     pub length: u32,
 }
 
-/// The two refusals that every call with a name starts with: 1, then 9.
+/// The refusals that every call with a name starts with: 17, 1, then 9.
 /// Gives the name padded with $A0.
-fn size_and_name(image: &[u8], name: &[u8]) -> Result<[u8; NAME_BYTES], Answer> {
-    if image.len() != IMAGE_BYTES {
+fn size_and_name(layout: u32, image: &[u8], name: &[u8]) -> Result<[u8; NAME_BYTES], Answer> {
+    if image.len() != geometry_of(layout)?.image_bytes() {
         return Err(Answer::refusal(WRONG_SIZE));
     }
     if name.is_empty() || name.len() > NAME_BYTES || name.contains(&PAD) {
@@ -50,9 +47,10 @@ fn find(disk: &Disk, directory: &Directory, name: &[u8; NAME_BYTES]) -> Option<u
 }
 
 /// The length in bytes and in sectors of the file in a slot.
-fn measure(disk: &Disk, directory: &Directory, slot: usize) -> (u32, u16) {
+fn measure(disk: &Disk, found: &Found, slot: usize) -> (u32, u16) {
     let (mut length, mut sectors) = (0, 0);
-    for (_, _, data) in Chain::of(disk, slot_at(disk, directory, slot)) {
+    let slot = slot_at(disk, &found.directory, slot);
+    for (_, _, data) in Chain::of(&found.geometry, disk, slot) {
         length += data.len() as u32;
         sectors += 1;
     }
@@ -66,34 +64,41 @@ fn settle(result: Result<Answer, Answer>) -> Answer {
 
 // --- Format ---------------------------------------------------------------
 
-pub fn format(image: &mut [u8], name: &[u8], id1: u8, id2: u8) -> Answer {
-    let padded = match size_and_name(image, name) {
-        Ok(padded) => padded,
-        Err(refusal) => return refusal,
-    };
-    let Some(disk) = disk_mut(image) else {
-        return Answer::refusal(WRONG_SIZE);
-    };
+pub fn format(layout: u32, image: &mut [u8], name: &[u8], id1: u8, id2: u8) -> Answer {
+    settle(try_format(layout, image, name, id1, id2))
+}
+
+fn try_format(
+    layout: u32,
+    image: &mut [u8],
+    name: &[u8],
+    id1: u8,
+    id2: u8,
+) -> Result<Answer, Answer> {
+    let padded = size_and_name(layout, image, name)?;
+    let geometry = geometry_of(layout)?;
+    let disk = disk_mut(&geometry, image).ok_or(Answer::refusal(WRONG_SIZE))?;
     for sector in disk.iter_mut() {
         sector.fill(0);
     }
     disk[on_track_18(1)][..2].copy_from_slice(&[0x00, 0xFF]);
-    format_map(&mut disk[MAP_NUMBER], &padded, id1, id2);
-    Answer::done(0, 0)
+    format_map(&geometry, &mut disk[MAP_NUMBER], &padded, id1, id2);
+    Ok(Answer::done(0, 0))
 }
 
-/// 18/0 of a fresh disk, from zeros; bits past a track's last sector are 0.
-fn format_map(map: &mut Sector, name: &[u8; NAME_BYTES], id1: u8, id2: u8) {
+/// 18/0 of a fresh disk, from zeros; bits past a track's last sector are 0, and
+/// so are the entries that another layout has elsewhere.
+fn format_map(geometry: &Geometry, map: &mut Sector, name: &[u8; NAME_BYTES], id1: u8, id2: u8) {
     map[..4].copy_from_slice(&[0x12, 0x01, 0x41, 0x00]);
-    for track in 1..=TRACKS {
-        let sectors = sectors_on(track);
+    for track in 1..=geometry.tracks {
+        let sectors = geometry.sectors_on(track);
         let bits = own_bits(sectors).to_le_bytes();
-        let at = 4 * usize::from(track);
+        let at = geometry.entry_at(track);
         map[at] = sectors;
         map[at + 1..at + 4].copy_from_slice(&bits[..3]);
     }
-    mark_used(map, DIRECTORY_TRACK, 0);
-    mark_used(map, DIRECTORY_TRACK, 1);
+    mark_used(geometry, map, DIRECTORY_TRACK, 0);
+    mark_used(geometry, map, DIRECTORY_TRACK, 1);
     map[0x90..0xA0].copy_from_slice(name);
     map[0xA0..0xAB].fill(PAD);
     map[0xA2] = id1;
@@ -104,22 +109,23 @@ fn format_map(map: &mut Sector, name: &[u8; NAME_BYTES], id1: u8, id2: u8) {
 
 // --- Read and tell --------------------------------------------------------
 
-pub fn read(image: &[u8], name: &[u8], out: &mut [u8]) -> Answer {
-    settle(try_read(image, name, out))
+pub fn read(layout: u32, image: &[u8], name: &[u8], out: &mut [u8]) -> Answer {
+    settle(try_read(layout, image, name, out))
 }
 
-fn try_read(image: &[u8], name: &[u8], out: &mut [u8]) -> Result<Answer, Answer> {
-    let name = size_and_name(image, name)?;
-    let Layout { directory, .. } = examine(image)?;
-    let disk = disk(image).ok_or(Answer::refusal(WRONG_SIZE))?;
-    let slot = find(disk, &directory, &name).ok_or(Answer::refusal(NOT_THERE))?;
+fn try_read(layout: u32, image: &[u8], name: &[u8], out: &mut [u8]) -> Result<Answer, Answer> {
+    let name = size_and_name(layout, image, name)?;
+    let found = examine(layout, image)?;
+    let disk = disk(&found.geometry, image).ok_or(Answer::refusal(WRONG_SIZE))?;
+    let slot = find(disk, &found.directory, &name).ok_or(Answer::refusal(NOT_THERE))?;
     // The length comes first: a short buffer is left whole.
-    let (length, sectors) = measure(disk, &directory, slot);
+    let (length, sectors) = measure(disk, &found, slot);
     if out.len() < length as usize {
         return Err(Answer::refusal(NO_ROOM));
     }
     let mut at = 0;
-    for (_, _, data) in Chain::of(disk, slot_at(disk, &directory, slot)) {
+    let slot = slot_at(disk, &found.directory, slot);
+    for (_, _, data) in Chain::of(&found.geometry, disk, slot) {
         out[at..at + data.len()].copy_from_slice(data);
         at += data.len();
     }
@@ -127,35 +133,36 @@ fn try_read(image: &[u8], name: &[u8], out: &mut [u8]) -> Result<Answer, Answer>
 }
 
 /// Tells about the file at a position, counted from 0 among occupied slots.
-pub fn tell(image: &[u8], position: usize) -> (Answer, Told) {
-    match try_tell(image, position) {
+pub fn tell(layout: u32, image: &[u8], position: usize) -> (Answer, Told) {
+    match try_tell(layout, image, position) {
         Ok(told) => (Answer::done(0, 0), told),
         Err(refusal) => (refusal, Told::default()),
     }
 }
 
-fn try_tell(image: &[u8], position: usize) -> Result<Told, Answer> {
-    let Layout { directory, .. } = examine(image)?;
-    let disk = disk(image).ok_or(Answer::refusal(WRONG_SIZE))?;
+fn try_tell(layout: u32, image: &[u8], position: usize) -> Result<Told, Answer> {
+    let found = examine(layout, image)?;
+    let directory = &found.directory;
+    let disk = disk(&found.geometry, image).ok_or(Answer::refusal(WRONG_SIZE))?;
     let index = (0..directory.slots())
-        .filter(|&index| !is_empty(slot_at(disk, &directory, index)))
+        .filter(|&index| !is_empty(slot_at(disk, directory, index)))
         .nth(position)
         .ok_or(Answer::refusal(NOT_THERE))?;
-    let slot = slot_at(disk, &directory, index);
+    let slot = slot_at(disk, directory, index);
     Ok(Told {
         kind: slot[2],
         name: slot_name(slot),
         track: slot[3],
         sector: slot[4],
         count: slot_count(slot),
-        length: measure(disk, &directory, index).0,
+        length: measure(disk, &found, index).0,
     })
 }
 
 // --- Store ----------------------------------------------------------------
 
-pub fn store(image: &mut [u8], name: &[u8], kind: u32, data: &[u8]) -> Answer {
-    settle(try_store(image, name, kind, data))
+pub fn store(layout: u32, image: &mut [u8], name: &[u8], kind: u32, data: &[u8]) -> Answer {
+    settle(try_store(layout, image, name, kind, data))
 }
 
 /// Sectors needed: 1 for no bytes, else the length over 254 rounded up.
@@ -168,25 +175,35 @@ fn kind_is_stored(kind: u32) -> bool {
     matches!(kind, 1 | 2)
 }
 
-fn try_store(image: &mut [u8], name: &[u8], kind: u32, data: &[u8]) -> Result<Answer, Answer> {
-    let name = size_and_name(image, name)?;
+fn try_store(
+    layout: u32,
+    image: &mut [u8],
+    name: &[u8],
+    kind: u32,
+    data: &[u8],
+) -> Result<Answer, Answer> {
+    let name = size_and_name(layout, image, name)?;
     if !kind_is_stored(kind) {
         return Err(Answer::refusal(KIND_ASKED));
     }
-    let Layout { directory, .. } = examine(image)?;
-    let disk = disk_mut(image).ok_or(Answer::refusal(WRONG_SIZE))?;
+    let Found {
+        geometry,
+        directory,
+        ..
+    } = examine(layout, image)?;
+    let disk = disk_mut(&geometry, image).ok_or(Answer::refusal(WRONG_SIZE))?;
     writing_allowed(disk)?;
     if find(disk, &directory, &name).is_some() {
         return Err(Answer::refusal(NAME_THERE));
     }
-    let spot = find_spot(disk, &directory).ok_or(Answer::refusal(DIRECTORY_FULL))?;
+    let spot = find_spot(&geometry, disk, &directory).ok_or(Answer::refusal(DIRECTORY_FULL))?;
     let needed = sectors_needed(data.len());
-    if needed > free_off_track_18(map(disk)) {
+    if needed > free_off_track_18(&geometry, map(disk)) {
         return Err(Answer::refusal(DISK_FULL));
     }
     // From here on nothing is refused.
-    let (sector, slot) = take_spot(disk, &directory, spot);
-    let first = write_chain(disk, data);
+    let (sector, slot) = take_spot(&geometry, disk, &directory, spot);
+    let first = write_chain(&geometry, disk, data);
     let entry = slot_in_mut(&mut disk[on_track_18(sector)], slot);
     entry[0x02] = 0x80 + kind as u8;
     (entry[0x03], entry[0x04]) = first;
@@ -212,16 +229,21 @@ enum Spot {
     NewSector(u8),
 }
 
-fn find_spot(disk: &Disk, directory: &Directory) -> Option<Spot> {
+fn find_spot(geometry: &Geometry, disk: &Disk, directory: &Directory) -> Option<Spot> {
     (0..directory.slots())
         .find(|&index| is_empty(slot_at(disk, directory, index)))
         .map(Spot::Slot)
-        .or_else(|| lowest_free(map(disk), DIRECTORY_TRACK, 0).map(Spot::NewSector))
+        .or_else(|| lowest_free(geometry, map(disk), DIRECTORY_TRACK, 0).map(Spot::NewSector))
 }
 
 /// Makes the spot ready, growing the directory if need be. Gives the sector
 /// of track 18 and the slot within the directory sector.
-fn take_spot(disk: &mut Disk, directory: &Directory, spot: Spot) -> (u8, usize) {
+fn take_spot(
+    geometry: &Geometry,
+    disk: &mut Disk,
+    directory: &Directory,
+    spot: Spot,
+) -> (u8, usize) {
     match spot {
         Spot::Slot(index) => (directory.sector_of(index), index),
         Spot::NewSector(sector) => {
@@ -230,7 +252,7 @@ fn take_spot(disk: &mut Disk, directory: &Directory, spot: Spot) -> (u8, usize) 
             new[1] = 0xFF;
             let old = &mut disk[on_track_18(directory.last())];
             (old[0], old[1]) = (DIRECTORY_TRACK, sector);
-            mark_used(&mut disk[MAP_NUMBER], DIRECTORY_TRACK, sector);
+            mark_used(geometry, &mut disk[MAP_NUMBER], DIRECTORY_TRACK, sector);
             (sector, 0)
         }
     }
@@ -238,18 +260,18 @@ fn take_spot(disk: &mut Disk, directory: &Directory, spot: Spot) -> (u8, usize) 
 
 /// Writes the data to the first free sectors in house order, and marks them
 /// used. The caller has seen that there are enough. Gives the first sector.
-fn write_chain(disk: &mut Disk, data: &[u8]) -> (u8, u8) {
+fn write_chain(geometry: &Geometry, disk: &mut Disk, data: &[u8]) -> (u8, u8) {
     let mut chunks = data.chunks(DATA_BYTES);
     let mut left = sectors_needed(data.len());
     let mut first = (0, 0);
     let mut previous: Option<usize> = None;
-    for track in house_tracks() {
+    for track in geometry.house_tracks() {
         let mut from = 0;
-        while let Some(sector) = lowest_free(map(disk), track, from) {
-            let Some(here) = number(track, sector) else {
+        while let Some(sector) = lowest_free(geometry, map(disk), track, from) {
+            let Some(here) = geometry.number(track, sector) else {
                 break;
             };
-            mark_used(&mut disk[MAP_NUMBER], track, sector);
+            mark_used(geometry, &mut disk[MAP_NUMBER], track, sector);
             match previous {
                 Some(holder) => (disk[holder][0], disk[holder][1]) = (track, sector),
                 None => first = (track, sector),
@@ -278,21 +300,22 @@ fn fill_last(sector: &mut Sector, data: &[u8]) {
 
 // --- Scratch --------------------------------------------------------------
 
-pub fn scratch(image: &mut [u8], name: &[u8]) -> Answer {
-    settle(try_scratch(image, name))
+pub fn scratch(layout: u32, image: &mut [u8], name: &[u8]) -> Answer {
+    settle(try_scratch(layout, image, name))
 }
 
-fn try_scratch(image: &mut [u8], name: &[u8]) -> Result<Answer, Answer> {
-    let name = size_and_name(image, name)?;
-    let Layout { directory, .. } = examine(image)?;
-    let disk = disk_mut(image).ok_or(Answer::refusal(WRONG_SIZE))?;
+fn try_scratch(layout: u32, image: &mut [u8], name: &[u8]) -> Result<Answer, Answer> {
+    let name = size_and_name(layout, image, name)?;
+    let found = examine(layout, image)?;
+    let directory = &found.directory;
+    let disk = disk_mut(&found.geometry, image).ok_or(Answer::refusal(WRONG_SIZE))?;
     writing_allowed(disk)?;
-    let index = find(disk, &directory, &name).ok_or(Answer::refusal(NOT_THERE))?;
-    let (length, sectors) = measure(disk, &directory, index);
-    let slot = slot_at(disk, &directory, index);
+    let index = find(disk, directory, &name).ok_or(Answer::refusal(NOT_THERE))?;
+    let (length, sectors) = measure(disk, &found, index);
+    let slot = slot_at(disk, directory, index);
     let mut next = Some((slot[3], slot[4]));
     while let Some((track, sector)) = next {
-        next = clear_sector(disk, track, sector);
+        next = clear_sector(&found.geometry, disk, track, sector);
     }
     let holder = &mut disk[on_track_18(directory.sector_of(index))];
     slot_in_mut(holder, index)[0x02..0x20].fill(0);
@@ -300,10 +323,10 @@ fn try_scratch(image: &mut [u8], name: &[u8]) -> Result<Answer, Answer> {
 }
 
 /// Zeroes and frees one sector of a file; gives the sector it linked to.
-fn clear_sector(disk: &mut Disk, track: u8, sector: u8) -> Option<(u8, u8)> {
-    let here = &mut disk[number(track, sector)?];
+fn clear_sector(geometry: &Geometry, disk: &mut Disk, track: u8, sector: u8) -> Option<(u8, u8)> {
+    let here = &mut disk[geometry.number(track, sector)?];
     let link = (here[0], here[1]);
     here.fill(0);
-    mark_free(&mut disk[MAP_NUMBER], track, sector);
+    mark_free(geometry, &mut disk[MAP_NUMBER], track, sector);
     (link.0 != 0).then_some(link)
 }

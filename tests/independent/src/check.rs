@@ -2,14 +2,14 @@
 
 use crate::answer::{
     Answer, ALREADY_OWNED, BAD_LINK, COUNT_WRONG, KIND_NOT_CARRIED, MAP_WRONG, NAME_ON_DISK,
-    NAME_TWICE, NONE, WRONG_SIZE,
+    NAME_TWICE, NONE, UNKNOWN_LAYOUT, WRONG_SIZE,
 };
 use crate::disk::{
     bitmap, disk, is_empty, link, map, map_entry, own_bits, slot_at, slot_count, slot_name,
     track_18, walk_directory, Directory, Disk, Link, Slot, MAX_SLOTS, NAME_BYTES, PAD,
 };
 use crate::geometry::{
-    number, on_track_18, sectors_on, DIRECTORY_TRACK, MAP_NUMBER, SECTORS, TRACKS, TRACK_18_BYTES,
+    on_track_18, Geometry, DIRECTORY_TRACK, MAP_NUMBER, MOST_SECTORS, TRACK_18_BYTES,
     TRACK_18_OFFSET,
 };
 
@@ -19,43 +19,67 @@ pub const MAP: u16 = 1;
 pub const DIRECTORY: u16 = 2;
 pub const FILES: u16 = 3;
 
+/// The owner of each sector so far, by number. A disk of 35 tracks uses the
+/// first 683 places.
+type Owners = [u16; MOST_SECTORS];
+
 /// What the check found on an accepted image.
-pub struct Layout {
-    pub owners: [u16; SECTORS],
+pub struct Found {
+    owners: Owners,
+    pub geometry: Geometry,
     pub directory: Directory,
 }
 
+impl Found {
+    /// The owners of the disk's sectors.
+    pub fn owners(&self) -> &[u16] {
+        &self.owners[..self.geometry.sectors]
+    }
+}
+
+/// The geometry of a layout; any unknown number gives 17, in every call before
+/// all but the answer block's 16 (02, §8).
+pub(crate) fn geometry_of(layout: u32) -> Result<Geometry, Answer> {
+    Geometry::of(layout).ok_or(Answer::refusal(UNKNOWN_LAYOUT))
+}
+
 /// The whole check, steps 1 to 4.
-pub fn check(image: &[u8]) -> Answer {
-    match examine(image) {
+pub fn check(layout: u32, image: &[u8]) -> Answer {
+    match examine(layout, image) {
         Ok(_) => Answer::done(0, 0),
         Err(fault) => fault,
     }
 }
 
-/// The whole check; an accepted image gives its layout.
-pub fn examine(image: &[u8]) -> Result<Layout, Answer> {
-    let disk = disk(image).ok_or(Answer::refusal(WRONG_SIZE))?;
+/// The whole check; an accepted image gives what was found on it.
+pub fn examine(layout: u32, image: &[u8]) -> Result<Found, Answer> {
+    let geometry = geometry_of(layout)?;
+    let disk = disk(&geometry, image).ok_or(Answer::refusal(WRONG_SIZE))?;
     let track18 = image
         .get(TRACK_18_OFFSET..TRACK_18_OFFSET + TRACK_18_BYTES)
         .and_then(track_18)
         .ok_or(Answer::refusal(WRONG_SIZE))?;
     let directory = walk_directory(track18)?;
-    let mut owners = [NOBODY; SECTORS];
+    let mut owners = [NOBODY; MOST_SECTORS];
     owners[MAP_NUMBER] = MAP;
     for &sector in directory.sectors() {
         owners[on_track_18(sector)] = DIRECTORY;
     }
-    check_slots(disk, &directory, &mut owners)?;
-    check_map(disk, &owners)?;
-    Ok(Layout { owners, directory })
+    check_slots(&geometry, disk, &directory, &mut owners)?;
+    check_map(&geometry, disk, &owners)?;
+    Ok(Found {
+        owners,
+        geometry,
+        directory,
+    })
 }
 
 /// Step 3: the occupied slots in directory order.
 fn check_slots(
+    geometry: &Geometry,
     disk: &Disk,
     directory: &Directory,
-    owners: &mut [u16; SECTORS],
+    owners: &mut Owners,
 ) -> Result<(), Answer> {
     let mut names = Names::new();
     for index in 0..directory.slots() {
@@ -66,7 +90,7 @@ fn check_slots(
         let holder = directory.sector_of(index);
         let here = |number| Answer::fault(number, DIRECTORY_TRACK, holder, index as u8);
         check_entry(slot, &mut names).map_err(here)?;
-        let sectors = claim_chain(disk, slot, holder, index as u8, owners)?;
+        let sectors = claim_chain(geometry, disk, slot, holder, index as u8, owners)?;
         if slot_count(slot) != sectors {
             return Err(here(COUNT_WRONG));
         }
@@ -111,18 +135,19 @@ fn name_is_sound(name: &[u8; NAME_BYTES]) -> bool {
 /// asked first whether it is on the disk, then whether its sector is owned.
 /// Every round claims a sector that nobody owned, so the walk ends.
 fn claim_chain(
+    geometry: &Geometry,
     disk: &Disk,
     slot: &Slot,
     directory_sector: u8,
     index: u8,
-    owners: &mut [u16; SECTORS],
+    owners: &mut Owners,
 ) -> Result<u16, Answer> {
     let (mut track, mut sector) = (slot[3], slot[4]);
     let mut holder = (DIRECTORY_TRACK, directory_sector);
     let mut claimed = 0;
     loop {
         let fault = |number| Answer::fault(number, holder.0, holder.1, index);
-        let target = number(track, sector).ok_or(fault(BAD_LINK))?;
+        let target = geometry.number(track, sector).ok_or(fault(BAD_LINK))?;
         if owners[target] != NOBODY {
             return Err(fault(ALREADY_OWNED));
         }
@@ -140,18 +165,18 @@ fn claim_chain(
 /// Step 4: each entry's bits are those of the owner table, and its count is
 /// the number of ones among them. Bits past the track's last sector are
 /// ignored (02, §5). The place names the lowest sector whose bit is wrong
-/// (02, §3).
-fn check_map(disk: &Disk, owners: &[u16; SECTORS]) -> Result<(), Answer> {
+/// (02, §3). It goes by track number, wherever an entry stands.
+fn check_map(geometry: &Geometry, disk: &Disk, owners: &Owners) -> Result<(), Answer> {
     let mut first = 0;
-    for track in 1..=TRACKS {
-        let own = own_bits(sectors_on(track));
-        let sectors = usize::from(sectors_on(track));
+    for track in 1..=geometry.tracks {
+        let own = own_bits(geometry.sectors_on(track));
+        let sectors = usize::from(geometry.sectors_on(track));
         let mut free = 0u32;
         for sector in 0..sectors {
             free |= u32::from(owners[first + sector] == NOBODY) << sector;
         }
         first += sectors;
-        let entry = map_entry(map(disk), track);
+        let entry = map_entry(geometry, map(disk), track);
         let wrong = (bitmap(entry) ^ free) & own;
         if wrong != 0 || u32::from(entry[0]) != free.count_ones() {
             return Err(Answer::fault(MAP_WRONG, track, lowest(wrong), NONE));

@@ -5,7 +5,7 @@
 //! in common, the one of lower rank is the answer.
 
 use crate::answer::Answer;
-use crate::naive::track_length;
+use crate::naive::{last_track, track_length};
 use crate::rng::Rng;
 use crate::sound::{not_pad, offset, slot_offset, Plan, Planned};
 
@@ -31,30 +31,32 @@ pub type Planter = fn(&mut Rng, &Plan) -> Option<Fault>;
 /// "later-file", which may give 3 or 7.
 pub const FAULTS: &[(&str, Planter)] = &[
     ("2-directory-to-18-0", |rng, plan| {
-        directory_link(rng, plan, 2, |_| (18, 0))
+        directory_link(rng, plan, 2, |_, _| (18, 0))
     }),
     ("2-directory-off-18", |rng, plan| {
         directory_link(rng, plan, 2, off_track_18)
     }),
     ("2-directory-to-18-19", |rng, plan| {
-        directory_link(rng, plan, 2, |rng| (18, rng.pick(&[19, 20, 21, 127, 255])))
+        directory_link(rng, plan, 2, |rng, _| {
+            (18, rng.pick(&[19, 20, 21, 127, 255]))
+        })
     }),
     ("2-first-track-0", |rng, plan| {
-        first_link(rng, plan, 2, |rng| (0, rng.byte()))
+        first_link(rng, plan, 2, |rng, _| (0, rng.byte()))
     }),
     ("2-first-off-disk", |rng, plan| {
         first_link(rng, plan, 2, off_disk)
     }),
     ("2-last-00-00", last_zero),
     ("2-cut-00-00", |rng, plan| {
-        later_link(rng, plan, 2, |_| (0, 0))
+        later_link(rng, plan, 2, |_, _| (0, 0))
     }),
     ("2-link-off-disk", |rng, plan| {
         later_link(rng, plan, 2, off_disk)
     }),
     ("3-directory-back", directory_back),
     ("3-first-to-18-0", |rng, plan| {
-        first_link(rng, plan, 3, |_| (18, 0))
+        first_link(rng, plan, 3, |_, _| (18, 0))
     }),
     ("3-first-to-directory", |rng, plan| {
         let sector = rng.pick(&plan.directory);
@@ -62,7 +64,7 @@ pub const FAULTS: &[(&str, Planter)] = &[
     }),
     ("3-first-to-earlier", first_to_earlier),
     ("3-link-to-18-0", |rng, plan| {
-        later_link(rng, plan, 3, |_| (18, 0))
+        later_link(rng, plan, 3, |_, _| (18, 0))
     }),
     ("3-link-to-directory", |rng, plan| {
         let sector = rng.pick(&plan.directory);
@@ -98,6 +100,7 @@ pub const FAULTS: &[(&str, Planter)] = &[
     ("8-bit-after-spare", map::bit_after_spare),
     ("8-spare-bit-counted", map::spare_bit_counted),
     ("8-spare-bits-counted", map::spare_bits_counted),
+    ("8-entry-elsewhere", map::entry_elsewhere),
     ("8-lost-file", lost_file),
     ("8-directory-cut", directory_cut),
     ("later-file", link_to_later),
@@ -131,13 +134,23 @@ pub fn pair(rng: &mut Rng, plan: &Plan) -> Option<(Fault, Fault)> {
 
 // --- Targets --------------------------------------------------------------
 
+/// What a link names.
+type Target = fn(&mut Rng, &Plan) -> (u8, u8);
+
 /// A link that no file may hold, with a track other than 0.
-fn off_disk(rng: &mut Rng) -> (u8, u8) {
+fn off_disk(rng: &mut Rng, plan: &Plan) -> (u8, u8) {
+    let last = usize::from(last_track(plan.layout));
+    let tracks = match plan.layout {
+        0 => [36, 37, 40, 42, 127, 128, 255],
+        _ => [41, 41, 42, 43, 127, 128, 255],
+    };
     match rng.below(3) {
-        0 => (rng.pick(&[36, 37, 40, 42, 127, 128, 255]), rng.byte()),
-        1 => (rng.range(36, 255) as u8, rng.pick(&[0, 0, 1, 16])),
+        0 => (rng.pick(&tracks), rng.byte()),
+        1 => (rng.range(last + 1, 255) as u8, rng.pick(&[0, 0, 1, 16])),
         _ => {
-            let track = rng.range(1, 35) as u8;
+            // The last of 40 tracks as often as any.
+            let first = if last == 40 && rng.one_in(2) { 36 } else { 1 };
+            let track = rng.range(first, last) as u8;
             let past = usize::from(track_length(track));
             let far = rng.range(past, 255);
             (track, rng.pick(&[past, past, far]) as u8)
@@ -146,7 +159,7 @@ fn off_disk(rng: &mut Rng) -> (u8, u8) {
 }
 
 /// Any link that names another track than 18, and doesn't end.
-fn off_track_18(rng: &mut Rng) -> (u8, u8) {
+fn off_track_18(rng: &mut Rng, _: &Plan) -> (u8, u8) {
     let track = rng.pick(&[1, 17, 19, 35, 36, 0x92, 255]);
     (track, rng.range(0, 20) as u8)
 }
@@ -164,14 +177,9 @@ fn directory_fault(plan: &Plan, index: usize, link: (u8, u8), number: u8) -> Fau
     }
 }
 
-fn directory_link(
-    rng: &mut Rng,
-    plan: &Plan,
-    number: u8,
-    target: fn(&mut Rng) -> (u8, u8),
-) -> Option<Fault> {
+fn directory_link(rng: &mut Rng, plan: &Plan, number: u8, target: Target) -> Option<Fault> {
     let index = rng.below(plan.directory.len());
-    let link = target(rng);
+    let link = target(rng, plan);
     Some(directory_fault(plan, index, link, number))
 }
 
@@ -244,14 +252,9 @@ fn first_fault(plan: &Plan, file: &Planned, link: (u8, u8), number: u8) -> Fault
     slot_fault(plan, file, number, PART_CHAIN, &[(3, link.0), (4, link.1)])
 }
 
-fn first_link(
-    rng: &mut Rng,
-    plan: &Plan,
-    number: u8,
-    target: fn(&mut Rng) -> (u8, u8),
-) -> Option<Fault> {
+fn first_link(rng: &mut Rng, plan: &Plan, number: u8, target: Target) -> Option<Fault> {
     let file = any_file(rng, plan)?;
-    let link = target(rng);
+    let link = target(rng, plan);
     Some(first_fault(plan, file, link, number))
 }
 
@@ -272,14 +275,9 @@ fn link_fault(file: &Planned, link: usize, target: (u8, u8), number: u8) -> Faul
     }
 }
 
-fn later_link(
-    rng: &mut Rng,
-    plan: &Plan,
-    number: u8,
-    target: fn(&mut Rng) -> (u8, u8),
-) -> Option<Fault> {
+fn later_link(rng: &mut Rng, plan: &Plan, number: u8, target: Target) -> Option<Fault> {
     let (file, link) = any_link(rng, plan)?;
-    let target = target(rng);
+    let target = target(rng, plan);
     Some(link_fault(file, link, target, number))
 }
 
@@ -457,7 +455,7 @@ fn chain_cut(rng: &mut Rng, plan: &Plan) -> Option<Fault> {
 /// The chain goes on into a sector that nobody owns.
 fn chain_longer(rng: &mut Rng, plan: &Plan) -> Option<Fault> {
     let file = any_file(rng, plan)?;
-    let track = rng.range(1, 35) as u8;
+    let track = rng.range(1, usize::from(last_track(plan.layout))) as u8;
     let sector = rng.below(usize::from(track_length(track))) as u8;
     if !map::says_free(plan, track, sector) {
         return None;

@@ -3,13 +3,12 @@
 
 use crate::answer::{Answer, ALREADY_OWNED, BAD_LINK, NONE};
 use crate::geometry::{
-    house_tracks, number, on_track_18, sectors_on, DIRECTORY_TRACK, MAP_NUMBER, SECTORS,
-    SECTOR_BYTES, TRACK_18_SECTORS,
+    on_track_18, Geometry, DIRECTORY_TRACK, MAP_NUMBER, SECTOR_BYTES, TRACK_18_SECTORS,
 };
 
 pub type Sector = [u8; SECTOR_BYTES];
-/// An image of the right size, seen as its 683 sectors.
-pub type Disk = [Sector; SECTORS];
+/// An image of its layout's size, seen as its sectors.
+pub type Disk = [Sector];
 /// The 19 sectors of track 18.
 pub type Track18 = [Sector; TRACK_18_SECTORS];
 /// One directory slot.
@@ -23,18 +22,18 @@ pub const DATA_BYTES: usize = 254;
 pub const PAD: u8 = 0xA0;
 pub const NAME_BYTES: usize = 16;
 
-/// The image as sectors, or `None` if it isn't exactly 174,848 bytes.
-pub fn disk(image: &[u8]) -> Option<&Disk> {
+/// The image as sectors, or `None` if its size isn't exactly the layout's.
+pub fn disk<'a>(geometry: &Geometry, image: &'a [u8]) -> Option<&'a Disk> {
     match image.as_chunks() {
-        (sectors, []) => sectors.try_into().ok(),
+        (sectors, []) if sectors.len() == geometry.sectors => Some(sectors),
         _ => None,
     }
 }
 
 /// The same, for a call that writes.
-pub fn disk_mut(image: &mut [u8]) -> Option<&mut Disk> {
+pub fn disk_mut<'a>(geometry: &Geometry, image: &'a mut [u8]) -> Option<&'a mut Disk> {
     match image.as_chunks_mut() {
-        (sectors, []) => sectors.try_into().ok(),
+        (sectors, []) if sectors.len() == geometry.sectors => Some(sectors),
         _ => None,
     }
 }
@@ -54,11 +53,12 @@ pub fn map(disk: &Disk) -> &Sector {
     &disk[MAP_NUMBER]
 }
 
-/// Track t has four bytes at 4t: the free count, then three bitmap bytes.
-/// Zeros for a track whose entry would lie outside the sector.
-pub fn map_entry(map: &Sector, track: u8) -> [u8; 4] {
+/// A track has four bytes: the free count, then three bitmap bytes. Zeros for
+/// a track whose entry would lie outside the sector.
+pub fn map_entry(geometry: &Geometry, map: &Sector, track: u8) -> [u8; 4] {
     let entries = map.as_chunks().0;
-    entries.get(usize::from(track)).copied().unwrap_or_default()
+    let entry = entries.get(geometry.entry_at(track) / 4);
+    entry.copied().unwrap_or_default()
 }
 
 /// The bitmap of a map entry as one number: bit s stands for sector s.
@@ -72,36 +72,38 @@ pub fn own_bits(sectors: u8) -> u32 {
     (1 << sectors) - 1
 }
 
-/// Whether a sector that the track has is free.
-pub fn is_free(map: &Sector, track: u8, sector: u8) -> bool {
-    bitmap(map_entry(map, track)) >> (sector & 31) & 1 == 1
+/// Whether a sector that the track has is free, by the track's map entry.
+pub fn is_free(entry: [u8; 4], sector: u8) -> bool {
+    bitmap(entry) >> (sector & 31) & 1 == 1
 }
 
 /// Marks a used sector free. Its caller knows that it was used.
-pub(crate) fn mark_free(map: &mut Sector, track: u8, sector: u8) {
-    let at = 4 * usize::from(track);
+pub(crate) fn mark_free(geometry: &Geometry, map: &mut Sector, track: u8, sector: u8) {
+    let at = geometry.entry_at(track);
     map[at] = map[at].wrapping_add(1);
     map[at + 1 + usize::from(sector / 8)] |= 1 << (sector % 8);
 }
 
 /// Marks a free sector used. Its caller knows that it was free.
-pub(crate) fn mark_used(map: &mut Sector, track: u8, sector: u8) {
-    let at = 4 * usize::from(track);
+pub(crate) fn mark_used(geometry: &Geometry, map: &mut Sector, track: u8, sector: u8) {
+    let at = geometry.entry_at(track);
     map[at] = map[at].wrapping_sub(1);
     map[at + 1 + usize::from(sector / 8)] &= !(1 << (sector % 8));
 }
 
 /// The sum of the count bytes except track 18: the room for files on an
 /// accepted image, and the last line of the sleeve listing on any.
-pub fn free_off_track_18(map: &Sector) -> usize {
-    house_tracks()
-        .map(|track| usize::from(map_entry(map, track)[0]))
+pub fn free_off_track_18(geometry: &Geometry, map: &Sector) -> usize {
+    geometry
+        .house_tracks()
+        .map(|track| usize::from(map_entry(geometry, map, track)[0]))
         .sum()
 }
 
 /// The lowest free sector of a track, looked for from `from` upward.
-pub fn lowest_free(map: &Sector, track: u8, from: u8) -> Option<u8> {
-    (from..sectors_on(track)).find(|&sector| is_free(map, track, sector))
+pub fn lowest_free(geometry: &Geometry, map: &Sector, track: u8, from: u8) -> Option<u8> {
+    let entry = map_entry(geometry, map, track);
+    (from..geometry.sectors_on(track)).find(|&sector| is_free(entry, sector))
 }
 
 // --- The directory --------------------------------------------------------
@@ -214,17 +216,19 @@ pub fn link(sector: &Sector) -> Link {
 /// the data bytes of each. On any other image it still ends: at a bad link, or
 /// after as many sectors as a disk has.
 pub struct Chain<'a> {
+    geometry: Geometry,
     disk: &'a Disk,
     next: Option<(u8, u8)>,
     left: usize,
 }
 
 impl<'a> Chain<'a> {
-    pub fn of(disk: &'a Disk, slot: &Slot) -> Chain<'a> {
+    pub fn of(geometry: &Geometry, disk: &'a Disk, slot: &Slot) -> Chain<'a> {
         Chain {
+            geometry: *geometry,
             disk,
             next: Some((slot[3], slot[4])),
-            left: SECTORS,
+            left: geometry.sectors,
         }
     }
 }
@@ -235,7 +239,7 @@ impl<'a> Iterator for Chain<'a> {
     fn next(&mut self) -> Option<Self::Item> {
         self.left = self.left.checked_sub(1)?;
         let (track, sector) = self.next.take()?;
-        let bytes = &self.disk[number(track, sector)?];
+        let bytes = &self.disk[self.geometry.number(track, sector)?];
         let end = match link(bytes) {
             Link::Next(track, sector) => {
                 self.next = Some((track, sector));

@@ -3,7 +3,7 @@
 
 use crate::answer::{Answer, BAD_LINK, MAP_WRONG, NONE, WRONG_SIZE};
 use crate::damage::{apply, pair, Fault, FAULTS};
-use crate::geometry::{IMAGE_BYTES, TRACK_18_BYTES, TRACK_18_OFFSET};
+use crate::geometry::{Geometry, TRACK_18_BYTES, TRACK_18_OFFSET};
 use crate::rng::Rng;
 use crate::sound::{build, offset, Fill, Plan, Shape, Weave};
 
@@ -35,6 +35,8 @@ pub const SOUND: &[&str] = &[
     "rounds",
     "runs",
     "comb",
+    "last-tracks",
+    "two-maps",
 ];
 
 /// The other kinds, besides "fault-" followed by a name of `FAULTS`.
@@ -51,11 +53,19 @@ pub const BROKEN: &[&str] = &[
     "wrong-size",
 ];
 
-/// Sizes that are not an image's.
-pub const WRONG_SIZES: &[usize] = &[
-    0, 1, 2, 255, 256, 4_863, 4_864, 4_865, 91_392, 174_592, 174_847, 174_849, 175_104, 175_531,
-    196_608, 197_376,
-];
+/// Sizes that are not an image's, that of the other number of tracks among them.
+pub fn wrong_sizes(layout: u32) -> [usize; 16] {
+    match layout {
+        0 => [
+            0, 1, 2, 255, 256, 4_863, 4_864, 4_865, 91_392, 174_592, 174_847, 174_849, 175_104,
+            175_531, 196_608, 197_376,
+        ],
+        _ => [
+            0, 1, 2, 255, 256, 4_863, 4_864, 4_865, 91_392, 174_848, 175_531, 196_352, 196_607,
+            196_609, 196_864, 197_376,
+        ],
+    }
+}
 
 /// Every kind's name.
 pub fn kinds() -> Vec<String> {
@@ -68,10 +78,11 @@ pub fn kinds() -> Vec<String> {
         .collect()
 }
 
-/// One image of a kind; `None` if there is no such kind.
-pub fn generate(kind: &str, seed: u64) -> Option<Generated> {
-    let rng = &mut Rng::new(seed ^ 0xD64);
-    if let Some(plan) = sound(kind, rng) {
+/// One image of a kind in a layout; `None` if there is no such kind or layout.
+pub fn generate(layout: u32, kind: &str, seed: u64) -> Option<Generated> {
+    // Layouts differ on one seed.
+    let rng = &mut Rng::new(seed ^ 0xD64 ^ u64::from(layout) << 40);
+    if let Some(plan) = sound(layout, kind, rng) {
         return Some(Generated {
             image: plan.image,
             expected: Some(Answer::done(0, 0)),
@@ -79,15 +90,17 @@ pub fn generate(kind: &str, seed: u64) -> Option<Generated> {
     }
     if let Some(name) = kind.strip_prefix("fault-") {
         let at = FAULTS.iter().position(|(known, _)| *known == name)?;
-        return Some(planted(rng, at));
+        Geometry::of(layout)?;
+        return Some(planted(layout, rng, at));
     }
-    broken(kind, rng)
+    broken(layout, kind, rng)
 }
 
 /// A sound image of a kind, with the plan it was built by.
-pub fn sound(kind: &str, rng: &mut Rng) -> Option<Plan> {
+pub fn sound(layout: u32, kind: &str, rng: &mut Rng) -> Option<Plan> {
+    Geometry::of(layout)?;
     let shape = shape(kind, rng)?;
-    Some(build(rng, &shape))
+    Some(build(layout, rng, &shape))
 }
 
 fn shape(kind: &str, rng: &mut Rng) -> Option<Shape> {
@@ -113,6 +126,8 @@ fn shape(kind: &str, rng: &mut Rng) -> Option<Shape> {
         }
         "odd-names" | "locked" | "edge-ends" => (rng.range(1, 40), 5),
         "zigzag" | "rounds" | "runs" | "comb" => (rng.range(1, 12), rng.range(2, 9)),
+        "last-tracks" => (rng.range(1, 24), rng.range(3, 9)),
+        "two-maps" => (rng.range(0, 24), rng.range(3, 9)),
         _ => return None,
     };
     set_details(kind, rng, &mut shape);
@@ -145,6 +160,11 @@ fn set_details(kind: &str, rng: &mut Rng, shape: &mut Shape) {
         "odd-names" => shape.odd_names = true,
         "locked" => shape.locked = true,
         "edge-ends" => shape.edge_ends = true,
+        "last-tracks" => {
+            (shape.last_tracks_first, shape.any_version) = (true, false);
+            shape.fill = rng.pick(&[Fill::Small, Fill::Some]);
+        }
+        "two-maps" => (shape.two_maps, shape.any_version) = (true, false),
         _ => {}
     }
 }
@@ -162,27 +182,38 @@ fn set_weave(kind: &str, rng: &mut Rng, shape: &mut Shape) {
     (shape.fill, shape.any_version) = (Fill::Some, false);
 }
 
-/// A sound image to plant faults in: with files, so that most faults fit.
-pub fn ground(rng: &mut Rng) -> Plan {
-    let kind = rng.pick(&[
-        "few",
-        "scattered",
-        "many",
-        "holes",
-        "full-disk",
-        "track-18",
-        "locked",
-        "zigzag",
-        "runs",
-    ]);
-    sound(kind, rng).expect("a kind of SOUND")
+/// The kinds of sound images to plant faults in: with files, so that most
+/// faults fit. The first nine for 35 tracks.
+const GROUND: [&str; 12] = [
+    "few",
+    "scattered",
+    "many",
+    "holes",
+    "full-disk",
+    "track-18",
+    "locked",
+    "zigzag",
+    "runs",
+    "last-tracks",
+    "last-tracks",
+    "two-maps",
+];
+
+/// A sound image of one of them.
+pub fn ground(layout: u32, rng: &mut Rng) -> Plan {
+    let kinds = match layout {
+        0 => &GROUND[..9],
+        _ => &GROUND,
+    };
+    let kind = rng.pick(kinds);
+    sound(layout, kind, rng).expect("a kind of SOUND, and a layout")
 }
 
 /// A single fault by its number in `FAULTS`. Looks on until it finds an image
 /// with a place for it.
-pub fn planted(rng: &mut Rng, at: usize) -> Generated {
+pub fn planted(layout: u32, rng: &mut Rng, at: usize) -> Generated {
     loop {
-        let plan = ground(rng);
+        let plan = ground(layout, rng);
         if let Some(fault) = FAULTS[at].1(rng, &plan) {
             return with_faults(plan, &[&fault]);
         }
@@ -201,7 +232,8 @@ fn with_faults(plan: Plan, faults: &[&Fault]) -> Generated {
     }
 }
 
-fn broken(kind: &str, rng: &mut Rng) -> Option<Generated> {
+fn broken(layout: u32, kind: &str, rng: &mut Rng) -> Option<Generated> {
+    let size = Geometry::of(layout)?.image_bytes();
     let unknown = |image| Generated {
         image,
         expected: None,
@@ -209,28 +241,28 @@ fn broken(kind: &str, rng: &mut Rng) -> Option<Generated> {
     Some(match kind {
         "fault" => {
             let at = rng.below(FAULTS.len());
-            planted(rng, at)
+            planted(layout, rng, at)
         }
-        "pair" => two_faults(rng),
-        "flips" => unknown(flipped(rng, 0, IMAGE_BYTES)),
-        "flips-18" => unknown(flipped(rng, TRACK_18_OFFSET, TRACK_18_BYTES)),
-        "flips-links" => unknown(flipped_links(rng)),
-        "random-18" => unknown(random_track_18(rng)),
-        "random" => unknown(rng.bytes(IMAGE_BYTES)),
+        "pair" => two_faults(layout, rng),
+        "flips" => unknown(flipped(layout, rng, 0, size)),
+        "flips-18" => unknown(flipped(layout, rng, TRACK_18_OFFSET, TRACK_18_BYTES)),
+        "flips-links" => unknown(flipped_links(layout, rng)),
+        "random-18" => unknown(random_track_18(layout, rng)),
+        "random" => unknown(rng.bytes(size)),
         // No directory link, no slot; track 1 should be free and isn't, from
         // its first sector on.
         "zeros" => Generated {
-            image: vec![0; IMAGE_BYTES],
+            image: vec![0; size],
             expected: Some(Answer::fault(MAP_WRONG, 1, 0, NONE)),
         },
         // The first directory link names track 255.
         "ones" => Generated {
-            image: vec![0xFF; IMAGE_BYTES],
+            image: vec![0xFF; size],
             expected: Some(Answer::fault(BAD_LINK, 18, 1, NONE)),
         },
         "wrong-size" => {
-            let mut image = ground(rng).image;
-            image.resize(rng.pick(WRONG_SIZES), rng.byte());
+            let mut image = ground(layout, rng).image;
+            image.resize(rng.pick(&wrong_sizes(layout)), rng.byte());
             Generated {
                 image,
                 expected: Some(Answer::refusal(WRONG_SIZE)),
@@ -241,15 +273,15 @@ fn broken(kind: &str, rng: &mut Rng) -> Option<Generated> {
 }
 
 /// A sound image but for track 18, which is random.
-fn random_track_18(rng: &mut Rng) -> Vec<u8> {
-    let mut image = ground(rng).image;
+fn random_track_18(layout: u32, rng: &mut Rng) -> Vec<u8> {
+    let mut image = ground(layout, rng).image;
     rng.fill(&mut image[TRACK_18_OFFSET..TRACK_18_OFFSET + TRACK_18_BYTES]);
     image
 }
 
-fn two_faults(rng: &mut Rng) -> Generated {
+fn two_faults(layout: u32, rng: &mut Rng) -> Generated {
     loop {
-        let plan = ground(rng);
+        let plan = ground(layout, rng);
         for _ in 0..20 {
             if let Some((first, second)) = pair(rng, &plan) {
                 return with_faults(plan, &[&first, &second]);
@@ -259,8 +291,8 @@ fn two_faults(rng: &mut Rng) -> Generated {
 }
 
 /// One to eight bytes of a part of the image changed, some in one bit only.
-fn flipped(rng: &mut Rng, start: usize, length: usize) -> Vec<u8> {
-    let mut image = ground(rng).image;
+fn flipped(layout: u32, rng: &mut Rng, start: usize, length: usize) -> Vec<u8> {
+    let mut image = ground(layout, rng).image;
     for _ in 0..rng.range(1, 8) {
         let at = start + rng.below(length);
         match rng.one_in(2) {
@@ -273,8 +305,12 @@ fn flipped(rng: &mut Rng, start: usize, length: usize) -> Vec<u8> {
 
 /// Link bytes set to values that lead somewhere: to the disk's edges, to
 /// other files, to an end.
-fn flipped_links(rng: &mut Rng) -> Vec<u8> {
-    let plan = ground(rng);
+fn flipped_links(layout: u32, rng: &mut Rng) -> Vec<u8> {
+    let tracks = match layout {
+        0 => [0, 1, 17, 18, 35, 36],
+        _ => [0, 18, 35, 36, 40, 41],
+    };
+    let plan = ground(layout, rng);
     let mut image = plan.image;
     for _ in 0..rng.range(1, 4) {
         if plan.files.is_empty() {
@@ -284,10 +320,7 @@ fn flipped_links(rng: &mut Rng) -> Vec<u8> {
         let (track, sector) = rng.pick(&plan.files[file].chain);
         let at = offset(track, sector);
         let other = rng.pick(&plan.files[other].chain);
-        let target = (
-            rng.pick(&[0, 1, 17, 18, 35, 36]),
-            rng.pick(&[0, 1, 16, 17, 20]),
-        );
+        let target = (rng.pick(&tracks), rng.pick(&[0, 1, 16, 17, 20]));
         (image[at], image[at + 1]) = rng.pick(&[other, target]);
     }
     image

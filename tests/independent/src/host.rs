@@ -1,7 +1,8 @@
 //! The host calls (01, What the calls do, Host calls): the answer goes to
 //! nine lent bytes, and its number is returned. A block of any other size
-//! gives 16 before all else, and nothing is written. Tell and the listing have
-//! the same form, though 01 asks it of the other five only.
+//! gives 16 before all else, and nothing is written; an unknown layout gives 17
+//! right after it (02, §8). Tell and the listing have the same form, though 01
+//! asks it of the other five only.
 
 use crate::answer::{Answer, DONE, NO_ROOM};
 use crate::calls::Told;
@@ -50,31 +51,45 @@ fn with_block(block: &mut [u8], call: impl FnOnce() -> Answer) -> u32 {
     u32::from(answer.number)
 }
 
-pub fn check(image: &[u8], block: &mut [u8]) -> u32 {
-    with_block(block, || checking::check(image))
+pub fn check(layout: u32, image: &[u8], block: &mut [u8]) -> u32 {
+    with_block(block, || checking::check(layout, image))
 }
 
-pub fn format(image: &mut [u8], name: &[u8], id1: u8, id2: u8, block: &mut [u8]) -> u32 {
-    with_block(block, || calls::format(image, name, id1, id2))
+pub fn format(
+    layout: u32,
+    image: &mut [u8],
+    name: &[u8],
+    id1: u8,
+    id2: u8,
+    block: &mut [u8],
+) -> u32 {
+    with_block(block, || calls::format(layout, image, name, id1, id2))
 }
 
-pub fn read(image: &[u8], name: &[u8], out: &mut [u8], block: &mut [u8]) -> u32 {
-    with_block(block, || calls::read(image, name, out))
+pub fn read(layout: u32, image: &[u8], name: &[u8], out: &mut [u8], block: &mut [u8]) -> u32 {
+    with_block(block, || calls::read(layout, image, name, out))
 }
 
-pub fn store(image: &mut [u8], name: &[u8], kind: u32, data: &[u8], block: &mut [u8]) -> u32 {
-    with_block(block, || calls::store(image, name, kind, data))
+pub fn store(
+    layout: u32,
+    image: &mut [u8],
+    name: &[u8],
+    kind: u32,
+    data: &[u8],
+    block: &mut [u8],
+) -> u32 {
+    with_block(block, || calls::store(layout, image, name, kind, data))
 }
 
-pub fn scratch(image: &mut [u8], name: &[u8], block: &mut [u8]) -> u32 {
-    with_block(block, || calls::scratch(image, name))
+pub fn scratch(layout: u32, image: &mut [u8], name: &[u8], block: &mut [u8]) -> u32 {
+    with_block(block, || calls::scratch(layout, image, name))
 }
 
 /// Writes what tell tells at the start of `entry`. A short one is refused
 /// last, like any output; a refusal leaves it as it was.
-pub fn tell(image: &[u8], position: usize, entry: &mut [u8], block: &mut [u8]) -> u32 {
+pub fn tell(layout: u32, image: &[u8], position: usize, entry: &mut [u8], block: &mut [u8]) -> u32 {
     with_block(block, || {
-        let (answer, told) = calls::tell(image, position);
+        let (answer, told) = calls::tell(layout, image, position);
         if answer.number != DONE {
             return answer;
         }
@@ -86,6 +101,6 @@ pub fn tell(image: &[u8], position: usize, entry: &mut [u8], block: &mut [u8]) -
     })
 }
 
-pub fn listing(track18: &[u8], text: &mut [u8], block: &mut [u8]) -> u32 {
-    with_block(block, || sleeve::listing(track18, text))
+pub fn listing(layout: u32, track18: &[u8], text: &mut [u8], block: &mut [u8]) -> u32 {
+    with_block(block, || sleeve::listing(layout, track18, text))
 }

@@ -1,12 +1,12 @@
-//! The sleeve listing (01, Sleeve listing): it looks at track 18 alone, at no
-//! first link, count, chain or map bit.
+//! The sleeve listing (01, Sleeve listing; 02, §8): it looks at track 18 alone,
+//! at no first link, count, chain or map bit.
 
-use crate::answer::{Answer, DONE, NO_ROOM, WRONG_SIZE};
-use crate::check::{check_entry, Names};
+use crate::answer::{Answer, DONE, NO_ROOM, UNKNOWN_LAYOUT, WRONG_SIZE};
+use crate::check::{check_entry, geometry_of, Names};
 use crate::disk::{
     free_off_track_18, is_empty, slot_in, track_18, walk_directory, Directory, Slot, Track18,
 };
-use crate::geometry::{DIRECTORY_TRACK, IMAGE_BYTES, TRACK_18_BYTES, TRACK_18_OFFSET};
+use crate::geometry::{Geometry, DIRECTORY_TRACK, TRACK_18_BYTES, TRACK_18_OFFSET};
 
 /// Room that always suffices: 37 + 144 * 43 + 5.
 pub const LONGEST: usize = 6_234;
@@ -18,15 +18,16 @@ const LAST_LINE: usize = 2 * 2 + 1;
 /// Lists the 4,864 bytes of track 18 into `text`, from its start; the rest of
 /// `text` is left. The answer's length is the text's, and it visits no sector
 /// of a file. A fault has the place that the check gives it: the papers fix
-/// none for this call.
-pub fn listing(track18: &[u8], text: &mut [u8]) -> Answer {
-    match try_listing(track18, text) {
+/// none for this call. The layout says which map entries the last line sums.
+pub fn listing(layout: u32, track18: &[u8], text: &mut [u8]) -> Answer {
+    match try_listing(layout, track18, text) {
         Ok(length) => Answer::done(length as u32, 0),
         Err(refusal) => refusal,
     }
 }
 
-fn try_listing(bytes: &[u8], text: &mut [u8]) -> Result<usize, Answer> {
+fn try_listing(layout: u32, bytes: &[u8], text: &mut [u8]) -> Result<usize, Answer> {
+    let geometry = geometry_of(layout)?;
     let track18 = track_18(bytes).ok_or(Answer::refusal(WRONG_SIZE))?;
     let directory = walk_directory(track18)?;
     let mut names = Names::new();
@@ -39,7 +40,7 @@ fn try_listing(bytes: &[u8], text: &mut [u8]) -> Result<usize, Answer> {
     }
     let length = FIRST_LINE + files * FILE_LINE + LAST_LINE;
     let text = text.get_mut(..length).ok_or(Answer::refusal(NO_ROOM))?;
-    write_lines(track18, &directory, text);
+    write_lines(&geometry, track18, &directory, text);
     Ok(length)
 }
 
@@ -57,7 +58,7 @@ fn occupied<'a>(
 }
 
 /// Writes the whole text; `text` has exactly its length.
-fn write_lines(track18: &Track18, directory: &Directory, text: &mut [u8]) {
+fn write_lines(geometry: &Geometry, track18: &Track18, directory: &Directory, text: &mut [u8]) {
     let map = &track18[0];
     let (first, rest) = text.split_at_mut(FIRST_LINE);
     write_line(first, &[&map[0x90..0xA0], &map[0xA2..0xA4]]);
@@ -66,7 +67,7 @@ fn write_lines(track18: &Track18, directory: &Directory, text: &mut [u8]) {
     for (line, (_, slot)) in lines.zip(occupied(track18, directory)) {
         write_line(line, &[&slot[0x02..0x15], &slot[0x1E..0x20]]);
     }
-    let free = free_off_track_18(map) as u16;
+    let free = free_off_track_18(geometry, map) as u16;
     write_line(last, &[&free.to_be_bytes()]);
 }
 
@@ -83,20 +84,41 @@ fn write_line(line: &mut [u8], parts: &[&[u8]]) {
     }
 }
 
-/// What the listing program prints for an input: the listing, or one line of
-/// two decimal digits.
-pub fn sleeve_output(input: &[u8]) -> Vec<u8> {
+/// The layout that the listing program's first argument names: the one digit
+/// 0, 1 or 2, or 0 if there is none (02, §8). `None` for any other argument.
+pub fn layout_asked(argument: Option<&[u8]>) -> Option<u32> {
+    match argument {
+        None | Some(b"0") => Some(0),
+        Some(b"1") => Some(1),
+        Some(b"2") => Some(2),
+        Some(_) => None,
+    }
+}
+
+/// What the listing program prints for its first argument and an input: the
+/// listing, or one line of two decimal digits.
+pub fn sleeve_output(argument: Option<&[u8]>, input: &[u8]) -> Vec<u8> {
     let mut text = vec![0; LONGEST];
-    let listed = if input.len() == IMAGE_BYTES {
-        let track18 = &input[TRACK_18_OFFSET..TRACK_18_OFFSET + TRACK_18_BYTES];
-        listing(track18, &mut text)
-    } else {
-        Answer::refusal(WRONG_SIZE)
+    let listed = match layout_asked(argument) {
+        Some(layout) => listing_of_image(layout, input, &mut text),
+        None => Answer::refusal(UNKNOWN_LAYOUT),
     };
     if listed.number == DONE {
         text.truncate(listed.length as usize);
         text
     } else {
         format!("{:02}\n", listed.number).into_bytes()
+    }
+}
+
+/// The listing of a whole image, which has its layout's size.
+fn listing_of_image(layout: u32, image: &[u8], text: &mut [u8]) -> Answer {
+    match geometry_of(layout) {
+        Err(refusal) => refusal,
+        Ok(geometry) if image.len() != geometry.image_bytes() => Answer::refusal(WRONG_SIZE),
+        Ok(_) => {
+            let track18 = &image[TRACK_18_OFFSET..TRACK_18_OFFSET + TRACK_18_BYTES];
+            listing(layout, track18, text)
+        }
     }
 }

@@ -33,6 +33,7 @@ pub const STYLES: &[Style] = &[
 /// What the generator believes to be on the disk. It may drift from the truth
 /// (it doesn't foresee a full directory); then more calls are refused.
 struct Guess {
+    layout: u32,
     files: Vec<(Vec<u8>, usize)>,
     free: usize,
 }
@@ -49,11 +50,12 @@ impl Guess {
 
     fn note(&mut self, call: &Call) {
         let sectors = |length: usize| length.div_ceil(254).max(1);
+        let empty = room_of(self.layout);
         let good = |name: &[u8]| matches!(name.len(), 1..=16) && !name.contains(&0xA0);
         match call {
             Call::Format { name, .. } if good(name) => {
                 self.files.clear();
-                self.free = 664;
+                self.free = empty;
             }
             Call::Store {
                 name,
@@ -69,7 +71,7 @@ impl Guess {
             Call::Scratch { name } => {
                 if let Some(length) = self.length_of(name) {
                     self.files.retain(|(known, _)| known != name);
-                    self.free = (self.free + sectors(length)).min(664);
+                    self.free = (self.free + sectors(length)).min(empty);
                 }
             }
             _ => {}
@@ -77,11 +79,27 @@ impl Guess {
     }
 }
 
-/// A list of `count` requests for a start image that is accepted.
-pub fn requests(rng: &mut Rng, start: &[u8], style: Style, count: usize) -> Vec<Request> {
-    let held = contents(start);
+/// The sectors that files may take on a formatted disk, off track 18.
+pub fn room_of(layout: u32) -> usize {
+    match layout {
+        0 => 664,
+        _ => 749,
+    }
+}
+
+/// A list of `count` requests for a start image that is accepted in the layout;
+/// all of them name it.
+pub fn requests(
+    layout: u32,
+    rng: &mut Rng,
+    start: &[u8],
+    style: Style,
+    count: usize,
+) -> Vec<Request> {
+    let held = contents(layout, start);
     let files = held.as_ref().map_or(&[][..], |held| &held.files[..]);
     let mut guess = Guess {
+        layout,
         files: files
             .iter()
             .map(|f| (f.name.clone(), f.bytes.len()))
@@ -91,7 +109,7 @@ pub fn requests(rng: &mut Rng, start: &[u8], style: Style, count: usize) -> Vec<
     (0..count)
         .map(|_| {
             let call = call(rng, style, &guess);
-            let request = arguments::with_block(rng, call);
+            let request = arguments::with_block(layout, rng, call);
             if request.block == 9 {
                 guess.note(&request.call);
             }
@@ -137,7 +155,7 @@ fn store(rng: &mut Rng, style: Style, guess: &Guess, names: &[Vec<u8>]) -> Call 
     let length = match style {
         Style::FillDirectory => rng.below(300),
         Style::FillDisk if rng.one_in(2) => rng.below(254 * 120),
-        _ => arguments::length(rng, guess.free),
+        _ => arguments::length(guess.layout, rng, guess.free),
     };
     Call::Store {
         name,

@@ -8,8 +8,12 @@
 //! list; every sector that one of these calls gave back, and that is free now,
 //! is all zeros; each read answered "done" reported as many sectors as its
 //! file's chain had, never more than 681."
+//!
+//! With layouts it "covers a list whose calls all name one and the same layout,
+//! one in which the start image is accepted", and its bound "is 681 for layout 0
+//! and 766 for the others" (02, §8).
 
-use crate::naive::{contents, spare_bits, Contents, File, Owner};
+use crate::naive::{contents, other_entries, spare_bits, Contents, File, Owner};
 use crate::request::{lent, perform, Call, Library, Reply, Request};
 
 /// Demand 3, first clause.
@@ -33,6 +37,10 @@ pub const LOOKS_ONLY: &str = "demand 2, a call that only looks leaves the image"
 /// they are by every call but format. Format still writes 0."
 pub const SPARE_BITS: &str = "demand 2, spare bits of the map stay, and format writes 0";
 
+/// Demand 2, read with 02, §8: bytes of 18/0 that are a map entry in another
+/// layout alone are other bytes, which only format writes.
+pub const OTHER_ENTRIES: &str = "demand 2, another layout's entries stay, and format writes 0";
+
 /// All that `demand3` verifies.
 pub const CLAUSES: &[&str] = &[
     ACCEPTED,
@@ -43,10 +51,16 @@ pub const CLAUSES: &[&str] = &[
     READ_BYTES,
     LOOKS_ONLY,
     SPARE_BITS,
+    OTHER_ENTRIES,
 ];
 
 /// No file has more sectors: 18/0 is the map's, 18/1 the directory's.
-const MOST_SECTORS: usize = 681;
+fn most_sectors(layout: u32) -> usize {
+    match layout {
+        0 => 681,
+        _ => 766,
+    }
+}
 
 /// A name, a kind and bytes.
 #[derive(Clone, PartialEq, Eq, Debug)]
@@ -127,19 +141,23 @@ impl PlainList {
     }
 }
 
-/// Runs all requests from an accepted start image and verifies every clause of
-/// `CLAUSES`, for the empty list too. It looks after each call, since each
+/// Runs all requests from a start image that is accepted in the layout, which
+/// they all name, and verifies every clause of `CLAUSES`, for the empty list too. It looks after each call, since each
 /// beginning of a list is a list as well. Tell and the listing may stand among
 /// the requests; the plain list takes them for any other call.
 ///
 /// Gives the last image, or the clauses broken, and by which request.
 pub fn demand3(
     library: &dyn Library,
+    layout: u32,
     start: &[u8],
     requests: &[Request],
 ) -> Result<Vec<u8>, String> {
     let mut image = start.to_vec();
-    let mut run = Run::start(start).ok_or("the start image isn't accepted")?;
+    if requests.iter().any(|request| request.layout != layout) {
+        return Err("a request names another layout".to_string());
+    }
+    let mut run = Run::start(layout, start).ok_or("the start image isn't accepted")?;
     for (at, request) in requests.iter().enumerate() {
         let old = image.clone();
         let Some(reply) = perform(library, &mut image, request) else {
@@ -166,8 +184,8 @@ struct Run {
 
 impl Run {
     /// No call yet; `None` if the image isn't accepted.
-    fn start(image: &[u8]) -> Option<Run> {
-        let held = contents(image)?;
+    fn start(layout: u32, image: &[u8]) -> Option<Run> {
+        let held = contents(layout, image)?;
         Some(Run {
             list: PlainList::of(&held),
             given_back: vec![false; held.owners.len()],
@@ -193,8 +211,9 @@ impl Run {
             (REFUSED, refusal_is_clean(request, reply, old == image)),
             (LOOKS_ONLY, writes(&request.call) || old == image),
             (SPARE_BITS, spare_bits_are_right(request, reply, old, image)),
+            (OTHER_ENTRIES, others_are_right(request, reply, old, image)),
         ];
-        let after = contents(image);
+        let after = contents(request.layout, image);
         verdicts.push((ACCEPTED, after.is_some()));
         if let Some(after) = after {
             self.list.feed(&request.call, reply.number);
@@ -249,7 +268,8 @@ fn read_sectors_are_right(request: &Request, reply: &Reply, before: &Contents) -
         [_, _, _, _, _, _, _, low, high] => usize::from(low) + 256 * usize::from(high),
         _ => return false,
     };
-    file.is_some_and(|file| file.chain.len() == reported) && reported <= MOST_SECTORS
+    let most = most_sectors(request.layout);
+    file.is_some_and(|file| file.chain.len() == reported) && reported <= most
 }
 
 fn read_bytes_are_right(request: &Request, reply: &Reply, list: &PlainList) -> bool {
@@ -274,10 +294,18 @@ fn refusal_is_clean(request: &Request, reply: &Reply, same_image: bool) -> bool 
 
 /// A refused format leaves them, like any other call.
 fn spare_bits_are_right(request: &Request, reply: &Reply, old: &[u8], image: &[u8]) -> bool {
-    let after = spare_bits(image);
+    let after = spare_bits(request.layout, image);
     match request.call {
         Call::Format { .. } if reply.number == 0 => !after.contains(&true),
-        _ => after == spare_bits(old),
+        _ => after == spare_bits(request.layout, old),
+    }
+}
+
+fn others_are_right(request: &Request, reply: &Reply, old: &[u8], image: &[u8]) -> bool {
+    let after = other_entries(request.layout, image);
+    match request.call {
+        Call::Format { .. } if reply.number == 0 => after.iter().all(|&byte| byte == 0),
+        _ => after == other_entries(request.layout, old),
     }
 }
 

@@ -1,19 +1,36 @@
 //! Calls as data, so that one list of them can be run on two libraries.
 
-use crate::geometry::{IMAGE_BYTES, TRACK_18_BYTES, TRACK_18_OFFSET};
+use crate::geometry::{IMAGE_BYTES, IMAGE_BYTES_40, TRACK_18_BYTES, TRACK_18_OFFSET};
 use crate::host;
 
 /// A library under test: the five host calls, and if it has them in the same
 /// form, tell and the sleeve listing.
 pub trait Library {
-    fn check(&self, image: &[u8], block: &mut [u8]) -> u32;
-    fn format(&self, image: &mut [u8], name: &[u8], id1: u8, id2: u8, block: &mut [u8]) -> u32;
-    fn read(&self, image: &[u8], name: &[u8], out: &mut [u8], block: &mut [u8]) -> u32;
-    fn store(&self, image: &mut [u8], name: &[u8], kind: u32, data: &[u8], block: &mut [u8])
+    fn check(&self, layout: u32, image: &[u8], block: &mut [u8]) -> u32;
+    fn format(
+        &self,
+        layout: u32,
+        image: &mut [u8],
+        name: &[u8],
+        id1: u8,
+        id2: u8,
+        block: &mut [u8],
+    ) -> u32;
+    fn read(&self, layout: u32, image: &[u8], name: &[u8], out: &mut [u8], block: &mut [u8])
         -> u32;
-    fn scratch(&self, image: &mut [u8], name: &[u8], block: &mut [u8]) -> u32;
+    fn store(
+        &self,
+        layout: u32,
+        image: &mut [u8],
+        name: &[u8],
+        kind: u32,
+        data: &[u8],
+        block: &mut [u8],
+    ) -> u32;
+    fn scratch(&self, layout: u32, image: &mut [u8], name: &[u8], block: &mut [u8]) -> u32;
     fn tell(
         &self,
+        _layout: u32,
         _image: &[u8],
         _position: usize,
         _entry: &mut [u8],
@@ -21,7 +38,13 @@ pub trait Library {
     ) -> Option<u32> {
         None
     }
-    fn listing(&self, _track18: &[u8], _text: &mut [u8], _block: &mut [u8]) -> Option<u32> {
+    fn listing(
+        &self,
+        _layout: u32,
+        _track18: &[u8],
+        _text: &mut [u8],
+        _block: &mut [u8],
+    ) -> Option<u32> {
         None
     }
 }
@@ -30,39 +53,62 @@ pub trait Library {
 pub struct Independent;
 
 impl Library for Independent {
-    fn check(&self, image: &[u8], block: &mut [u8]) -> u32 {
-        host::check(image, block)
+    fn check(&self, layout: u32, image: &[u8], block: &mut [u8]) -> u32 {
+        host::check(layout, image, block)
     }
-    fn format(&self, image: &mut [u8], name: &[u8], id1: u8, id2: u8, block: &mut [u8]) -> u32 {
-        host::format(image, name, id1, id2, block)
+    fn format(
+        &self,
+        layout: u32,
+        image: &mut [u8],
+        name: &[u8],
+        id1: u8,
+        id2: u8,
+        block: &mut [u8],
+    ) -> u32 {
+        host::format(layout, image, name, id1, id2, block)
     }
-    fn read(&self, image: &[u8], name: &[u8], out: &mut [u8], block: &mut [u8]) -> u32 {
-        host::read(image, name, out, block)
+    fn read(
+        &self,
+        layout: u32,
+        image: &[u8],
+        name: &[u8],
+        out: &mut [u8],
+        block: &mut [u8],
+    ) -> u32 {
+        host::read(layout, image, name, out, block)
     }
     fn store(
         &self,
+        layout: u32,
         image: &mut [u8],
         name: &[u8],
         kind: u32,
         data: &[u8],
         block: &mut [u8],
     ) -> u32 {
-        host::store(image, name, kind, data, block)
+        host::store(layout, image, name, kind, data, block)
     }
-    fn scratch(&self, image: &mut [u8], name: &[u8], block: &mut [u8]) -> u32 {
-        host::scratch(image, name, block)
+    fn scratch(&self, layout: u32, image: &mut [u8], name: &[u8], block: &mut [u8]) -> u32 {
+        host::scratch(layout, image, name, block)
     }
     fn tell(
         &self,
+        layout: u32,
         image: &[u8],
         position: usize,
         entry: &mut [u8],
         block: &mut [u8],
     ) -> Option<u32> {
-        Some(host::tell(image, position, entry, block))
+        Some(host::tell(layout, image, position, entry, block))
     }
-    fn listing(&self, track18: &[u8], text: &mut [u8], block: &mut [u8]) -> Option<u32> {
-        Some(host::listing(track18, text, block))
+    fn listing(
+        &self,
+        layout: u32,
+        track18: &[u8],
+        text: &mut [u8],
+        block: &mut [u8],
+    ) -> Option<u32> {
+        Some(host::listing(layout, track18, text, block))
     }
 }
 
@@ -106,14 +152,24 @@ impl Call {
     }
 }
 
-/// A call, and the size of the answer block lent for it.
+/// A call, the layout it names, and the size of the answer block lent for it.
 #[derive(Clone, PartialEq, Eq, Debug)]
 pub struct Request {
+    pub layout: u32,
     pub call: Call,
     pub block: usize,
 }
 
 impl Request {
+    /// A call with a block that is right.
+    pub fn of(layout: u32, call: Call) -> Request {
+        Request {
+            layout,
+            call,
+            block: 9,
+        }
+    }
+
     /// The request in short, for messages: data by its length alone.
     pub fn shown(&self) -> String {
         let call = match &self.call {
@@ -123,7 +179,8 @@ impl Request {
             }
             call => format!("{call:?}"),
         };
-        format!("{call} with a block of {}", self.block)
+        let Request { layout, block, .. } = self;
+        format!("{call} in layout {layout} with a block of {block}")
     }
 }
 
@@ -158,24 +215,24 @@ pub fn perform(library: &dyn Library, image: &mut [u8], request: &Request) -> Op
         out: lent(request.call.room()),
     };
     let (out, block) = (&mut reply.out, &mut reply.block);
+    let layout = request.layout;
     reply.number = match &request.call {
-        Call::Check => library.check(image, block),
-        Call::Format { name, id1, id2 } => library.format(image, name, *id1, *id2, block),
-        Call::Read { name, .. } => library.read(image, name, out, block),
-        Call::Store { name, kind, data } => library.store(image, name, *kind, data, block),
-        Call::Scratch { name } => library.scratch(image, name, block),
-        Call::Tell { position, .. } => library.tell(image, *position, out, block)?,
-        Call::Listing { .. } => library.listing(track_18_of(image), out, block)?,
+        Call::Check => library.check(layout, image, block),
+        Call::Format { name, id1, id2 } => library.format(layout, image, name, *id1, *id2, block),
+        Call::Read { name, .. } => library.read(layout, image, name, out, block),
+        Call::Store { name, kind, data } => library.store(layout, image, name, *kind, data, block),
+        Call::Scratch { name } => library.scratch(layout, image, name, block),
+        Call::Tell { position, .. } => library.tell(layout, image, *position, out, block)?,
+        Call::Listing { .. } => library.listing(layout, track_18_of(image), out, block)?,
     };
     Some(reply)
 }
 
-/// The bytes a listing call is given: track 18 of a whole image; of any
-/// other, the image itself.
+/// The bytes a listing call is given: track 18 of a whole image of either size,
+/// where it is at the same place; of any other, the image itself.
 pub fn track_18_of(image: &[u8]) -> &[u8] {
-    if image.len() == IMAGE_BYTES {
-        &image[TRACK_18_OFFSET..TRACK_18_OFFSET + TRACK_18_BYTES]
-    } else {
-        image
+    match image.len() {
+        IMAGE_BYTES | IMAGE_BYTES_40 => &image[TRACK_18_OFFSET..TRACK_18_OFFSET + TRACK_18_BYTES],
+        _ => image,
     }
 }

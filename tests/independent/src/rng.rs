@@ -1,4 +1,7 @@
-//! A small seeded generator (splitmix64), and the seeds a test runs over.
+//! A small seeded generator (splitmix64), and the seeds and layouts a test runs
+//! over.
+
+use crate::geometry::LAYOUTS;
 
 /// The same seed always gives the same numbers.
 pub struct Rng {
@@ -113,4 +116,25 @@ pub fn for_seeds(what: &'static str, rounds: u64, mut body: impl FnMut(u64, &mut
         });
         body(seed, &mut Rng::new(salt));
     }
+}
+
+/// Prints the layout if the test fails while this is alive.
+struct InLayout(u32);
+
+impl Drop for InLayout {
+    fn drop(&mut self) {
+        if std::thread::panicking() {
+            eprintln!("in layout {}", self.0);
+        }
+    }
+}
+
+/// The same for each layout in turn; a seed has one generator for all three.
+pub fn for_layouts(what: &'static str, rounds: u64, mut body: impl FnMut(u32, u64, &mut Rng)) {
+    for_seeds(what, rounds, |seed, rng| {
+        for layout in LAYOUTS {
+            let _shown = InLayout(layout);
+            body(layout, seed, rng);
+        }
+    });
 }

@@ -2,7 +2,7 @@
 //! it reaches shapes that store never makes. The builder remembers what it
 //! placed where, so that a fault can be planted at a known place.
 
-use crate::naive::{places, position, track_length};
+use crate::naive::{entry_at, last_track, places, position, track_length};
 use crate::rng::Rng;
 use std::collections::HashSet;
 
@@ -23,6 +23,7 @@ pub struct Planned {
 /// A sound image and what is on it. Files stand in slot order.
 #[derive(Clone, Debug)]
 pub struct Plan {
+    pub layout: u32,
     pub image: Vec<u8>,
     pub directory: Vec<u8>,
     pub files: Vec<Planned>,
@@ -52,6 +53,11 @@ pub struct Shape {
     /// Whether files may lie on track 18, and whether they go there first.
     pub on_track_18: bool,
     pub track_18_first: bool,
+    /// Files go to the last five tracks first.
+    pub last_tracks_first: bool,
+    /// Bytes that are a map entry in another layout alone hold what could be a
+    /// right one there. In layouts 1 and 2 the image is accepted in both.
+    pub two_maps: bool,
     /// Junk in every ignored place; else zeros there. The map's spare bits are
     /// left to chance in either case.
     pub junk: bool,
@@ -77,6 +83,8 @@ impl Shape {
             weave: None,
             on_track_18: rng.one_in(3),
             track_18_first: rng.one_in(2),
+            last_tracks_first: false,
+            two_maps: false,
             junk: !rng.one_in(4),
             fill: rng.pick(&[Fill::Small, Fill::Some, Fill::Some, Fill::AllBut(left)]),
             odd_names: rng.one_in(3),
@@ -89,9 +97,9 @@ impl Shape {
 
 /// Builds an image of the shape. Where a shape asks for more files than have
 /// room, it gets fewer.
-pub fn build(rng: &mut Rng, shape: &Shape) -> Plan {
+pub fn build(layout: u32, rng: &mut Rng, shape: &Shape) -> Plan {
     let directory = directory_order(rng, shape);
-    let mut pool = sector_pool(rng, shape, &directory);
+    let mut pool = sector_pool(layout, rng, shape, &directory);
     let mut slots: Vec<usize> = (0..8 * directory.len()).collect();
     rng.shuffle(&mut slots);
     slots.truncate(shape.files.min(pool.len()));
@@ -116,8 +124,9 @@ pub fn build(rng: &mut Rng, shape: &Shape) -> Plan {
         });
     }
     files.sort_by_key(|file| file.slot);
-    let image = lay_out(rng, shape, &directory, &files);
+    let image = lay_out(layout, rng, shape, &directory, &files);
     Plan {
+        layout,
         image,
         directory,
         files,
@@ -135,9 +144,9 @@ fn directory_order(rng: &mut Rng, shape: &Shape) -> Vec<u8> {
 }
 
 /// The sectors that files may take, in the order in which they take them.
-fn sector_pool(rng: &mut Rng, shape: &Shape, directory: &[u8]) -> Vec<(u8, u8)> {
+fn sector_pool(layout: u32, rng: &mut Rng, shape: &Shape, directory: &[u8]) -> Vec<(u8, u8)> {
     let taken = |sector: u8| sector == 0 || directory.contains(&sector);
-    let mut pool: Vec<(u8, u8)> = places()
+    let mut pool: Vec<(u8, u8)> = places(layout)
         .filter(|&(track, sector)| track != 18 || (shape.on_track_18 && !taken(sector)))
         .collect();
     if let Some(weave) = shape.weave {
@@ -149,6 +158,9 @@ fn sector_pool(rng: &mut Rng, shape: &Shape, directory: &[u8]) -> Vec<(u8, u8)> 
     }
     if shape.track_18_first {
         pool.sort_by_key(|&(track, _)| track != 18);
+    }
+    if shape.last_tracks_first {
+        pool.sort_by_key(|&(track, _)| track + 5 <= last_track(layout));
     }
     pool
 }
@@ -262,8 +274,8 @@ pub fn slot_offset(directory: &[u8], slot: usize) -> usize {
 }
 
 /// Where a track's map entry starts in the image.
-pub fn map_offset(track: u8) -> usize {
-    offset(18, 0) + 4 * usize::from(track)
+pub fn map_offset(layout: u32, track: u8) -> usize {
+    offset(18, 0) + entry_at(layout, track)
 }
 
 /// The bits past a track's last sector. They all stand in the last byte of its
@@ -278,8 +290,14 @@ pub fn spare_bit(rng: &mut Rng, track: u8) -> u8 {
 }
 
 /// Writes only what the rules ask for; all other bytes stay junk or zero.
-fn lay_out(rng: &mut Rng, shape: &Shape, directory: &[u8], files: &[Planned]) -> Vec<u8> {
-    let mut image = vec![0; 174_848];
+fn lay_out(
+    layout: u32,
+    rng: &mut Rng,
+    shape: &Shape,
+    directory: &[u8],
+    files: &[Planned],
+) -> Vec<u8> {
+    let mut image = vec![0; 256 * places(layout).count()];
     if shape.junk {
         rng.fill(&mut image);
     }
@@ -291,8 +309,9 @@ fn lay_out(rng: &mut Rng, shape: &Shape, directory: &[u8], files: &[Planned]) ->
     for file in files {
         lay_file(rng, &mut image, directory, file);
     }
-    lay_map(&mut image, directory, files);
-    lay_spare_bits(rng, &mut image);
+    lay_map(layout, &mut image, directory, files);
+    lay_spare_bits(layout, rng, &mut image);
+    lay_other_entries(layout, rng, shape, &mut image);
     image
 }
 
@@ -332,11 +351,11 @@ fn lay_file(rng: &mut Rng, image: &mut [u8], directory: &[u8], file: &Planned) {
     }
 }
 
-fn lay_map(image: &mut [u8], directory: &[u8], files: &[Planned]) {
+fn lay_map(layout: u32, image: &mut [u8], directory: &[u8], files: &[Planned]) {
     let mut used: HashSet<(u8, u8)> = files.iter().flat_map(|f| f.chain.clone()).collect();
     used.insert((18, 0));
     used.extend(directory.iter().map(|&sector| (18, sector)));
-    for track in 1..=35u8 {
+    for track in 1..=last_track(layout) {
         let mut entry = [0u8; 4];
         for sector in 0..track_length(track) {
             if !used.contains(&(track, sector)) {
@@ -344,7 +363,7 @@ fn lay_map(image: &mut [u8], directory: &[u8], files: &[Planned]) {
                 entry[1 + usize::from(sector / 8)] |= 1 << (sector % 8);
             }
         }
-        let at = map_offset(track);
+        let at = map_offset(layout, track);
         image[at..at + 4].copy_from_slice(&entry);
     }
 }
@@ -352,9 +371,10 @@ fn lay_map(image: &mut [u8], directory: &[u8], files: &[Planned]) {
 /// The bits past each track's last sector, which are ignored (02, §5): none of
 /// them, all of them, any of them, or a single one is set, each on a fourth of
 /// the images. They are drawn last: the rest of an image doesn't hang on them.
-fn lay_spare_bits(rng: &mut Rng, image: &mut [u8]) {
-    let (turn, lone) = (rng.below(4), rng.range(1, 35) as u8);
-    for track in 1..=35 {
+fn lay_spare_bits(layout: u32, rng: &mut Rng, image: &mut [u8]) {
+    let last = last_track(layout);
+    let (turn, lone) = (rng.below(4), rng.range(1, usize::from(last)) as u8);
+    for track in 1..=last {
         let bits = match turn {
             0 => 0,
             1 => 0xFF,
@@ -362,6 +382,40 @@ fn lay_spare_bits(rng: &mut Rng, image: &mut [u8]) {
             _ if track == lone => spare_bit(rng, track),
             _ => 0,
         };
-        image[map_offset(track) + 3] |= bits & spare_mask(track);
+        image[map_offset(layout, track) + 3] |= bits & spare_mask(track);
+    }
+}
+
+/// The entry of an empty track of 17 sectors.
+const EMPTY_17: [u8; 4] = [0x11, 0xFF, 0xFF, 0x01];
+
+/// The bytes that are a map entry of tracks 36 to 40 in another layout alone,
+/// and other bytes in this one (02, §8). With 35 tracks they stay as they are,
+/// unless the shape asks for two maps. With 40 they are right in the other
+/// layout too, nearly right, those of a fresh disk, any, or stay.
+fn lay_other_entries(layout: u32, rng: &mut Rng, shape: &Shape, image: &mut [u8]) {
+    if layout == 0 && !shape.two_maps {
+        return;
+    }
+    for other in [1, 2].into_iter().filter(|other| *other != layout) {
+        let turn = if shape.two_maps { 0 } else { rng.below(6) };
+        let lone = rng.range(36, 40) as u8;
+        for track in 36..=40 {
+            let own = match layout {
+                0 => EMPTY_17,
+                _ => std::array::from_fn(|byte| image[map_offset(layout, track) + byte]),
+            };
+            let entry = match turn {
+                0 => own,
+                1 => [own[0], own[1], own[2], own[3] ^ spare_bit(rng, track)],
+                2 if track == lone => [own[0], own[1] ^ 1, own[2], own[3]],
+                2 => own,
+                3 => EMPTY_17,
+                4 => std::array::from_fn(|_| rng.byte()),
+                _ => continue,
+            };
+            let at = map_offset(other, track);
+            image[at..at + 4].copy_from_slice(&entry);
+        }
     }
 }

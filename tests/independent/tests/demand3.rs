@@ -6,6 +6,7 @@ mod model;
 
 use cheats::{demand3_catches, only_the_model_catches, Run};
 use independent::generate::{generate, sound, SOUND};
+use independent::geometry::LAYOUTS;
 use independent::host;
 use independent::lists::{requests, STYLES};
 use independent::naive::{contents, File, Owner};
@@ -13,21 +14,21 @@ use independent::plain::{
     demand3, PlainList, ACCEPTED, GIVEN_BACK, PLAIN_LIST, READ_BYTES, READ_SECTORS, REFUSED,
 };
 use independent::request::{perform, Call, Independent, Library, Request};
-use independent::rng::{for_seeds, Rng};
+use independent::rng::{for_layouts, Rng};
 use independent::sound::slot_offset;
 use std::collections::BTreeMap;
 
 #[test]
 fn demand3_holds_over_lists() {
     let mut done: BTreeMap<String, usize> = BTreeMap::new();
-    for_seeds("demand3_holds_over_lists", 8, |seed, rng| {
+    for_layouts("demand3_holds_over_lists", 8, |layout, seed, rng| {
         for (i, kind) in SOUND.iter().enumerate() {
-            let mut start = sound(kind, rng).unwrap().image;
+            let mut start = sound(layout, kind, rng).unwrap().image;
             // Now and then the DOS version forbids writing.
             start[91_394] = if rng.one_in(8) { rng.byte() } else { 0x41 };
             let style = STYLES[(seed as usize + i) % STYLES.len()];
-            let list = requests(rng, &start, style, 120);
-            if let Err(what) = demand3(&Independent, &start, &list) {
+            let list = requests(layout, rng, &start, style, 120);
+            if let Err(what) = demand3(&Independent, layout, &start, &list) {
                 panic!("{kind}, {style:?}: {what}");
             }
             tally(&start, &list, &mut done);
@@ -39,7 +40,7 @@ fn demand3_holds_over_lists() {
         let wanted = "Format 0, Format 9, Store 0, Store 10, Store 11, Store 12, Store 14, \
                       Store 15, Scratch 0, Scratch 13, Read 0, Read 13, Read 16, Check 0";
         for what in wanted.split(", ") {
-            assert!(done.get(what).is_some_and(|n| *n > 10), "{what}: {done:?}");
+            assert!(done.get(what).is_some_and(|n| *n > 30), "{what}: {done:?}");
         }
     }
 }
@@ -57,11 +58,11 @@ fn tally(start: &[u8], list: &[Request], done: &mut BTreeMap<String, usize>) {
 
 #[test]
 fn long_lists_on_a_nearly_full_disk() {
-    for_seeds("long_lists_on_a_nearly_full_disk", 2, |_, rng| {
-        let start = generate("nearly-full", 3).unwrap().image;
+    for_layouts("long_lists_on_a_nearly_full_disk", 2, |layout, _, rng| {
+        let start = generate(layout, "nearly-full", 3).unwrap().image;
         for &style in STYLES {
-            let list = requests(rng, &start, style, 400);
-            demand3(&Independent, &start, &list).unwrap();
+            let list = requests(layout, rng, &start, style, 400);
+            demand3(&Independent, layout, &start, &list).unwrap();
         }
     });
 }
@@ -69,49 +70,92 @@ fn long_lists_on_a_nearly_full_disk() {
 /// "Demand 3 is one claim about a whole list of calls, the empty one too."
 #[test]
 fn the_empty_list_and_a_bad_start() {
-    let start = generate("scattered", 1).unwrap().image;
-    assert_eq!(demand3(&Independent, &start, &[]), Ok(start.clone()));
-    assert!(demand3(&Independent, &start[1..], &[]).is_err());
-    assert!(demand3(&Independent, &generate("zeros", 0).unwrap().image, &[]).is_err());
+    for layout in LAYOUTS {
+        let start = generate(layout, "scattered", 1).unwrap().image;
+        assert_eq!(
+            demand3(&Independent, layout, &start, &[]),
+            Ok(start.clone())
+        );
+        assert!(demand3(&Independent, layout, &start[1..], &[]).is_err());
+        assert!(demand3(&Independent, 3, &start, &[]).is_err());
+        let zeros = generate(layout, "zeros", 0).unwrap().image;
+        assert!(demand3(&Independent, layout, &zeros, &[]).is_err());
+    }
+}
+
+/// It "covers a list whose calls all name one and the same layout, one in which
+/// the start image is accepted" (02, §8).
+#[test]
+fn a_list_names_one_layout() {
+    let start = generate(1, "two-maps", 1).unwrap().image;
+    let check = |layout| Request::of(layout, Call::Check);
+    for layout in [1, 2] {
+        let list = [check(layout), check(layout)];
+        assert!(demand3(&Independent, layout, &start, &list).is_ok());
+        let list = [check(layout), check(3 - layout)];
+        assert!(demand3(&Independent, layout, &start, &list).is_err());
+        assert!(demand3(&Independent, layout, &start, &[check(3)]).is_err());
+    }
+    for layout in [1, 2] {
+        let mut images = (0..).map(|seed| generate(layout, "last-tracks", seed).unwrap().image);
+        let alone = images
+            .find(|image| check_of(3 - layout, image) == 8)
+            .unwrap();
+        assert!(demand3(&Independent, layout, &alone, &[]).is_ok());
+        assert!(demand3(&Independent, 3 - layout, &alone, &[]).is_err());
+    }
+}
+
+fn check_of(layout: u32, image: &[u8]) -> u32 {
+    host::check(layout, image, &mut [0; 9])
 }
 
 /// "Any other size of that block gives 16 before all else, and nothing is
 /// written": a refusal like any other.
 #[test]
 fn blocks_and_formats_in_a_list() {
-    let start = generate("any", 5).unwrap().image;
-    let format = |block| Request {
-        call: Call::Format {
+    for layout in LAYOUTS {
+        let start = generate(layout, "any", 5).unwrap().image;
+        let call = Call::Format {
             name: b"NEW".to_vec(),
             id1: 1,
             id2: 2,
-        },
-        block,
-    };
-    let last = demand3(&Independent, &start, &[format(8), format(10), format(0)]).unwrap();
-    assert_eq!(last, start);
-    let last = demand3(&Independent, &start, &[format(9)]).unwrap();
-    assert!(PlainList::default().is_held_by(&contents(&last).unwrap()));
+        };
+        let format = |block| Request {
+            layout,
+            call: call.clone(),
+            block,
+        };
+        let refused = [format(8), format(10), format(0)];
+        let last = demand3(&Independent, layout, &start, &refused).unwrap();
+        assert_eq!(last, start);
+        let last = demand3(&Independent, layout, &start, &[format(9)]).unwrap();
+        assert!(PlainList::default().is_held_by(&contents(layout, &last).unwrap()));
+    }
 }
 
-/// The longest chain that a disk can hold is reported whole.
+/// The longest chain that a disk can hold is reported whole: 681 sectors, or
+/// 766 of 40 tracks.
 #[test]
-fn a_read_of_681_sectors() {
-    let long = |image: &Vec<u8>| contents(image).unwrap().files[0].chain.len() == 681;
-    let mut images = (0..1000).map(|seed| generate("huge", seed).unwrap().image);
-    let mut start = images.find(long).unwrap();
-    let file = contents(&start).unwrap().files[0].clone();
-    let read = Request {
-        call: Call::Read {
+fn a_read_of_the_longest_chain() {
+    for (layout, most) in [(0, 681), (1, 766), (2, 766)] {
+        let long = |image: &Vec<u8>| contents(layout, image).unwrap().files[0].chain.len() == most;
+        let mut images = (0..1000).map(|seed| generate(layout, "huge", seed).unwrap().image);
+        let mut start = images.find(long).unwrap();
+        let file = contents(layout, &start).unwrap().files[0].clone();
+        let call = Call::Read {
             name: file.name,
             room: file.bytes.len(),
-        },
-        block: 9,
-    };
-    let list = [read.clone(), read.clone()];
-    assert_eq!(demand3(&Independent, &start, &list), Ok(start.clone()));
-    let reply = perform(&Independent, &mut start, &read).unwrap();
-    assert_eq!((reply.number, reply.sectors()), (0, 681));
+        };
+        let read = Request::of(layout, call);
+        let list = [read.clone(), read.clone()];
+        assert_eq!(
+            demand3(&Independent, layout, &start, &list),
+            Ok(start.clone())
+        );
+        let reply = perform(&Independent, &mut start, &read).unwrap();
+        assert_eq!((reply.number, usize::from(reply.sectors())), (0, most));
+    }
 }
 
 // --- Cheats ---------------------------------------------------------------
@@ -180,6 +224,7 @@ impl Cheating {
     /// A store that may be wrong about the kind.
     fn store_kind(
         &self,
+        layout: u32,
         image: &mut [u8],
         name: &[u8],
         kind: u32,
@@ -187,46 +232,46 @@ impl Cheating {
         block: &mut [u8],
     ) -> u32 {
         match (self.0, kind) {
-            (Cheat::StoresWrongKind, 1) => host::store(image, name, 2, data, block),
-            (Cheat::StoresUsr, 3) => store_usr(image, name, data, block),
-            (Cheat::StoresUsrAndSaysTen, 3) => match store_usr(image, name, data, block) {
+            (Cheat::StoresWrongKind, 1) => host::store(layout, image, name, 2, data, block),
+            (Cheat::StoresUsr, 3) => store_usr(layout, image, name, data, block),
+            (Cheat::StoresUsrAndSaysTen, 3) => match store_usr(layout, image, name, data, block) {
                 0 => 10,
                 number => number,
             },
-            _ => host::store(image, name, kind, data, block),
+            _ => host::store(layout, image, name, kind, data, block),
         }
     }
 }
 
 /// A store of a USR file, as 01 had it before 02, §12.
-fn store_usr(image: &mut [u8], name: &[u8], data: &[u8], block: &mut [u8]) -> u32 {
-    let number = host::store(image, name, 2, data, block);
+fn store_usr(layout: u32, image: &mut [u8], name: &[u8], data: &[u8], block: &mut [u8]) -> u32 {
+    let number = host::store(layout, image, name, 2, data, block);
     if number == 0 {
-        retype(image, name, 0x83);
+        retype(layout, image, name, 0x83);
     }
     number
 }
 
 /// Gives a file of an accepted image another type byte.
-fn retype(image: &mut [u8], name: &[u8], type_byte: u8) {
-    let held = contents(image).unwrap();
+fn retype(layout: u32, image: &mut [u8], name: &[u8], type_byte: u8) {
+    let held = contents(layout, image).unwrap();
     let slot = model::find(&held, name).unwrap().slot;
     image[slot_offset(&held.directory, slot) + 2] = type_byte;
 }
 
 /// The USR files of an image; none if it isn't accepted.
-fn usr_files(image: &[u8]) -> Vec<File> {
-    let files = contents(image).map_or(Vec::new(), |held| held.files);
+fn usr_files(layout: u32, image: &[u8]) -> Vec<File> {
+    let files = contents(layout, image).map_or(Vec::new(), |held| held.files);
     let usr = files.into_iter().filter(|file| file.type_byte & 15 == 3);
     usr.collect()
 }
 
-fn spoil_first_usr_file(cheat: Cheat, image: &mut [u8]) {
-    if let Some(file) = usr_files(image).first() {
+fn spoil_first_usr_file(layout: u32, cheat: Cheat, image: &mut [u8]) {
+    if let Some(file) = usr_files(layout, image).first() {
         if cheat == Cheat::StoreRetypesUsr {
-            retype(image, &file.name, 0x82);
+            retype(layout, image, &file.name, 0x82);
         } else {
-            host::scratch(image, &file.name, &mut [0; 9]);
+            host::scratch(layout, image, &file.name, &mut [0; 9]);
         }
     }
 }
@@ -238,21 +283,36 @@ fn keep_off_track_18(image: &mut [u8], old: &[u8]) {
 }
 
 impl Library for Cheating {
-    fn check(&self, image: &[u8], block: &mut [u8]) -> u32 {
-        host::check(image, block)
+    fn check(&self, layout: u32, image: &[u8], block: &mut [u8]) -> u32 {
+        host::check(layout, image, block)
     }
 
-    fn format(&self, image: &mut [u8], name: &[u8], id1: u8, id2: u8, block: &mut [u8]) -> u32 {
+    fn format(
+        &self,
+        layout: u32,
+        image: &mut [u8],
+        name: &[u8],
+        id1: u8,
+        id2: u8,
+        block: &mut [u8],
+    ) -> u32 {
         let old = image.to_vec();
-        let number = host::format(image, name, id1, id2, block);
+        let number = host::format(layout, image, name, id1, id2, block);
         if self.0 == Cheat::FormatKeepsOldBytes && number == 0 {
             keep_off_track_18(image, &old);
         }
         number
     }
 
-    fn read(&self, image: &[u8], name: &[u8], out: &mut [u8], block: &mut [u8]) -> u32 {
-        let number = host::read(image, name, out, block);
+    fn read(
+        &self,
+        layout: u32,
+        image: &[u8],
+        name: &[u8],
+        out: &mut [u8],
+        block: &mut [u8],
+    ) -> u32 {
+        let number = host::read(layout, image, name, out, block);
         if number != 0 {
             if self.0 == Cheat::RefusedReadWrites && !out.is_empty() {
                 out[0] ^= 1;
@@ -275,6 +335,7 @@ impl Library for Cheating {
 
     fn store(
         &self,
+        layout: u32,
         image: &mut [u8],
         name: &[u8],
         kind: u32,
@@ -286,15 +347,15 @@ impl Library for Cheating {
         if self.0 == Cheat::FillsFirstSectorOnly && data.len() > 254 {
             data[254..].fill(0);
         }
-        let number = self.store_kind(image, name, kind, &data, block);
+        let number = self.store_kind(layout, image, name, kind, &data, block);
         match self.0 {
             Cheat::StoreRetypesUsr | Cheat::StoreDropsUsr if number == 0 => {
-                spoil_first_usr_file(self.0, image);
+                spoil_first_usr_file(layout, self.0, image);
             }
             Cheat::StoresNothing if number == 0 => image.copy_from_slice(&old),
             Cheat::RefusedStoreMarksMap if number == 15 => image[91_396] ^= 1,
             Cheat::DirtiesFreeSector if number == 0 => {
-                let owners = contents(image).unwrap().owners;
+                let owners = contents(layout, image).unwrap().owners;
                 if let Some(free) = owners.iter().position(|owner| *owner == Owner::Nobody) {
                     image[256 * free + 255] ^= 1;
                 }
@@ -304,16 +365,20 @@ impl Library for Cheating {
         number
     }
 
-    fn scratch(&self, image: &mut [u8], name: &[u8], block: &mut [u8]) -> u32 {
+    fn scratch(&self, layout: u32, image: &mut [u8], name: &[u8], block: &mut [u8]) -> u32 {
         let old = image.to_vec();
-        let first = contents(image).and_then(|held| held.files.first().cloned());
-        let usr = usr_files(image).iter().any(|file| file.name == name);
+        let first = contents(layout, image).and_then(|held| held.files.first().cloned());
+        let usr = usr_files(layout, image)
+            .iter()
+            .any(|file| file.name == name);
         if self.0 == Cheat::KeepsUsrFromScratch && usr {
             return 4;
         }
         let number = match (self.0, &first) {
-            (Cheat::ScratchTakesFirstFile, Some(file)) => host::scratch(image, &file.name, block),
-            _ => host::scratch(image, name, block),
+            (Cheat::ScratchTakesFirstFile, Some(file)) => {
+                host::scratch(layout, image, &file.name, block)
+            }
+            _ => host::scratch(layout, image, name, block),
         };
         match self.0 {
             Cheat::LeavesCodes if number == 0 => keep_off_track_18(image, &old),
@@ -327,15 +392,16 @@ impl Library for Cheating {
     }
 }
 
-/// Start images and lists on which the library itself does nothing wrong.
-fn honest_runs() -> Vec<Run> {
+/// Start images and lists on which the library itself does nothing wrong, all
+/// in one layout.
+fn honest_runs(layout: u32) -> Vec<Run> {
     let run = |seed: usize| {
         let kind = ["locked", "edge-ends"][seed % 2];
-        let mut start = generate(kind, 2).unwrap().image;
+        let mut start = generate(layout, kind, 2).unwrap().image;
         start[91_394] = 0x41;
         let rng = &mut Rng::new(seed as u64);
-        let list = requests(rng, &start, STYLES[seed % STYLES.len()], 150);
-        demand3(&Independent, &start, &list).unwrap();
+        let list = requests(layout, rng, &start, STYLES[seed % STYLES.len()], 150);
+        demand3(&Independent, layout, &start, &list).unwrap();
         (start, list)
     };
     (0..10).map(run).collect()
@@ -343,13 +409,17 @@ fn honest_runs() -> Vec<Run> {
 
 #[test]
 fn demand3_catches_cheats() {
-    demand3_catches(&honest_runs(), CHEATS, Cheating);
+    for layout in LAYOUTS {
+        demand3_catches(&honest_runs(layout), CHEATS, Cheating);
+    }
 }
 
 /// What demand 3 lets pass, the comparison of calls catches.
 #[test]
 fn the_model_catches_what_demand3_does_not() {
-    only_the_model_catches(&honest_runs(), NOT_SEEN, Cheating);
+    for layout in LAYOUTS {
+        only_the_model_catches(&honest_runs(layout), NOT_SEEN, Cheating);
+    }
 }
 
 /// "Demand 3 alone would let a store that always refuses pass": so the calls
@@ -358,25 +428,25 @@ fn the_model_catches_what_demand3_does_not() {
 fn demand3_lets_a_refusing_library_pass() {
     struct Refuser;
     impl Library for Refuser {
-        fn check(&self, _: &[u8], _: &mut [u8]) -> u32 {
+        fn check(&self, _: u32, _: &[u8], _: &mut [u8]) -> u32 {
             1
         }
-        fn format(&self, _: &mut [u8], _: &[u8], _: u8, _: u8, _: &mut [u8]) -> u32 {
+        fn format(&self, _: u32, _: &mut [u8], _: &[u8], _: u8, _: u8, _: &mut [u8]) -> u32 {
             1
         }
-        fn read(&self, _: &[u8], _: &[u8], _: &mut [u8], _: &mut [u8]) -> u32 {
+        fn read(&self, _: u32, _: &[u8], _: &[u8], _: &mut [u8], _: &mut [u8]) -> u32 {
             1
         }
-        fn store(&self, _: &mut [u8], _: &[u8], _: u32, _: &[u8], _: &mut [u8]) -> u32 {
+        fn store(&self, _: u32, _: &mut [u8], _: &[u8], _: u32, _: &[u8], _: &mut [u8]) -> u32 {
             1
         }
-        fn scratch(&self, _: &mut [u8], _: &[u8], _: &mut [u8]) -> u32 {
+        fn scratch(&self, _: u32, _: &mut [u8], _: &[u8], _: &mut [u8]) -> u32 {
             1
         }
     }
-    let start = generate("few", 2).unwrap().image;
-    let list = requests(&mut Rng::new(1), &start, STYLES[4], 50);
-    assert_eq!(demand3(&Refuser, &start, &list), Ok(start.clone()));
+    let start = generate(1, "few", 2).unwrap().image;
+    let list = requests(1, &mut Rng::new(1), &start, STYLES[4], 50);
+    assert_eq!(demand3(&Refuser, 1, &start, &list), Ok(start.clone()));
     assert!(list
         .iter()
         .all(|request| model::number(&start, request) != 1));

@@ -10,13 +10,13 @@ use independent::calls::{read, scratch, store, tell, Told};
 use independent::check::check;
 use independent::damage::FAULTS;
 use independent::generate::{generate, ground, kinds, planted};
-use independent::geometry::IMAGE_BYTES;
+use independent::geometry::{IMAGE_BYTES, LAYOUTS};
 use independent::host::block_of;
 use independent::listing::sleeve_output;
-use independent::naive::{accepted, places, track_length, wrong_entry};
+use independent::naive::{accepted, last_track, places, track_length, wrong_entry};
 use independent::request::{lent, perform, Call, Independent, Request};
-use independent::rng::{for_seeds, seeds, Rng};
-use independent::sound::spare_mask;
+use independent::rng::{for_layouts, for_seeds, seeds, Rng};
+use independent::sound::{map_offset, spare_mask};
 use map_cases::{disk, entry, with_entry, BY_HAND, RIGHT, TWO_TRACKS};
 use std::collections::BTreeSet;
 
@@ -28,12 +28,16 @@ fn flip(image: &mut [u8], track: u8, bit: u8) -> bool {
 }
 
 /// The check's answer; the plain test must find the same place.
-fn verdict(image: &[u8]) -> Answer {
-    let answer = check(image);
-    let place = wrong_entry(image).map(|(track, sector)| Answer::fault(8, track, sector, 255));
+fn verdict_in(layout: u32, image: &[u8]) -> Answer {
+    let answer = check(layout, image);
+    let place = wrong_entry(layout, image).map(|(track, sector)| eight(track, sector));
     assert_eq!(place.unwrap_or(Answer::done(0, 0)), answer);
-    assert_eq!(accepted(image), answer.number == 0);
+    assert_eq!(accepted(layout, image), answer.number == 0);
     answer
+}
+
+fn verdict(image: &[u8]) -> Answer {
+    verdict_in(0, image)
 }
 
 fn eight(track: u8, sector: u8) -> Answer {
@@ -91,7 +95,7 @@ fn of_two_tracks_the_lower_is_named() {
 /// sort among them.
 fn disks() -> Vec<Vec<u8>> {
     let generated = ["scattered", "track-18", "full-disk"];
-    let generated = generated.map(|kind| generate(kind, 3).unwrap().image);
+    let generated = generated.map(|kind| generate(0, kind, 3).unwrap().image);
     [disk()].into_iter().chain(generated).collect()
 }
 
@@ -100,7 +104,7 @@ fn disks() -> Vec<Vec<u8>> {
 #[test]
 fn one_wrong_bit_gives_exactly_its_sector() {
     for sound in disks() {
-        for (track, sector) in places() {
+        for (track, sector) in places(0) {
             let mut image = sound.clone();
             let free = flip(&mut image, track, sector);
             assert_eq!(verdict(&image), eight(track, sector));
@@ -123,11 +127,11 @@ fn one_wrong_bit_gives_exactly_its_sector() {
 fn of_two_wrong_bits_the_lower_is_named() {
     let mut pairs = 0;
     for mut image in disks() {
-        for (track, lower) in places() {
+        for (track, lower) in places(0) {
             for higher in lower + 1..track_length(track) {
                 flip(&mut image, track, lower);
                 flip(&mut image, track, higher);
-                assert_eq!(check(&image), eight(track, lower), "{higher}");
+                assert_eq!(check(0, &image), eight(track, lower), "{higher}");
                 flip(&mut image, track, lower);
                 flip(&mut image, track, higher);
                 pairs += 1;
@@ -147,7 +151,7 @@ fn a_wrong_count_alone_gives_255() {
             let right = entry(&mut image, track)[0];
             for count in (0..=255).filter(|count| *count != right) {
                 entry(&mut image, track)[0] = count;
-                assert_eq!(check(&image), eight(track, 255), "{count}");
+                assert_eq!(check(0, &image), eight(track, 255), "{count}");
             }
             entry(&mut image, track)[0] = right;
         }
@@ -182,7 +186,7 @@ fn tell_of(position: usize, room: usize) -> Call {
 /// A host call's number and block. A refusal leaves image and output.
 fn host_answer(image: &[u8], call: Call) -> (u32, Vec<u8>) {
     let mut after = image.to_vec();
-    let request = Request { call, block: 9 };
+    let request = Request::of(0, call);
     let reply = perform(&Independent, &mut after, &request).unwrap();
     if reply.number != 0 {
         assert!(after == image, "{}", request.shown());
@@ -194,11 +198,11 @@ fn host_answer(image: &[u8], call: Call) -> (u32, Vec<u8>) {
 /// All calls that run the check give this answer, in both forms.
 fn every_call_gives(image: &[u8], owed: Answer) {
     let (mut after, mut out) = (image.to_vec(), lent(300));
-    assert_eq!(check(image), owed);
-    assert_eq!(read(image, b"CODE", &mut out), owed);
-    assert_eq!(tell(image, 0), (owed, Told::default()));
-    assert_eq!(store(&mut after, b"NEW", 2, &[7; 300]), owed);
-    assert_eq!(scratch(&mut after, b"CODE"), owed);
+    assert_eq!(check(0, image), owed);
+    assert_eq!(read(0, image, b"CODE", &mut out), owed);
+    assert_eq!(tell(0, image, 0), (owed, Told::default()));
+    assert_eq!(store(0, &mut after, b"NEW", 2, &[7; 300]), owed);
+    assert_eq!(scratch(0, &mut after, b"CODE"), owed);
     assert!(after == image && out == lent(300));
     let owed = (u32::from(owed.number), block_of(&owed).to_vec());
     for call in [
@@ -218,7 +222,7 @@ fn every_call_gives_the_new_place() {
     for &(track, bytes, sector) in BY_HAND {
         every_call_gives(&with_entry(&sound, track, bytes), eight(track, sector));
     }
-    for (track, sector) in places() {
+    for (track, sector) in places(0) {
         let mut image = sound.clone();
         flip(&mut image, track, sector);
         every_call_gives(&image, eight(track, sector));
@@ -264,7 +268,10 @@ fn eight_comes_before_eleven_to_sixteen() {
     version[91_394] = 0x42;
     let mut full = sound.clone();
     for file in 2..144u8 {
-        assert_eq!(store(&mut full, &[file / 16 + 1, file], 1, b"").number, 0);
+        assert_eq!(
+            store(0, &mut full, &[file / 16 + 1, file], 1, b"").number,
+            0
+        );
     }
     beside_a_wrong_bit(&version, store_of(b"NEW", 1, 1), 11);
     beside_a_wrong_bit(&version, scratch_of(b"CODE"), 11);
@@ -295,15 +302,15 @@ fn two_to_seven_come_before_eight() {
     let mut met = BTreeSet::new();
     for_seeds("two_to_seven_come_before_eight", 10, |_, rng| {
         for (at, (name, _)) in FAULTS.iter().enumerate() {
-            let made = planted(rng, at);
+            let made = planted(0, rng, at);
             let (mut image, owed) = (made.image, made.expected.unwrap());
             if owed.number == 8 {
                 continue;
             }
-            let (track, sector) = rng.pick(&places().collect::<Vec<_>>());
+            let (track, sector) = rng.pick(&places(0).collect::<Vec<_>>());
             flip(&mut image, track, sector);
-            assert_eq!(check(&image), owed, "{name}");
-            assert_eq!(wrong_entry(&image), None, "{name}");
+            assert_eq!(check(0, &image), owed, "{name}");
+            assert_eq!(wrong_entry(0, &image), None, "{name}");
             met.insert(owed.number);
         }
     });
@@ -320,11 +327,11 @@ fn the_listing_does_not_change() {
                 821100434F4445A0A0A0A0A0A0A0A0A0A0A0A00200\n\
                 8211044C415354A0A0A0A0A0A0A0A0A0A0A0A00100\n\
                 0295\n";
-    assert_eq!(sleeve_output(&sound), text.as_bytes());
-    for (track, sector) in places() {
+    assert_eq!(sleeve_output(None, &sound), text.as_bytes());
+    for (track, sector) in places(0) {
         let mut image = sound.clone();
         flip(&mut image, track, sector);
-        assert_eq!(sleeve_output(&image), text.as_bytes());
+        assert_eq!(sleeve_output(None, &image), text.as_bytes());
         let (number, block) = host_answer(&image, Call::Listing { room: 128 });
         assert_eq!(
             (number, &block[..]),
@@ -333,7 +340,7 @@ fn the_listing_does_not_change() {
     }
     let image = with_entry(&sound, 1, [0x14, 0xFE, 0xFF, 0x1F]);
     assert_eq!(
-        sleeve_output(&image),
+        sleeve_output(None, &image),
         text.replace("0295", "0294").as_bytes()
     );
 }
@@ -345,32 +352,33 @@ fn the_listing_does_not_change() {
 #[test]
 fn both_tests_name_the_same_place() {
     let (mut sectors, mut counts) = (0, 0);
-    for_seeds("both_tests_name_the_same_place", 30, |seed, rng| {
+    for_layouts("both_tests_name_the_same_place", 30, |layout, seed, rng| {
         for kind in kinds() {
-            let image = generate(&kind, seed).unwrap().image;
-            let answer = check(&image);
+            let image = generate(layout, &kind, seed).unwrap().image;
+            let answer = check(layout, &image);
             let owed = (answer.number == 8).then_some((answer.place.track, answer.place.sector));
-            assert_eq!(wrong_entry(&image), owed, "{kind}");
+            assert_eq!(wrong_entry(layout, &image), owed, "{kind}");
         }
-        let sound = ground(rng).image;
+        let sound = ground(layout, rng).image;
         for _ in 0..50 {
             let mut image = sound.clone();
-            spoil_map(rng, &mut image);
-            let answer = verdict(&image);
+            spoil_map(layout, rng, &mut image);
+            let answer = verdict_in(layout, &image);
             counts += usize::from(answer == eight(answer.place.track, 255));
             sectors += usize::from(answer.number == 8 && answer.place.sector != 255);
         }
     });
     if seeds(30).len() >= 30 {
-        assert!(sectors > 200 && counts > 200, "{sectors}, {counts}");
+        assert!(sectors > 600 && counts > 600, "{sectors}, {counts}");
     }
 }
 
-/// Flips one to four bits of the map's 35 entries, of counts and of bitmaps.
-fn spoil_map(rng: &mut Rng, image: &mut [u8]) {
+/// Flips one to four bits of the map's entries, of counts and of bitmaps.
+fn spoil_map(layout: u32, rng: &mut Rng, image: &mut [u8]) {
+    let last = usize::from(last_track(layout));
     for _ in 0..rng.range(1, 4) {
-        let (track, bit) = (rng.range(1, 35) as u8, 1 << rng.below(8));
-        entry(image, track)[rng.below(4)] ^= bit;
+        let (track, bit) = (rng.range(1, last) as u8, 1 << rng.below(8));
+        image[map_offset(layout, track) + rng.below(4)] ^= bit;
     }
 }
 
@@ -381,21 +389,26 @@ fn planted_faults_name_every_place() {
     let maps: Vec<usize> = (0..FAULTS.len())
         .filter(|at| FAULTS[*at].0.starts_with("8-"))
         .collect();
-    assert_eq!(maps.len(), 21);
-    let (mut sectors, mut tracks) = (BTreeSet::new(), BTreeSet::new());
-    for_seeds("planted_faults_name_every_place", 120, |_, rng| {
+    assert_eq!(maps.len(), 22);
+    let mut places = LAYOUTS.map(|_| (BTreeSet::new(), BTreeSet::new()));
+    for_layouts("planted_faults_name_every_place", 120, |layout, _, rng| {
+        let (sectors, tracks) = &mut places[layout as usize];
         for &at in &maps {
-            let mut made = planted(rng, at);
+            let made = planted(layout, rng, at);
             let place = made.expected.unwrap().place;
             assert_eq!(place.slot, 255);
             tracks.insert((place.track, place.sector == 255));
             if place.sector != 255 {
-                let free = !flip(&mut made.image, place.track, place.sector);
+                let byte = map_offset(layout, place.track) + 1 + usize::from(place.sector / 8);
+                let free = made.image[byte] >> (place.sector % 8) & 1 == 1;
                 sectors.insert((place.sector, free));
             }
         }
     });
     if seeds(120).len() >= 120 {
-        assert_eq!((tracks.len(), sectors.len()), (2 * 35, 2 * 21));
+        for (layout, (sectors, tracks)) in LAYOUTS.into_iter().zip(places) {
+            let all = 2 * usize::from(last_track(layout));
+            assert_eq!((tracks.len(), sectors.len()), (all, 2 * 21));
+        }
     }
 }

@@ -245,7 +245,7 @@ fn bits(entry: &[u8]) -> u32 {
 /// The entries that are wrong against those of a sound image.
 fn wrong_entries(image: &[u8], sound: &[u8]) -> Vec<Seen> {
     let seen = |track: u8| {
-        let at = map_offset(track)..map_offset(track) + 4;
+        let at = map_offset(0, track)..map_offset(0, track) + 4;
         let (is, right) = (&image[at.clone()], &sound[at]);
         let own = (1 << track_length(track)) - 1;
         Seen {
@@ -280,7 +280,7 @@ fn by_planting(rounds: u64) -> Vec<Case> {
     let mut cases = Vec::new();
     for seed in 0..rounds {
         let rng = &mut Rng::new(seed);
-        let plan = ground(rng);
+        let plan = ground(0, rng);
         let planted = FAULTS.iter().filter_map(|(_, planter)| planter(rng, &plan));
         for fault in planted.filter(|fault| fault.rank.0 == 4) {
             let mut image = plan.image.clone();

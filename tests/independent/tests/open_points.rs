@@ -16,7 +16,7 @@ use independent::sound::offset;
 /// A formatted disk.
 fn fresh() -> Vec<u8> {
     let mut image = vec![0xEE; IMAGE_BYTES];
-    assert_eq!(format(&mut image, b"DISK", 1, 2).number, 0);
+    assert_eq!(format(0, &mut image, b"DISK", 1, 2).number, 0);
     image
 }
 
@@ -27,7 +27,7 @@ fn with_files(lengths: &[usize]) -> Vec<u8> {
     for (i, &length) in lengths.iter().enumerate() {
         let name = [b'A' + (i % 26) as u8, b'0' + (i / 26) as u8];
         let data: Vec<u8> = (0..length).map(|at| (at * 3 + i) as u8).collect();
-        assert_eq!(store(&mut image, &name, 1, &data).number, 0);
+        assert_eq!(store(0, &mut image, &name, 1, &data).number, 0);
     }
     image
 }
@@ -39,8 +39,8 @@ fn set(image: &mut [u8], track: u8, sector: u8, at: usize, bytes: &[u8]) {
 
 /// The check's number and place; the naive test must agree.
 fn verdict(image: &[u8]) -> (u8, u8, u8, u8) {
-    let answer = check(image);
-    assert_eq!(answer.number == 0, naive::accepted(image));
+    let answer = check(0, image);
+    assert_eq!(answer.number == 0, naive::accepted(0, image));
     (
         answer.number,
         answer.place.track,
@@ -61,21 +61,27 @@ fn point_01_order_of_argument_refusals() {
     let mut version = sound.clone();
     version[91_394] = 0x50;
     let short = &sound[..IMAGE_BYTES - 1];
-    assert_eq!(read(short, b"", &mut []), Answer::refusal(1));
-    assert_eq!(read(&damaged, b"", &mut []), Answer::refusal(9));
-    assert_eq!(read(&damaged, b"X", &mut []), Answer::fault(2, 18, 1, 255));
-    assert_eq!(store(&mut short.to_vec(), b"", 9, b""), Answer::refusal(1));
-    assert_eq!(store(&mut damaged, b"", 9, b""), Answer::refusal(9));
-    assert_eq!(store(&mut damaged, b"X", 9, b""), Answer::refusal(10));
-    assert_eq!(store(&mut damaged, b"X", 1, b"").number, 2);
-    assert_eq!(store(&mut version, b"A0", 1, b""), Answer::refusal(11));
-    assert_eq!(scratch(&mut version, b"NOT THERE"), Answer::refusal(11));
+    assert_eq!(read(0, short, b"", &mut []), Answer::refusal(1));
+    assert_eq!(read(0, &damaged, b"", &mut []), Answer::refusal(9));
     assert_eq!(
-        store(&mut sound.clone(), b"A0", 1, &vec![0; 200_000]),
+        read(0, &damaged, b"X", &mut []),
+        Answer::fault(2, 18, 1, 255)
+    );
+    assert_eq!(
+        store(0, &mut short.to_vec(), b"", 9, b""),
+        Answer::refusal(1)
+    );
+    assert_eq!(store(0, &mut damaged, b"", 9, b""), Answer::refusal(9));
+    assert_eq!(store(0, &mut damaged, b"X", 9, b""), Answer::refusal(10));
+    assert_eq!(store(0, &mut damaged, b"X", 1, b"").number, 2);
+    assert_eq!(store(0, &mut version, b"A0", 1, b""), Answer::refusal(11));
+    assert_eq!(scratch(0, &mut version, b"NOT THERE"), Answer::refusal(11));
+    assert_eq!(
+        store(0, &mut sound.clone(), b"A0", 1, &vec![0; 200_000]),
         Answer::refusal(12)
     );
-    assert_eq!(read(&sound, b"NOT THERE", &mut []), Answer::refusal(13));
-    assert_eq!(read(&sound, b"A0", &mut [0; 9]), Answer::refusal(16));
+    assert_eq!(read(0, &sound, b"NOT THERE", &mut []), Answer::refusal(13));
+    assert_eq!(read(0, &sound, b"A0", &mut [0; 9]), Answer::refusal(16));
 }
 
 /// "Any other size of that block gives 16 before all else, and nothing is
@@ -86,21 +92,21 @@ fn point_02_only_nine_bytes_are_an_answer_block() {
         let mut image = with_files(&[10]);
         let before = image.clone();
         let (mut block, mut out) = (lent(size), lent(50));
-        assert_eq!(host::check(&image, &mut block), 16);
-        assert_eq!(host::format(&mut image, b"N", 0, 0, &mut block), 16);
-        assert_eq!(host::read(&image, b"A0", &mut out, &mut block), 16);
-        assert_eq!(host::store(&mut image, b"N", 1, b"", &mut block), 16);
-        assert_eq!(host::scratch(&mut image, b"A0", &mut block), 16);
+        assert_eq!(host::check(0, &image, &mut block), 16);
+        assert_eq!(host::format(0, &mut image, b"N", 0, 0, &mut block), 16);
+        assert_eq!(host::read(0, &image, b"A0", &mut out, &mut block), 16);
+        assert_eq!(host::store(0, &mut image, b"N", 1, b"", &mut block), 16);
+        assert_eq!(host::scratch(0, &mut image, b"A0", &mut block), 16);
         // Before all else: also before a wrong size and a wrong name.
-        assert_eq!(host::read(&image[1..], b"", &mut out, &mut block), 16);
+        assert_eq!(host::read(0, &image[1..], b"", &mut out, &mut block), 16);
         assert_eq!((image, block, out), (before, lent(size), lent(50)));
     }
     let mut block = lent(9);
-    assert_eq!(host::check(&[], &mut block), 1);
+    assert_eq!(host::check(0, &[], &mut block), 1);
     assert_eq!(block, [0, 0, 255, 0, 0, 0, 0, 0, 0]);
     let mut image = fresh();
     assert_eq!(
-        host::store(&mut image, b"N", 1, &[1; 70_000], &mut block),
+        host::store(0, &mut image, b"N", 1, &[1; 70_000], &mut block),
         0
     );
     assert_eq!(block, [0, 0, 255, 0x70, 0x11, 0x01, 0x00, 0x14, 0x01]);
@@ -203,7 +209,7 @@ fn point_08_all_type_bytes() {
             0 => assert_eq!(verdict(&image), (8, 17, 0, 255)),
             0x81..=0x83 | 0xC1..=0xC3 => {
                 assert_eq!(verdict(&image).0, 0);
-                assert_eq!(read(&image, b"A0", &mut [0; 10]).length, 10);
+                assert_eq!(read(0, &image, b"A0", &mut [0; 10]).length, 10);
             }
             _ => assert_eq!(verdict(&image), (4, 18, 1, 0), "{byte:02X}"),
         }
@@ -223,7 +229,7 @@ fn point_09_names() {
     let mut full = image.clone();
     set(&mut full, 18, 1, 5, b"SIXTEEN BYTES OK");
     assert_eq!(verdict(&full).0, 0);
-    assert_eq!(read(&full, b"SIXTEEN BYTES OK", &mut [0; 10]).length, 10);
+    assert_eq!(read(0, &full, b"SIXTEEN BYTES OK", &mut [0; 10]).length, 10);
     let mut twice = image.clone();
     set(&mut twice, 18, 1, SLOT + 2, &[0xC3]);
     set(&mut twice, 18, 1, SLOT + 5, b"A0");
@@ -234,17 +240,21 @@ fn point_09_names() {
         b"\0", b"\"", b"*", b"?", b"\xFF", b"\0\0", b"AB", b"ab", b"A*",
     ];
     for (i, name) in names.iter().enumerate() {
-        assert_eq!(store(&mut odd, name, 2, &vec![7; i]).number, 0, "{name:?}");
+        assert_eq!(
+            store(0, &mut odd, name, 2, &vec![7; i]).number,
+            0,
+            "{name:?}"
+        );
     }
     for (i, name) in names.iter().enumerate() {
         assert_eq!(
-            read(&odd, name, &mut [0; 20]).length as usize,
+            read(0, &odd, name, &mut [0; 20]).length as usize,
             i,
             "{name:?}"
         );
     }
-    assert_eq!(read(&odd, b"A?", &mut [0; 20]).number, 13);
-    assert_eq!(read(&odd, b"aB", &mut [0; 20]).number, 13);
+    assert_eq!(read(0, &odd, b"A?", &mut [0; 20]).number, 13);
+    assert_eq!(read(0, &odd, b"aB", &mut [0; 20]).number, 13);
 }
 
 /// "A file of k sectors holds 254(k-1) + n-1 bytes": n may be 1 after a full
@@ -254,7 +264,7 @@ fn point_10_an_empty_last_sector() {
     let mut image = with_files(&[300]);
     set(&mut image, 17, 1, 0, &[0, 1]);
     assert_eq!(verdict(&image).0, 0);
-    let answer = read(&image, b"A0", &mut [0; 254]);
+    let answer = read(0, &image, b"A0", &mut [0; 254]);
     assert_eq!((answer.number, answer.length, answer.sectors), (0, 254, 2));
 }
 
@@ -263,7 +273,10 @@ fn point_10_an_empty_last_sector() {
 fn point_11_the_last_slot_is_143() {
     let mut image = with_files(&[0; 144]);
     assert_eq!(verdict(&image).0, 0);
-    assert_eq!(store(&mut image, b"ONE MORE", 1, b""), Answer::refusal(14));
+    assert_eq!(
+        store(0, &mut image, b"ONE MORE", 1, b""),
+        Answer::refusal(14)
+    );
     set(&mut image, 18, 18, 7 * SLOT + 2, &[0x84]);
     assert_eq!(verdict(&image), (4, 18, 18, 143));
     set(&mut image, 18, 18, 0, &[18, 7]);
@@ -277,14 +290,14 @@ fn point_12_format() {
     let mut image = vec![0x11; IMAGE_BYTES];
     for name in [&b""[..], &[0x41; 17], b"A\xA0B"] {
         let before = image.clone();
-        assert_eq!(format(&mut image, name, 1, 2), Answer::refusal(9));
+        assert_eq!(format(0, &mut image, name, 1, 2), Answer::refusal(9));
         assert_eq!(image, before);
     }
-    assert_eq!(format(&mut image[1..], b"", 1, 2), Answer::refusal(1));
+    assert_eq!(format(0, &mut image[1..], b"", 1, 2), Answer::refusal(1));
     for (id1, id2) in [(0, 0), (0xA0, 0xFF), (0x30, 0x31)] {
         image.fill(id1 ^ 0x5C);
         assert_eq!(
-            format(&mut image, b"1234567890123456", id1, id2),
+            format(0, &mut image, b"1234567890123456", id1, id2),
             Answer::done(0, 0)
         );
         assert_eq!(image[91_392 + 0xA2..91_392 + 0xA4], [id1, id2]);
@@ -297,7 +310,7 @@ fn point_12_format() {
 #[test]
 fn point_13_tell() {
     let mut image = with_files(&[10, 300, 0]);
-    assert_eq!(scratch(&mut image, b"A0").number, 0);
+    assert_eq!(scratch(0, &mut image, b"A0").number, 0);
     set(&mut image, 18, 1, SLOT + 2, &[0xC2]);
     image[91_394] = 0x77;
     let mut name = [0xA0; 16];
@@ -310,11 +323,14 @@ fn point_13_tell() {
         count: 2,
         length: 300,
     };
-    assert_eq!(tell(&image, 0).1, told);
-    assert_eq!((tell(&image, 1).0.number, tell(&image, 1).1.length), (0, 0));
+    assert_eq!(tell(0, &image, 0).1, told);
+    assert_eq!(
+        (tell(0, &image, 1).0.number, tell(0, &image, 1).1.length),
+        (0, 0)
+    );
     for position in [2, 3, 144, usize::MAX] {
         assert_eq!(
-            tell(&image, position),
+            tell(0, &image, position),
             (Answer::refusal(13), Told::default())
         );
     }
@@ -325,9 +341,9 @@ fn point_13_tell() {
 #[test]
 fn point_14_empty_files_and_short_buffers() {
     let image = with_files(&[0, 300]);
-    assert_eq!(read(&image, b"A0", &mut []), Answer::done(0, 1));
+    assert_eq!(read(0, &image, b"A0", &mut []), Answer::done(0, 1));
     let mut out = lent(299);
-    assert_eq!(read(&image, b"B0", &mut out), Answer::refusal(16));
+    assert_eq!(read(0, &image, b"B0", &mut out), Answer::refusal(16));
     assert_eq!(out, lent(299));
 }
 
@@ -339,16 +355,22 @@ fn point_15_room() {
     let mut lengths = [0; 144];
     lengths[0] = 254 * (664 - 143);
     let mut image = with_files(&lengths);
-    assert_eq!(store(&mut image, b"X", 1, b""), Answer::refusal(14));
+    assert_eq!(store(0, &mut image, b"X", 1, b""), Answer::refusal(14));
     // A full directory sector can still grow when the disk has no more room
     // than the file needs: the two draw on different tracks.
     let mut lengths = [0; 8];
     lengths[0] = 254 * (664 - 9);
     let mut image = with_files(&lengths);
-    assert_eq!(store(&mut image, b"X", 1, &[1; 509]), Answer::refusal(15));
-    assert_eq!(store(&mut image, b"X", 1, &[1; 508]), Answer::done(508, 2));
     assert_eq!(
-        store(&mut image, b"Y", 1, &vec![1; 1 << 24]),
+        store(0, &mut image, b"X", 1, &[1; 509]),
+        Answer::refusal(15)
+    );
+    assert_eq!(
+        store(0, &mut image, b"X", 1, &[1; 508]),
+        Answer::done(508, 2)
+    );
+    assert_eq!(
+        store(0, &mut image, b"Y", 1, &vec![1; 1 << 24]),
         Answer::refusal(15)
     );
 }
@@ -377,7 +399,8 @@ fn point_16_the_directory_grows_past_a_file() {
             &junk[2 * slot - 2..2 * slot],
         );
     }
-    assert_eq!(store(&mut image, b"NEW", 2, &[9; 10]), Answer::done(10, 1));
+    let done = store(0, &mut image, b"NEW", 2, &[9; 10]);
+    assert_eq!(done, Answer::done(10, 1));
     assert_eq!(verdict(&image).0, 0);
     let old = &image[offset(18, 1)..offset(18, 2)];
     assert_eq!(old[..2], [18, 3]);
@@ -403,7 +426,7 @@ fn point_17_locked_files_are_scratched() {
     let mut image = with_files(&[300]);
     set(&mut image, 18, 1, 2, &[0xC1]);
     set(&mut image, 18, 1, 0x15, &[0x55; 9]);
-    assert_eq!(scratch(&mut image, b"A0"), Answer::done(300, 2));
+    assert_eq!(scratch(0, &mut image, b"A0"), Answer::done(300, 2));
     assert_eq!(image, fresh());
 }
 
@@ -414,10 +437,10 @@ fn point_18_nothing_else_is_refused() {
     set(&mut image, 18, 0, 0, &[0xFF, 0xFF, 0x99, 0x99]);
     set(&mut image, 18, 0, 0x90, &[0x00; 0x70]);
     assert_eq!(verdict(&image).0, 0);
-    assert_eq!(read(&image, b"A0", &mut [0; 300]).number, 0);
+    assert_eq!(read(0, &image, b"A0", &mut [0; 300]).number, 0);
     image[91_394] = 0x00;
-    assert_eq!(store(&mut image, b"A1", 2, b"").number, 0);
-    assert_eq!(scratch(&mut image, b"A0").number, 0);
+    assert_eq!(store(0, &mut image, b"A1", 2, b"").number, 0);
+    assert_eq!(scratch(0, &mut image, b"A0").number, 0);
 }
 
 /// "Kind asked for is not 1 or 2", as 02, §12 has it: a number that ends in
@@ -440,11 +463,11 @@ fn point_19_the_kind_is_not_cut() {
     ];
     let mut image = fresh();
     for &kind in REFUSED {
-        assert_eq!(store(&mut image, b"A", kind, b""), Answer::refusal(10));
+        assert_eq!(store(0, &mut image, b"A", kind, b""), Answer::refusal(10));
     }
     assert_eq!(image, fresh());
     for kind in 1..=2 {
-        assert_eq!(store(&mut image, &[kind as u8], kind, b"").number, 0);
+        assert_eq!(store(0, &mut image, &[kind as u8], kind, b"").number, 0);
     }
 }
 
@@ -453,29 +476,29 @@ fn point_19_the_kind_is_not_cut() {
 #[test]
 fn point_21_what_the_listing_looks_at() {
     let mut image = with_files(&[300, 300]);
-    let text = sleeve_output(&image);
+    let text = sleeve_output(None, &image);
     // Chains and map bits: the check refuses, the listing doesn't see it.
     set(&mut image, 17, 0, 0, &[99, 99]);
     set(&mut image, 18, 0, 5, &[0, 0, 0]);
-    assert_eq!(sleeve_output(&image), text);
+    assert_eq!(sleeve_output(None, &image), text);
     // First link and count are printed as they stand.
     set(&mut image, 18, 1, 3, &[0, 0]);
     set(&mut image, 18, 1, 0x1E, &[0xFF, 0x12]);
-    let shown = String::from_utf8(sleeve_output(&image)).unwrap();
+    let shown = String::from_utf8(sleeve_output(None, &image)).unwrap();
     assert!(shown.contains("\n8100004130A0"), "{shown}");
     assert!(shown.contains("A0FF12\n"), "{shown}");
     // The check stops at slot 0; the listing refuses slot 1.
     set(&mut image, 18, 1, SLOT + 2, &[0x84]);
     assert_eq!(verdict(&image), (2, 18, 1, 0));
-    assert_eq!(sleeve_output(&image), b"04\n");
+    assert_eq!(sleeve_output(None, &image), b"04\n");
     set(&mut image, 18, 1, SLOT + 2, &[0x81, 17, 2, b'A', b'0']);
-    assert_eq!(sleeve_output(&image), b"06\n");
+    assert_eq!(sleeve_output(None, &image), b"06\n");
     set(&mut image, 18, 1, SLOT + 5, &[0xA0]);
-    assert_eq!(sleeve_output(&image), b"05\n");
+    assert_eq!(sleeve_output(None, &image), b"05\n");
     set(&mut image, 18, 1, 0, &[18, 1]);
-    assert_eq!(sleeve_output(&image), b"03\n");
+    assert_eq!(sleeve_output(None, &image), b"03\n");
     set(&mut image, 18, 1, 0, &[18, 0]);
-    assert_eq!(sleeve_output(&image), b"02\n");
+    assert_eq!(sleeve_output(None, &image), b"02\n");
 }
 
 /// "The sum of the map's count bytes except track 18, two bytes, high first",
@@ -486,7 +509,7 @@ fn point_22_the_sum_is_plain() {
     for track in 1..=35 {
         set(&mut image, 18, 0, 4 * track, &[255]);
     }
-    let text = String::from_utf8(sleeve_output(&image)).unwrap();
+    let text = String::from_utf8(sleeve_output(None, &image)).unwrap();
     // 34 times 255 is 8,670.
     assert_eq!(text.lines().last(), Some("21DE"));
 }
@@ -497,15 +520,15 @@ fn point_23_a_short_text_buffer_comes_last() {
     let mut image = with_files(&[1; 144]);
     let track18 = offset(18, 0)..offset(18, 0) + 4_864;
     let mut text = lent(LONGEST - 1);
-    let listed = listing(&image[track18.clone()], &mut text);
+    let listed = listing(0, &image[track18.clone()], &mut text);
     assert_eq!(listed, Answer::refusal(16));
     assert_eq!(text, lent(LONGEST - 1));
     let mut text = lent(LONGEST + 1);
-    let listed = listing(&image[track18.clone()], &mut text);
+    let listed = listing(0, &image[track18.clone()], &mut text);
     assert_eq!(listed, Answer::done(LONGEST as u32, 0));
     assert_eq!(text[LONGEST..], lent(LONGEST + 1)[LONGEST..]);
     set(&mut image, 18, 18, 7 * SLOT + 2, &[0x84]);
     let fault = Answer::fault(4, 18, 18, 143);
-    assert_eq!(listing(&image[track18], &mut []), fault);
-    assert_eq!(listing(&image[..4_863], &mut []), Answer::refusal(1));
+    assert_eq!(listing(0, &image[track18], &mut []), fault);
+    assert_eq!(listing(0, &image[..4_863], &mut []), Answer::refusal(1));
 }

@@ -1,19 +1,16 @@
 //! Bits past a track's last sector (02, §5): "to be ignored by check, not
 //! counted, and left as they are by every call but format. Format still writes
-//! 0." Here they are called spare. Libraries that get them wrong, and are
-//! found, are in tests/spare_cheats.rs.
+//! 0." Here they are called spare. Generated images are in tests/spare_images.rs;
+//! libraries that get them wrong, and are found, in tests/spare_cheats.rs.
 
 use independent::answer::Answer;
-use independent::arguments;
 use independent::calls::{format, scratch, store};
 use independent::check::check;
-use independent::generate::{generate, kinds, sound, SOUND};
+use independent::generate::generate;
 use independent::geometry::IMAGE_BYTES;
-use independent::naive::{accepted, contents, spare_bits};
-use independent::request::{perform, Call, Independent};
-use independent::rng::{for_seeds, Rng};
+use independent::naive::{accepted, contents};
+use independent::rng::Rng;
 use independent::sound::fresh_name;
-use std::collections::BTreeMap;
 use std::rc::Rc;
 
 /// A track at each end of each zone, its sectors, and its spare bits, which
@@ -54,7 +51,7 @@ fn with_spare(image: &[u8], mut byte: impl FnMut(u8) -> u8) -> Vec<u8> {
 /// A formatted disk.
 fn fresh() -> Vec<u8> {
     let mut image = vec![0xEE; IMAGE_BYTES];
-    assert_eq!(format(&mut image, b"DISK", 1, 2).number, 0);
+    assert_eq!(format(0, &mut image, b"DISK", 1, 2).number, 0);
     image
 }
 
@@ -65,7 +62,7 @@ fn half_used() -> Vec<u8> {
         let mut counts = ROWS.map(|row| entry(image, row.0)[0]).into_iter();
         counts.all(|count| (1..16).contains(&count))
     };
-    let mut images = (0..).map(|seed| generate("scattered", seed).unwrap().image);
+    let mut images = (0..).map(|seed| generate(0, "scattered", seed).unwrap().image);
     let image = images.find_map(|mut image| both(&mut image).then_some(image));
     with_spare(&image.unwrap(), |_| 0)
 }
@@ -200,9 +197,9 @@ fn wrong_bit_cases() -> Vec<Case> {
 fn assert_owed(cases: Vec<Case>) {
     for case in cases {
         let image = case.image();
-        assert_eq!(check(&case.sound), Answer::done(0, 0), "{}", case.what);
-        assert_eq!(check(&image), case.owed, "{}", case.what);
-        assert_eq!(accepted(&image), case.owed.number == 0, "{}", case.what);
+        assert_eq!(check(0, &case.sound), Answer::done(0, 0), "{}", case.what);
+        assert_eq!(check(0, &image), case.owed, "{}", case.what);
+        assert_eq!(accepted(0, &image), case.owed.number == 0, "{}", case.what);
     }
 }
 
@@ -213,7 +210,7 @@ fn set_with_a_right_count_they_are_accepted() {
     for image in [fresh(), half_used()] {
         for byte in [0xFF, 0xAA, 0x55, 0x80] {
             let image = with_spare(&image, |_| byte);
-            assert_eq!(check(&image), Answer::done(0, 0), "{byte:02X}");
+            assert_eq!(check(0, &image), Answer::done(0, 0), "{byte:02X}");
         }
     }
 }
@@ -235,36 +232,12 @@ fn the_entry_of_document_000() {
     let mut image = fresh();
     assert_eq!(*entry(&mut image, 1), [0x15, 0xFF, 0xFF, 0x1F]);
     *entry(&mut image, 1) = [0x15, 0xFF, 0xFF, 0xFF];
-    assert_eq!(check(&image), Answer::done(0, 0));
+    assert_eq!(check(0, &image), Answer::done(0, 0));
     *entry(&mut image, 2) = [0x15, 0xFF, 0xFF, 0xFF];
-    assert_eq!(check(&image), Answer::done(0, 0));
-    assert!(accepted(&image));
+    assert_eq!(check(0, &image), Answer::done(0, 0));
+    assert!(accepted(0, &image));
     *entry(&mut image, 2) = [0x18, 0xFF, 0xFF, 0xFF];
-    assert_eq!(check(&image), Answer::fault(8, 2, 255, 255));
-}
-
-/// On all bytes, damaged images among them, the answer and the place are those
-/// of the same image with other spare bits. So what was accepted before, with
-/// zeros there, is accepted still.
-#[test]
-fn no_answer_of_the_check_hangs_on_them() {
-    let mut refused = 0;
-    for_seeds("no_answer_of_the_check_hangs_on_them", 30, |seed, rng| {
-        for kind in kinds() {
-            let image = generate(&kind, seed).unwrap().image;
-            if image.len() != IMAGE_BYTES {
-                continue;
-            }
-            let owed = check(&with_spare(&image, |_| 0));
-            refused += usize::from(owed.number != 0);
-            assert_eq!(check(&image), owed, "{kind}");
-            assert_eq!(check(&with_spare(&image, |_| 0xFF)), owed, "{kind}");
-            let image = with_spare(&image, |_| rng.byte());
-            assert_eq!(check(&image), owed, "{kind}");
-            assert_eq!(accepted(&image), owed.number == 0, "{kind}");
-        }
-    });
-    assert!(refused > 0);
+    assert_eq!(check(0, &image), Answer::fault(8, 2, 255, 255));
 }
 
 // --- The calls ------------------------------------------------------------
@@ -274,13 +247,13 @@ fn no_answer_of_the_check_hangs_on_them() {
 fn a_store_and_a_scratch_change_no_other_bit() {
     let start = with_spare(&fresh(), |_| 0xFF);
     let mut image = start.clone();
-    assert_eq!(store(&mut image, b"CODE", 2, &[7; 300]).number, 0);
+    assert_eq!(store(0, &mut image, b"CODE", 2, &[7; 300]).number, 0);
     assert_eq!(*entry(&mut image, 17), [0x13, 0xFC, 0xFF, 0xFF]);
     let mut plain = fresh();
-    assert_eq!(store(&mut plain, b"CODE", 2, &[7; 300]).number, 0);
+    assert_eq!(store(0, &mut plain, b"CODE", 2, &[7; 300]).number, 0);
     assert_eq!(*entry(&mut plain, 17), [0x13, 0xFC, 0xFF, 0x1F]);
     assert!(image == with_spare(&plain, |_| 0xFF));
-    assert_eq!(scratch(&mut image, b"CODE"), Answer::done(300, 2));
+    assert_eq!(scratch(0, &mut image, b"CODE"), Answer::done(300, 2));
     assert_eq!(*entry(&mut image, 17), [0x15, 0xFF, 0xFF, 0xFF]);
     assert!(image == start);
 }
@@ -291,17 +264,17 @@ fn the_largest_file_takes_none_of_them() {
     let start = with_spare(&fresh(), |_| 0xFF);
     let mut image = start.clone();
     let data: Vec<u8> = (0..168_657u32).map(|at| (at % 251) as u8).collect();
-    assert_eq!(store(&mut image, b"BIG", 1, &data), Answer::refusal(15));
+    assert_eq!(store(0, &mut image, b"BIG", 1, &data), Answer::refusal(15));
     assert!(image == start);
     let done = Answer::done(168_656, 664);
-    assert_eq!(store(&mut image, b"BIG", 1, &data[1..]), done);
+    assert_eq!(store(0, &mut image, b"BIG", 1, &data[1..]), done);
     for track in (1..=35).filter(|track| *track != 18) {
         assert_eq!(*entry(&mut image, track), [0, 0, 0, mask(track)], "{track}");
     }
     assert_eq!(*entry(&mut image, 18), [0x11, 0xFC, 0xFF, 0xFF]);
-    assert_eq!(check(&image).number, 0);
-    assert_eq!(store(&mut image, b"MORE", 1, b""), Answer::refusal(15));
-    assert_eq!(scratch(&mut image, b"BIG"), done);
+    assert_eq!(check(0, &image).number, 0);
+    assert_eq!(store(0, &mut image, b"MORE", 1, b""), Answer::refusal(15));
+    assert_eq!(scratch(0, &mut image, b"BIG"), done);
     assert!(image == start);
 }
 
@@ -309,7 +282,7 @@ fn the_largest_file_takes_none_of_them() {
 fn nearly_full(left: usize) -> Vec<u8> {
     let mut image = with_spare(&fresh(), |_| 0xFF);
     let length = 254 * (664 - left);
-    assert_eq!(store(&mut image, b"FILL", 2, &vec![9; length]).number, 0);
+    assert_eq!(store(0, &mut image, b"FILL", 2, &vec![9; length]).number, 0);
     image
 }
 
@@ -319,15 +292,15 @@ fn the_last_free_sectors_are_counted_exactly() {
         let start = nearly_full(left);
         let mut image = start.clone();
         let data = vec![3; 254 * left + 1];
-        assert_eq!(store(&mut image, b"NEW", 1, &data), Answer::refusal(15));
+        assert_eq!(store(0, &mut image, b"NEW", 1, &data), Answer::refusal(15));
         assert!(image == start, "{left}");
         if left == 0 {
             continue;
         }
         let done = Answer::done(254 * left as u32, left as u16);
-        assert_eq!(store(&mut image, b"NEW", 1, &data[1..]), done);
+        assert_eq!(store(0, &mut image, b"NEW", 1, &data[1..]), done);
         assert_eq!(*entry(&mut image, 35), [0, 0, 0, 0b1111_1110], "{left}");
-        assert_eq!(check(&image).number, 0, "{left}");
+        assert_eq!(check(0, &image).number, 0, "{left}");
     }
 }
 
@@ -342,11 +315,14 @@ fn the_directory_takes_none_of_them() {
             137 => assert_eq!(*entry(&mut image, 18), [0, 0, 0, 0b1111_1000]),
             _ => {}
         }
-        assert_eq!(store(&mut image, &[file / 16 + 1, file], 1, b"X").number, 0);
+        assert_eq!(
+            store(0, &mut image, &[file / 16 + 1, file], 1, b"X").number,
+            0
+        );
     }
-    assert_eq!(check(&image).number, 0);
+    assert_eq!(check(0, &image).number, 0);
     let full = image.clone();
-    assert_eq!(store(&mut image, b"MORE", 1, b"X"), Answer::refusal(14));
+    assert_eq!(store(0, &mut image, b"MORE", 1, b"X"), Answer::refusal(14));
     assert!(image == full);
 }
 
@@ -354,11 +330,11 @@ fn the_directory_takes_none_of_them() {
 #[test]
 fn a_file_on_track_18_leaves_none_of_them() {
     for seed in 0..20 {
-        let mut image = generate("crammed", seed).unwrap().image;
+        let mut image = generate(0, "crammed", seed).unwrap().image;
         image[91_394] = 0x41;
         let mut image = with_spare(&image, |_| 0xFF);
         assert_eq!(*entry(&mut image, 18), [0, 0, 0, 0b1111_1000], "{seed}");
-        let names: Vec<Vec<u8>> = contents(&image)
+        let names: Vec<Vec<u8>> = contents(0, &image)
             .unwrap()
             .files
             .into_iter()
@@ -366,7 +342,7 @@ fn a_file_on_track_18_leaves_none_of_them() {
             .collect();
         let name = fresh_name(&mut Rng::new(seed), false, &names);
         assert_eq!(
-            store(&mut image, &name, 1, b""),
+            store(0, &mut image, &name, 1, b""),
             Answer::refusal(14),
             "{seed}"
         );
@@ -383,7 +359,7 @@ fn format_writes_0_over_them() {
         half_used(),
     ] {
         let mut image = with_spare(&start, |_| 0xFF);
-        assert_eq!(format(&mut image, b"DISK", 1, 2), Answer::done(0, 0));
+        assert_eq!(format(0, &mut image, b"DISK", 1, 2), Answer::done(0, 0));
         assert!(image == plain);
     }
     for (track, sectors, spare) in ROWS.into_iter().filter(|row| row.0 != 18) {
@@ -391,129 +367,6 @@ fn format_writes_0_over_them() {
         assert_eq!(*entry(&mut plain.clone(), track), free, "{track}");
     }
     assert_eq!(*entry(&mut plain.clone(), 18), [0x11, 0xFC, 0xFF, 0x07]);
-}
-
-/// Every call on every kind of image, with two sets of spare bits: it answers
-/// alike, writes the same to the output, and leaves the same image but for
-/// them. They stay, or are 0 after a format.
-#[test]
-fn every_call_does_the_same_whatever_they_are() {
-    let mut done = BTreeMap::new();
-    for_seeds(
-        "every_call_does_the_same_whatever_they_are",
-        25,
-        |seed, rng| {
-            for kind in kinds() {
-                let image = generate(&kind, seed).unwrap().image;
-                if image.len() != IMAGE_BYTES {
-                    continue;
-                }
-                for _ in 0..3 {
-                    let word = same_on_other(rng, &image, &kind);
-                    *done.entry(word).or_insert(0) += 1;
-                }
-            }
-        },
-    );
-    if independent::rng::seeds(25).len() >= 25 {
-        let wanted = [
-            "Format", "Store", "Scratch", "Read", "Listing", "Tell", "Check",
-        ];
-        let few = wanted
-            .iter()
-            .any(|word| done.get(*word).copied() < Some(30));
-        assert!(!few, "{done:?}");
-    }
-}
-
-/// One call on two images. Gives its word if it was done.
-fn same_on_other(rng: &mut Rng, image: &[u8], kind: &str) -> String {
-    let request = arguments::request(rng, contents(image).as_ref());
-    let shown = format!("{kind}: {}", request.shown());
-    let other = with_spare(image, |_| rng.byte());
-    let (mut after, mut other_after) = (image.to_vec(), other.clone());
-    let reply = perform(&Independent, &mut after, &request).unwrap();
-    let other_reply = perform(&Independent, &mut other_after, &request).unwrap();
-    assert!(reply == other_reply, "{shown}");
-    let bare = with_spare(&other_after, |_| 0);
-    assert!(with_spare(&after, |_| 0) == bare, "{shown}");
-    let formatted = matches!(request.call, Call::Format { .. }) && reply.number == 0;
-    for (old, new) in [(image, &after), (&other, &other_after)] {
-        let owed = match formatted {
-            true => vec![false; 157],
-            false => spare_bits(old),
-        };
-        assert_eq!(spare_bits(new), owed, "{shown}");
-    }
-    let word = request.shown().split(' ').next().unwrap().to_string();
-    match reply.number {
-        0 => word,
-        _ => String::new(),
-    }
-}
-
-/// The entries are as before, bit by bit; that of track 18 only if the
-/// directory didn't grow.
-#[test]
-fn store_then_scratch_restores_every_entry() {
-    let mut restored = 0;
-    for_seeds("store_then_scratch_restores_every_entry", 20, |_, rng| {
-        for kind in SOUND {
-            let mut image = sound(kind, rng).unwrap().image;
-            image[91_394] = 0x41;
-            let held = contents(&image).unwrap();
-            let names: Vec<Vec<u8>> = held.files.iter().map(|f| f.name.clone()).collect();
-            let name = fresh_name(rng, true, &names);
-            let data = arguments::data(rng, held.free_off_track_18());
-            let before = image[91_396..91_536].to_vec();
-            if store(&mut image, &name, 2, &data).number != 0 {
-                continue;
-            }
-            assert_eq!(scratch(&mut image, &name).number, 0, "{kind}");
-            let grown = contents(&image).unwrap().directory != held.directory;
-            let after = image[91_396..91_536].to_vec();
-            assert_eq!(before[..68], after[..68], "{kind}");
-            assert!(grown || before[68..72] == after[68..72], "{kind}");
-            assert_eq!(before[72..], after[72..], "{kind}");
-            restored += usize::from(spare_bits(&image).contains(&true));
-        }
-    });
-    if independent::rng::seeds(20).len() >= 20 {
-        assert!(restored > 50, "{restored}");
-    }
-}
-
-// --- The generator --------------------------------------------------------
-
-/// Each kind of sound image has none of them set, all, one, and some, often
-/// enough to be noticed; one set alone is found on every zone.
-#[test]
-fn generated_images_have_them_in_every_way() {
-    let mut lone = BTreeMap::new();
-    for kind in SOUND {
-        let mut ways = [0; 4];
-        for seed in 0..60 {
-            let image = generate(kind, seed).unwrap().image;
-            let bits = spare_bits(&image);
-            assert_eq!(bits.len(), 157);
-            let ones = bits.iter().filter(|bit| **bit).count();
-            ways[match ones {
-                0 => 0,
-                157 => 1,
-                1 => 2,
-                _ => 3,
-            }] += 1;
-            let at = bits.iter().position(|bit| *bit).unwrap_or(0);
-            if ones == 1 {
-                *lone.entry([51, 86, 122].map(|end| at < end)).or_insert(0) += 1;
-            }
-        }
-        assert!(ways.iter().all(|times| *times >= 5), "{kind}: {ways:?}");
-    }
-    assert!(
-        lone.len() == 4 && lone.values().all(|times| *times >= 10),
-        "{lone:?}"
-    );
 }
 
 // --- Wrong checks ---------------------------------------------------------
@@ -580,7 +433,7 @@ fn seen(case: &Case, sight: Sight) -> Answer {
         let (is, right) = (*entry(&mut image, track), *entry(&mut sound, track));
         *entry(&mut image, track) = sight(track, is, right);
     }
-    check(&image)
+    check(0, &image)
 }
 
 #[test]

@@ -70,14 +70,14 @@ const NOT_SEEN: &[(Cheat, u32, u32)] = &[
 /// Gives each track's spare bits the value of a byte's.
 fn put_spare(image: &mut [u8], mut byte: impl FnMut(u8) -> u8) {
     for track in 1..=35 {
-        let (last, mask) = (&mut image[map_offset(track) + 3], spare_mask(track));
+        let (last, mask) = (&mut image[map_offset(0, track) + 3], spare_mask(track));
         *last = *last & !mask | byte(track) & mask;
     }
 }
 
 /// The tracks whose entries differ.
 fn changed(old: &[u8], image: &[u8]) -> Vec<u8> {
-    let entry = |track| map_offset(track)..map_offset(track) + 4;
+    let entry = |track| map_offset(0, track)..map_offset(0, track) + 4;
     let differs = |track: &u8| old[entry(*track)] != image[entry(*track)];
     (1..=35).filter(differs).collect()
 }
@@ -85,14 +85,14 @@ fn changed(old: &[u8], image: &[u8]) -> Vec<u8> {
 /// Clears the spare bits of some tracks.
 fn clear(image: &mut [u8], tracks: &[u8]) {
     for &track in tracks {
-        image[map_offset(track) + 3] &= !spare_mask(track);
+        image[map_offset(0, track) + 3] &= !spare_mask(track);
     }
 }
 
 /// Makes the counts of some tracks those of all 24 bits.
 fn count(image: &mut [u8], tracks: &[u8]) {
     for &track in tracks {
-        let at = map_offset(track);
+        let at = map_offset(0, track);
         let ones = |byte: &u8| byte.count_ones() as u8;
         image[at] = image[at + 1..at + 4].iter().map(ones).sum();
     }
@@ -101,17 +101,17 @@ fn count(image: &mut [u8], tracks: &[u8]) {
 /// Stores as much as is free, and the rest in a sector that track 17 doesn't
 /// have; false if it can't.
 fn take_as_room(image: &mut [u8], name: &[u8], kind: u32, data: &[u8], block: &mut [u8]) -> bool {
-    let free = contents(image).map_or(0, |held| held.free_off_track_18());
-    let bit = &mut image[map_offset(17) + 3];
+    let free = contents(0, image).map_or(0, |held| held.free_off_track_18());
+    let bit = &mut image[map_offset(0, 17) + 3];
     if free == 0 || *bit & 0x20 == 0 {
         return false;
     }
     *bit &= !0x20;
     assert_eq!(
-        host::store(image, name, kind, &data[..254 * free], block),
+        host::store(0, image, name, kind, &data[..254 * free], block),
         0
     );
-    let held = contents(image).unwrap();
+    let held = contents(0, image).unwrap();
     let &(track, sector) = model::find(&held, name).unwrap().chain.last().unwrap();
     let at = offset(track, sector);
     image[at..at + 2].copy_from_slice(&[17, 21]);
@@ -120,8 +120,8 @@ fn take_as_room(image: &mut [u8], name: &[u8], kind: u32, data: &[u8], block: &m
 
 /// Lets the directory go on in 18/19; false if it can't.
 fn take_for_directory(image: &mut [u8]) -> bool {
-    let last = contents(image).unwrap().directory.pop().unwrap();
-    let bit = &mut image[map_offset(18) + 3];
+    let last = contents(0, image).unwrap().directory.pop().unwrap();
+    let bit = &mut image[map_offset(0, 18) + 3];
     let can = *bit & 0x08 != 0;
     if can {
         *bit &= !0x08;
@@ -134,7 +134,7 @@ fn take_for_directory(image: &mut [u8]) -> bool {
 /// Whether an image that is accepted has spare bits set; then the block says
 /// 8, as before.
 fn refused_as_before(image: &[u8], block: &mut [u8]) -> bool {
-    let refused = block.len() == 9 && spare_bits(image).contains(&true);
+    let refused = block.len() == 9 && spare_bits(0, image).contains(&true);
     if refused {
         block.copy_from_slice(&block_of(&Answer::fault(8, 1, 255, 255)));
     }
@@ -172,34 +172,50 @@ impl Cheating {
 }
 
 impl Library for Cheating {
-    fn check(&self, image: &[u8], block: &mut [u8]) -> u32 {
+    fn check(&self, layout: u32, image: &[u8], block: &mut [u8]) -> u32 {
         let refuses = [Cheat::RefusesWithEight, Cheat::CheckRefusesWithEight];
         match refuses.contains(&self.0) && refused_as_before(image, block) {
             true => 8,
-            false => host::check(image, block),
+            false => host::check(layout, image, block),
         }
     }
 
-    fn format(&self, image: &mut [u8], name: &[u8], id1: u8, id2: u8, block: &mut [u8]) -> u32 {
+    fn format(
+        &self,
+        layout: u32,
+        image: &mut [u8],
+        name: &[u8],
+        id1: u8,
+        id2: u8,
+        block: &mut [u8],
+    ) -> u32 {
         let old = image.to_vec();
-        let number = host::format(image, name, id1, id2, block);
+        let number = host::format(layout, image, name, id1, id2, block);
         match (self.0, number) {
-            (Cheat::FormatKeeps, 0) => put_spare(image, |track| old[map_offset(track) + 3]),
+            (Cheat::FormatKeeps, 0) => put_spare(image, |track| old[map_offset(0, track) + 3]),
             (Cheat::FormatSets, 0) => put_spare(image, |_| 0xFF),
             _ => {}
         }
         number
     }
 
-    fn read(&self, image: &[u8], name: &[u8], out: &mut [u8], block: &mut [u8]) -> u32 {
+    fn read(
+        &self,
+        layout: u32,
+        image: &[u8],
+        name: &[u8],
+        out: &mut [u8],
+        block: &mut [u8],
+    ) -> u32 {
         match self.0 == Cheat::RefusesWithEight && refused_as_before(image, block) {
             true => 8,
-            false => host::read(image, name, out, block),
+            false => host::read(layout, image, name, out, block),
         }
     }
 
     fn store(
         &self,
+        layout: u32,
         image: &mut [u8],
         name: &[u8],
         kind: u32,
@@ -210,7 +226,7 @@ impl Library for Cheating {
             return 8;
         }
         let old = image.to_vec();
-        let number = host::store(image, name, kind, data, block);
+        let number = host::store(layout, image, name, kind, data, block);
         let taken = match (self.0, number) {
             (Cheat::StoreTakesOneAsRoom, 15) => take_as_room(image, name, kind, data, block),
             (Cheat::DirectoryTakesOne, 14) => take_for_directory(image),
@@ -223,12 +239,12 @@ impl Library for Cheating {
         number
     }
 
-    fn scratch(&self, image: &mut [u8], name: &[u8], block: &mut [u8]) -> u32 {
+    fn scratch(&self, layout: u32, image: &mut [u8], name: &[u8], block: &mut [u8]) -> u32 {
         if self.0 == Cheat::RefusesWithEight && refused_as_before(image, block) {
             return 8;
         }
         let old = image.to_vec();
-        let number = host::scratch(image, name, block);
+        let number = host::scratch(layout, image, name, block);
         if number == 0 {
             self.after_scratch(&old, image);
         }
@@ -243,20 +259,20 @@ impl Library for Cheating {
 fn honest_runs() -> Vec<Run> {
     let run = |(seed, kind): (usize, &&str)| {
         let rng = &mut Rng::new(seed as u64);
-        let mut start = generate(kind, 2).unwrap().image;
+        let mut start = generate(0, kind, 2).unwrap().image;
         start[91_394] = 0x41;
         match seed % 2 {
             0 => put_spare(&mut start, |_| 0xFF),
             _ => put_spare(&mut start, |_| rng.byte()),
         }
-        let mut list = requests(rng, &start, STYLES[seed % STYLES.len()], 60);
+        let mut list = requests(0, rng, &start, STYLES[seed % STYLES.len()], 60);
         let call = Call::Format {
             name: b"NEW".to_vec(),
             id1: 1,
             id2: 2,
         };
-        list.push(Request { call, block: 9 });
-        demand3(&Independent, &start, &list).unwrap();
+        list.push(Request::of(0, call));
+        demand3(&Independent, 0, &start, &list).unwrap();
         (start, list)
     };
     SOUND.iter().enumerate().map(run).collect()

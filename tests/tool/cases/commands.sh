@@ -51,11 +51,11 @@ case_is "format refuses a file of another size"
 head -c 1000 model >short
 cp short before
 refuses 1 before short format short CODES 01
-says "$(refusal 1 "an image has 174,848 bytes, this one has 1,000")"
+says "$(refusal 1 "$(size_told 1000)")"
 { cat model; echo; } >long
 cp long before
 refuses 1 before long format long CODES 01
-says "$(refusal 1 "an image has 174,848 bytes, this one has more")"
+says "$(refusal 1 "$(size_told 174849)")"
 : >empty
 cp empty before
 refuses 1 before empty format empty CODES 01

@@ -170,7 +170,7 @@ same bad model "the example disk, formatted anew"
 head -c 1000 model >bad
 cp bad before
 gives 1 run jobs bad
-grep -q 'refused, 1: wrong size; an image has 174,848 bytes, this one has 1,000$' seen/err || fail "the size refused"
+stops "line 1: $(refusal 1 "$(size_told 1000)")"
 same bad before "the image as it was"
 
 case_is "--keep-going: the others are done, and the first status is the run's"

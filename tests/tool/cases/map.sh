@@ -1,53 +1,14 @@
 # A wrong map entry: every command that checks the image names the lowest sector of the track whose mark is wrong, with its mark, or the count where all marks
 # are right. Bits past the track's last sector are neither named nor counted. The image stays as it was.
 . "$TOP/tests/tool/lib.sh"
+. "$TOP/tests/tool/maps.sh"
 example_disk disk code
 bytes 300 9 >other
 
-# Turns the marks of sectors of one track of bad, and nothing else.
-turn() { # TRACK SECTOR..
-    track=$1
-    shift
-    for sector; do
-        at=$(($(track18 0) + 4 * track + 1 + sector / 8))
-        patch bad "$at" $(($(od -An -tu1 -j "$at" -N 1 bad) ^ 1 << sector % 8))
-    done
-}
-
-# Writes the count of a track of bad.
-count() { # TRACK NUMBER
-    patch bad $(($(track18 0) + 4 * $1)) "$2"
-}
-
-# Sets all bits past the last sector of a track of bad.
-spare() { # TRACK
-    if [ "$1" -le 17 ]; then sectors=21; elif [ "$1" -le 24 ]; then sectors=19; elif [ "$1" -le 30 ]; then sectors=18; else sectors=17; fi
-    at=$(($(track18 0) + 4 * $1 + 3))
-    patch bad "$at" $(($(od -An -tu1 -j "$at" -N 1 bad) | 0xFF << sectors - 16 & 0xFF))
-}
-
-# The line for bad, from check alone.
-checked() { # WHAT PLACE
-    cp bad before
-    case_is "$1"
-    refuses 8 before bad check bad
-    says "$(refusal 8 "$2")"
-}
-
-FREE="is marked free but owned" USED="is marked used but owned by nobody"
-
-# A disk without a file; and one on which every sector is owned: 18 directory sectors of eight files, each file but one has one sector.
 case_is "a disk that is empty, and one that is full"
 gives 0 format empty EMPTY 01
 cp empty full
-i=1
-while [ "$i" -lt 144 ]; do
-    echo "store F$i /dev/null"
-    i=$((i + 1))
-done >jobs
-head -c $((254 * (664 - 143))) /dev/zero >rest
-echo "store REST rest" >>jobs
-gives 0 run jobs full
+fill full 664
 [ "$(od -An -v -tu1 -j $(($(track18 0) + 4)) -N 140 full | tr -d ' 0\n')" = "" ] || fail "no sector of the full disk is free"
 
 # Each of the lines from every command.

@@ -43,7 +43,7 @@ status_is 15
 says "$(refusal 15)"
 same disk model "the image as it was"
 gives 1 check /dev/zero
-says "$(refusal 1 "an image has 174,848 bytes, this one has more")"
+says "$(refusal 1 "$(size_told 1000000)")"
 echo 'store ZERO /dev/zero' >jobs
 gives 15 run jobs disk
 stops "line 1: $(refusal 15)"
@@ -62,7 +62,7 @@ gives 0 store disk NOTHING /dev/null
 gives 0 read disk NOTHING -
 quiet_output
 gives 1 check /dev/null
-says "$(refusal 1 "an image has 174,848 bytes, this one has 0")"
+says "$(refusal 1 "$(size_told 0)")"
 cp model disk
 
 # The image as the file: under one name, through a link, by another path.

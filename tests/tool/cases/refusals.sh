@@ -17,14 +17,13 @@ listing_too() { # NUMBER PLACE
 
 for size in 0 1 1000 91392 174847; do
     head -c "$size" disk >bad
-    shown=$(echo "$size" | sed 's/\(.*[0-9]\)\([0-9]\{3\}\)$/\1,\2/')
-    damaged 1 "an image has 174,848 bytes, this one has $shown"
-    listing_too 1 "an image has 174,848 bytes, this one has $shown"
+    damaged 1 "$(size_told "$size")"
+    listing_too 1 "$(size_told "$size")"
 done
-for more in 1 256 683 200000; do
+for more in 1 256 683 21759 21760 21761 200000; do
     { cat disk; head -c "$more" /dev/zero; } >bad
-    damaged 1 "an image has 174,848 bytes, this one has more"
-    listing_too 1 "an image has 174,848 bytes, this one has more"
+    damaged 1 "$(size_told $((174848 + more)))"
+    listing_too 1 "$(size_told $((174848 + more)))"
 done
 
 cp disk bad && patch bad "$(track17 0)" 36 0
@@ -85,7 +84,9 @@ for name in "" ABCDEFGHIJKLMNOPQ 'A\xA0' '\xa0' "$(printf '%0300d' 0)"; do
     asked 9 read disk "$name" out
     asked 9 format disk "$name" 01
 done
-for kind in 0 4 5 128 130 255 256 258 4294967295 4294967297 4294967298 18446744073709551618 "$(printf '%0400d' 2)9"; do asked 10 store disk NEW other "$kind"; done
+for kind in 0 4 5 128 130 255 256 258 4294967295 4294967297 4294967298 18446744073709551618 "$(printf '%0400d' 2)9"; do
+    asked 10 store disk NEW other "$kind"
+done
 asked 12 store disk CODE other
 asked 13 scratch disk COD
 case_is "13: a name typed in small letters is told so"

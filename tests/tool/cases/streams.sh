@@ -62,6 +62,17 @@ quiet_output
 printf 'check\n' >check.jobs
 fed 73 long run --keep-going check.jobs -
 quiet_output
+head -c 196609 long >longer
+fed 73 longer run --keep-going check.jobs -
+quiet_output
+case_is "run: an image of another layout is handed on whole"
+head -c 196608 long >forty
+fed 1 forty run --quiet --keep-going check.jobs -
+says "line 1: $(refusal 1 "$(size_told 196608)")"
+same seen/out forty "the image as it was on standard output"
+fed 1 disk run --quiet --keep-going --layout dolphin check.jobs -
+says "line 1: $(refusal 1 "$(size_told 174848 "dolphin (2)")")"
+same seen/out disk "the image as it was on standard output"
 
 case_is "read to standard output, of a file and of standard input"
 fed 0 disk read - CODE -
@@ -114,10 +125,10 @@ stops "line 2: $(refusal 13)"
 head -c 1000 disk >short
 fed 1 short store - NEW code
 quiet_output
-says "$(refusal 1 "an image has 174,848 bytes, this one has 1,000")"
+says "$(refusal 1 "$(size_told 1000)")"
 { cat disk; echo; } >long
 fed 1 long check -
-says "$(refusal 1 "an image has 174,848 bytes, this one has more")"
+says "$(refusal 1 "$(size_told 174849)")"
 
 case_is "a run on standard input that changes nothing gives the image all the same"
 echo check >jobs

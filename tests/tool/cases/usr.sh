@@ -24,7 +24,7 @@ tells "expected seq, prg or a number "
 case_is "1 and 9 before 10, 10 before 2 and 12"
 head -c 99 model >short
 gives 1 store short "" other usr
-says "$(refusal 1 "an image has 174,848 bytes, this one has 99")"
+says "$(refusal 1 "$(size_told 99)")"
 refuses 9 model disk store disk "" other usr
 says "$(refusal 9)"
 cp model bad && patch bad "$(track17 0)" 36 0

@@ -7,11 +7,11 @@ use boundary::tally::{Tally, EVERY_NUMBER};
 use independent::rng::seeds;
 use std::process::ExitCode;
 
-/// 84 images each.
+/// 87 images each.
 const ROUNDS: u64 = 1000;
 
-/// Each number that a call may give is to be met so often, and 8 so often with
-/// a sector and with 255.
+/// Each number that a call may give is to be met so often in each layout, 17 so
+/// often for unknown ones, and 8 so often with a sector and with 255.
 const ENOUGH: usize = 100;
 
 fn main() -> ExitCode {
@@ -28,6 +28,7 @@ fn main() -> ExitCode {
     println!("{tally}");
     // Fewer rounds than usual may well be thin.
     let mut thin = tally.thin(EVERY_NUMBER, ENOUGH);
+    thin.extend(tally.thin_unknown(ENOUGH));
     thin.extend(tally.thin_places(ENOUGH));
     if rounds.len() as u64 >= ROUNDS && !thin.is_empty() {
         println!("{}", thin.join("\n"));

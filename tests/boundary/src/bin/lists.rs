@@ -11,8 +11,8 @@ use std::process::ExitCode;
 
 const LISTS: u64 = 600;
 
-/// Each number that a call may give is to be met so often.
-const ENOUGH: usize = 50;
+/// Each number that a call may give is to be met so often in each layout.
+const ENOUGH: usize = 16;
 
 fn main() -> ExitCode {
     let seeds = seeds_by("LISTS", LISTS);

@@ -2,12 +2,12 @@
 //! again.
 
 use boundary::calls::{EntryPoints, Faithful, Slice};
-use independent::geometry::TRACK_18_OFFSET;
 use independent::naive::{contents, position, Contents, File, Owner, Place};
-use independent::sound::{offset, slot_offset};
+use independent::sound::{map_offset, offset, slot_offset};
 
 /// A store or scratch that was done.
 pub struct Change {
+    pub layout: u32,
     /// The image before, and what it held.
     pub before: Vec<u8>,
     pub held: Contents,
@@ -25,14 +25,15 @@ pub struct Change {
 
 impl Change {
     /// The change of the file `name`, which one of the two images has.
-    fn between(before: Vec<u8>, after: &[u8], name: &[u8]) -> Change {
-        let held = contents(&before).expect("an accepted image");
-        let now = contents(after).expect("an accepted image");
+    fn between(layout: u32, before: Vec<u8>, after: &[u8], name: &[u8]) -> Change {
+        let held = contents(layout, &before).expect("an accepted image");
+        let now = contents(layout, after).expect("an accepted image");
         let mut files = now.files.iter().chain(&held.files);
         let named = files.find(|file| file.name == name);
         let file = named.expect("the file that changed").clone();
         let last = *held.directory.last().expect("18/1 at least");
         Change {
+            layout,
             chain: file.chain.iter().map(|&(t, s)| offset(t, s)).collect(),
             slot: slot_offset(&now.directory, file.slot),
             last: offset(18, last),
@@ -64,8 +65,8 @@ impl Change {
 }
 
 /// Marks a sector free or used in the map, where it isn't yet.
-pub fn mark(image: &mut [u8], (track, sector): Place, free: bool) {
-    let entry = TRACK_18_OFFSET + 4 * usize::from(track);
+pub fn mark(layout: u32, image: &mut [u8], (track, sector): Place, free: bool) {
+    let entry = map_offset(layout, track);
     let (byte, bit) = (entry + 1 + usize::from(sector / 8), 1 << (sector % 8));
     match (image[byte] & bit != 0, free) {
         (false, true) => (image[entry], image[byte]) = (image[entry] + 1, image[byte] | bit),
@@ -83,6 +84,7 @@ pub struct StoreEdited(pub Edit);
 impl EntryPoints for StoreEdited {
     unsafe fn store(
         &self,
+        layout: u32,
         image: Slice,
         name: Slice,
         kind: u32,
@@ -91,9 +93,9 @@ impl EntryPoints for StoreEdited {
     ) -> u32 {
         unsafe {
             let before = image.bytes().to_vec();
-            let number = Faithful.store(image, name, kind, data, answer);
+            let number = Faithful.store(layout, image, name, kind, data, answer);
             if number == 0 {
-                let change = Change::between(before, image.bytes(), name.bytes());
+                let change = Change::between(layout, before, image.bytes(), name.bytes());
                 self.0(image.bytes_mut(), &change);
             }
             number
@@ -105,12 +107,12 @@ impl EntryPoints for StoreEdited {
 pub struct ScratchEdited(pub Edit);
 
 impl EntryPoints for ScratchEdited {
-    unsafe fn scratch(&self, image: Slice, name: Slice, answer: Slice) -> u32 {
+    unsafe fn scratch(&self, layout: u32, image: Slice, name: Slice, answer: Slice) -> u32 {
         unsafe {
             let before = image.bytes().to_vec();
-            let number = Faithful.scratch(image, name, answer);
+            let number = Faithful.scratch(layout, image, name, answer);
             if number == 0 {
-                let change = Change::between(before, image.bytes(), name.bytes());
+                let change = Change::between(layout, before, image.bytes(), name.bytes());
                 self.0(image.bytes_mut(), &change);
             }
             number

@@ -8,11 +8,10 @@
 use super::changes::{Change, StoreEdited};
 use super::masks::{own, rows, Masked, Rule, Seen};
 use super::stored::placed;
-use super::{give, wrong, Row};
+use super::{give, house_tracks, wrong, Row};
 use boundary::calls::{EntryPoints, Faithful, Slice};
 use independent::answer::Answer;
 use independent::calls::sectors_needed;
-use independent::geometry::house_tracks;
 use independent::naive::{contents, track_length, Place};
 use independent::sound::map_offset;
 use Rule::Judge;
@@ -159,32 +158,32 @@ pub const STORES: &[Row] = &[
     ),
     (
         "room is counted in a byte",
-        &Room(|free, _| free % 256),
+        &Room(|_, free, _| free % 256),
         "number:",
     ),
     (
         "room is counted without track 35",
-        &Room(|free, left| free - left(35)),
+        &Room(|_, free, left| free - left(35)),
         "number:",
     ),
     (
         "room is counted without track 1",
-        &Room(|free, left| free - left(1)),
+        &Room(|_, free, left| free - left(1)),
         "number:",
     ),
     (
         "room is counted without track 17",
-        &Room(|free, left| free - left(17)),
+        &Room(|_, free, left| free - left(17)),
         "number:",
     ),
     (
         "room is counted with at most 16 of a track",
-        &Room(|_, left| house_tracks().map(|track| left(track).min(16)).sum()),
+        &Room(|layout, _, left| house_tracks(layout).map(|track| left(track).min(16)).sum()),
         "number:",
     ),
     (
         "room is one sector less",
-        &Room(|free, _| free.saturating_sub(1)),
+        &Room(|_, free, _| free.saturating_sub(1)),
         "number:",
     ),
     ("room is one sector more", &OneMore, "number:"),
@@ -265,7 +264,7 @@ fn free_on(change: &Change, track: u8) -> Vec<Place> {
 /// there is no other left.
 fn by_track(image: &mut [u8], change: &Change, part: fn(&mut Vec<Place>) -> Vec<Place>) {
     let (mut order, mut rest) = (Vec::new(), Vec::new());
-    for track in house_tracks() {
+    for track in house_tracks(change.layout) {
         let mut free = free_on(change, track);
         order.extend(part(&mut free));
         rest.extend(free);
@@ -312,13 +311,13 @@ fn highest_first(free: &mut Vec<Place>) -> Vec<Place> {
 /// A track's entry stays as it was.
 fn map_left(image: &mut [u8], change: &Change, on: Option<&Place>) {
     if let Some((track, _)) = on {
-        change.restore(image, map_offset(*track), 4);
+        change.restore(image, map_offset(change.layout, *track), 4);
     }
 }
 
 pub fn rest_marked(image: &mut [u8], change: &Change) {
     let last = change.file.chain.last().expect("a sector at least").0;
-    let entry = &mut image[map_offset(last)..][..4];
+    let entry = &mut image[map_offset(change.layout, last)..][..4];
     let bits = u32::from_le_bytes([entry[1], entry[2], entry[3], 0]) & !own(last);
     entry.copy_from_slice(&(bits << 8).to_le_bytes());
 }
@@ -329,8 +328,8 @@ pub fn lowered_by_one(image: &mut [u8], change: &Change) {
 
 /// Counts are lowered by another number than that of the sectors taken.
 fn counts_by(image: &mut [u8], change: &Change, lowered: fn(u8) -> u8) {
-    for track in house_tracks() {
-        let at = map_offset(track);
+    for track in house_tracks(change.layout) {
+        let at = map_offset(change.layout, track);
         let taken = change.before[at] - image[at];
         image[at] = change.before[at] - lowered(taken);
     }
@@ -338,13 +337,14 @@ fn counts_by(image: &mut [u8], change: &Change, lowered: fn(u8) -> u8) {
 
 // --- Room -----------------------------------------------------------------
 
-/// A store that takes the room for less than it is: given the free sectors off
-/// track 18, and those of a track.
-struct Room(fn(usize, &dyn Fn(u8) -> usize) -> usize);
+/// A store that takes the room for less than it is: given the layout, the free
+/// sectors off track 18, and those of a track.
+pub(super) struct Room(pub(super) fn(u32, usize, &dyn Fn(u8) -> usize) -> usize);
 
 impl EntryPoints for Room {
     unsafe fn store(
         &self,
+        layout: u32,
         image: Slice,
         name: Slice,
         kind: u32,
@@ -353,10 +353,11 @@ impl EntryPoints for Room {
     ) -> u32 {
         unsafe {
             let before = image.bytes().to_vec();
-            let number = Faithful.store(image, name, kind, data, answer);
-            let left = |track: u8| usize::from(before[map_offset(track)]);
+            let number = Faithful.store(layout, image, name, kind, data, answer);
+            let left = |track: u8| usize::from(before[map_offset(layout, track)]);
             if number == 0
-                && sectors_needed(data.len) > self.0(house_tracks().map(left).sum(), &left)
+                && sectors_needed(data.len)
+                    > self.0(layout, house_tracks(layout).map(left).sum(), &left)
             {
                 image.bytes_mut().copy_from_slice(&before);
                 return give(answer, Answer::refusal(15));
@@ -367,12 +368,12 @@ impl EntryPoints for Room {
 }
 
 // It stores what fits.
-wrong!(OneMore: store(image, name, kind, data, answer) {
-    let number = Faithful.store(image, name, kind, data, answer);
-    let held = contents(image.bytes()).filter(|_| number == 15);
+wrong!(OneMore: store(layout, image, name, kind, data, answer) {
+    let number = Faithful.store(layout, image, name, kind, data, answer);
+    let held = contents(layout, image.bytes()).filter(|_| number == 15);
     let free = held.map_or(0, |held| held.free_off_track_18());
     if free == 0 || sectors_needed(data.len) != free + 1 {
         return number;
     }
-    Faithful.store(image, name, kind, Slice { len: 254 * free, ..data }, answer)
+    Faithful.store(layout, image, name, kind, Slice { len: 254 * free, ..data }, answer)
 });

@@ -4,12 +4,12 @@
 //! the map's, so a bit that is lost or strays shows as answer 8.
 
 use super::spare::fault_after_name;
-use super::{give, wrong, Row};
+use super::{give, is_image, tracks, wrong, Row};
 use boundary::calls::{EntryPoints, Faithful, Slice};
 use independent::answer::Answer;
 use independent::check::check;
 use independent::disk::{disk, track_18, walk_directory, Chain, Disk, Slot};
-use independent::geometry::{on_track_18, IMAGE_BYTES};
+use independent::geometry::{on_track_18, Geometry};
 use independent::naive::{track_length, Place};
 use independent::request::track_18_of;
 use independent::sound::map_offset;
@@ -155,14 +155,16 @@ pub(super) struct Walked {
 
 impl Walked {
     /// Of an image without a fault but of its map.
-    pub(super) fn of(image: &[u8]) -> Walked {
-        let disk = disk(image).expect("an image");
+    pub(super) fn of(layout: u32, image: &[u8]) -> Walked {
+        let geometry = Geometry::of(layout).expect("a layout");
+        let disk = disk(&geometry, image).expect("an image");
         let track18 = track_18(track_18_of(image)).expect("an image");
         let directory = walk_directory(track18).expect("a sound directory");
         let directory = directory.sectors().to_vec();
         let mut runs = Vec::new();
         for (file, slot) in files(disk, &directory).enumerate() {
-            let chain: Vec<Place> = Chain::of(disk, slot).map(|(t, s, _)| (t, s)).collect();
+            let chain = Chain::of(&geometry, disk, slot);
+            let chain: Vec<Place> = chain.map(|(t, s, _)| (t, s)).collect();
             runs.extend(runs_of(file, &chain));
         }
         Walked { directory, runs }
@@ -200,7 +202,7 @@ fn runs_of(file: usize, chain: &[Place]) -> Vec<Run> {
 // --- The masks ------------------------------------------------------------
 
 /// The used sectors of each track.
-pub(super) type Used = [u32; 36];
+pub(super) type Used = [u32; 41];
 
 /// How the masks, or the comparison with them, come about.
 pub(super) enum Rule {
@@ -263,10 +265,10 @@ impl Rule {
     }
 
     /// Step 4 by this rule.
-    fn fault(&self, image: &[u8]) -> Option<Answer> {
-        let used = self.used(&Walked::of(image));
-        (1..=35u8).find_map(|track| {
-            let entry = &image[map_offset(track)..][..4];
+    fn fault(&self, layout: u32, image: &[u8]) -> Option<Answer> {
+        let used = self.used(&Walked::of(layout, image));
+        tracks(layout).find_map(|track| {
+            let entry = &image[map_offset(layout, track)..][..4];
             let seen = Seen {
                 track,
                 count: entry[0],
@@ -295,7 +297,7 @@ fn directory_mask(walked: &Walked) -> u32 {
 
 /// Every run is put in by a rule; track 18 begins with map and directory.
 fn of_runs(walked: &Walked, put: impl Fn(u32, &Run) -> u32) -> Used {
-    let mut used = [0; 36];
+    let mut used = [0; 41];
     used[18] = directory_mask(walked);
     for run in &walked.runs {
         let old = &mut used[usize::from(run.track)];
@@ -353,7 +355,7 @@ fn next_file(runs: &[Run], at: usize) -> Option<&Run> {
 
 /// Runs go to another run's track, where there is such a run.
 fn moved(walked: &Walked, to: fn(&[Run], usize) -> Option<&Run>) -> Used {
-    let mut used = [0; 36];
+    let mut used = [0; 41];
     used[18] = directory_mask(walked);
     for (at, run) in walked.runs.iter().enumerate() {
         let track = to(&walked.runs, at).unwrap_or(run).track;
@@ -364,7 +366,7 @@ fn moved(walked: &Walked, to: fn(&[Run], usize) -> Option<&Run>) -> Used {
 
 /// The last run of a file is lost, by its track and the next file's first.
 fn ends_lost(walked: &Walked, lost: fn(u8, u8) -> bool) -> Used {
-    let mut used = [0; 36];
+    let mut used = [0; 41];
     used[18] = directory_mask(walked);
     let next = walked.runs.iter().skip(1).map(Some).chain([None]);
     for (run, next) in walked.runs.iter().zip(next) {
@@ -380,13 +382,13 @@ fn ends_lost(walked: &Walked, lost: fn(u8, u8) -> bool) -> Used {
 pub struct Masked(pub(super) Rule);
 
 impl EntryPoints for Masked {
-    unsafe fn check(&self, image: Slice, answer: Slice) -> u32 {
+    unsafe fn check(&self, layout: u32, image: Slice, answer: Slice) -> u32 {
         unsafe {
-            let number = Faithful.check(image, answer);
+            let number = Faithful.check(layout, image, answer);
             if number != 0 && number != 8 {
                 return number;
             }
-            let fault = self.0.fault(image.bytes());
+            let fault = self.0.fault(layout, image.bytes());
             give(answer, fault.unwrap_or(Answer::done(0, 0)))
         }
     }
@@ -402,36 +404,36 @@ fn comes_back(run: &Run) -> bool {
 }
 
 /// What it says of a sound image.
-fn loses(image: &[u8]) -> Option<Answer> {
-    let sound = image.len() == IMAGE_BYTES && check(image).number == 0;
-    sound.then(|| LOSES.0.fault(image)).flatten()
+fn loses(layout: u32, image: &[u8]) -> Option<Answer> {
+    let sound = is_image(layout, image) && check(layout, image).number == 0;
+    sound.then(|| LOSES.0.fault(layout, image)).flatten()
 }
 
-wrong!(ReadLoses: read(image, name, out, answer) {
-    match fault_after_name(image, name, loses) {
+wrong!(ReadLoses: read(layout, image, name, out, answer) {
+    match fault_after_name(layout, image, name, loses) {
         Some(fault) => give(answer, fault),
-        None => Faithful.read(image, name, out, answer),
+        None => Faithful.read(layout, image, name, out, answer),
     }
 });
 
-wrong!(TellLoses: tell(image, position, entry, answer) {
-    match loses(image.bytes()) {
+wrong!(TellLoses: tell(layout, image, position, entry, answer) {
+    match loses(layout, image.bytes()) {
         Some(fault) => give(answer, fault),
-        None => Faithful.tell(image, position, entry, answer),
+        None => Faithful.tell(layout, image, position, entry, answer),
     }
 });
 
-wrong!(StoreLoses: store(image, name, kind, data, answer) {
-    match fault_after_name(image, name, loses) {
+wrong!(StoreLoses: store(layout, image, name, kind, data, answer) {
+    match fault_after_name(layout, image, name, loses) {
         Some(fault) if (1..=2).contains(&kind) => give(answer, fault),
-        _ => Faithful.store(image, name, kind, data, answer),
+        _ => Faithful.store(layout, image, name, kind, data, answer),
     }
 });
 
-wrong!(ScratchLoses: scratch(image, name, answer) {
-    match fault_after_name(image, name, loses) {
+wrong!(ScratchLoses: scratch(layout, image, name, answer) {
+    match fault_after_name(layout, image, name, loses) {
         Some(fault) => give(answer, fault),
-        None => Faithful.scratch(image, name, answer),
+        None => Faithful.scratch(layout, image, name, answer),
     }
 });
 
@@ -483,12 +485,13 @@ fn directory_here(link: &Linked) -> bool {
 }
 
 /// The link of a file at which the check gives 3.
-fn linked(image: &[u8], slot: u8, holder: Place) -> Linked {
-    let disk = disk(image).expect("an image");
+fn linked(layout: u32, image: &[u8], slot: u8, holder: Place) -> Linked {
+    let geometry = Geometry::of(layout).expect("a layout");
+    let disk = disk(&geometry, image).expect("an image");
     let track18 = track_18(track_18_of(image)).expect("an image");
     let directory = walk_directory(track18).expect("a sound directory");
     let directory = directory.sectors().to_vec();
-    let chain = |slot: &Slot| Chain::of(disk, slot).map(|(t, s, _)| (t, s));
+    let chain = |slot: &Slot| Chain::of(&geometry, disk, slot).map(|(t, s, _)| (t, s));
     let before = directory
         .iter()
         .flat_map(|sector| disk[on_track_18(*sector)].as_chunks().0);
@@ -516,14 +519,14 @@ fn linked(image: &[u8], slot: u8, holder: Place) -> Linked {
 struct Unnoticed(fn(&Linked) -> bool);
 
 impl EntryPoints for Unnoticed {
-    unsafe fn check(&self, image: Slice, answer: Slice) -> u32 {
+    unsafe fn check(&self, layout: u32, image: Slice, answer: Slice) -> u32 {
         unsafe {
-            let number = Faithful.check(image, answer);
+            let number = Faithful.check(layout, image, answer);
             if number != 3 || answer.bytes()[2] == 255 {
                 return number;
             }
             let [track, sector, slot] = [0, 1, 2].map(|byte| answer.bytes()[byte]);
-            let link = linked(image.bytes(), slot, (track, sector));
+            let link = linked(layout, image.bytes(), slot, (track, sector));
             match self.0(&link) {
                 true => give(
                     answer,

@@ -1,12 +1,12 @@
 //! Wrong libraries about the place of answer 8 (02, §3): the lowest of the
 //! track's own sectors whose bit is wrong, and 255 only if all these are right.
 
-use super::{give, wrong, Row};
+use super::{give, tracks, wrong, Row};
 use boundary::calls::{EntryPoints, Faithful, Slice};
 use independent::answer::Answer;
 use independent::check::check;
 use independent::geometry::TRACK_18_BYTES;
-use independent::naive::{position, track_length};
+use independent::naive::{entry_at, position, track_length};
 use independent::sound::{map_offset, spare_mask};
 
 pub const WRONG: &[Row] = &[
@@ -256,7 +256,7 @@ const ANSWER: &str = "answer:";
 // --- Wrong entries --------------------------------------------------------
 
 /// A wrong entry, and what is right; bit s stands for sector s.
-struct Entry {
+pub(super) struct Entry {
     track: u8,
     count: u8,
     bits: u32,
@@ -270,7 +270,7 @@ impl Entry {
         (1 << track_length(self.track)) - 1
     }
     /// Those that are wrong.
-    fn wrong(&self) -> u32 {
+    pub fn wrong(&self) -> u32 {
         (self.bits ^ self.right) & self.own()
     }
     /// Of these, the sectors that have an owner and are marked free.
@@ -292,7 +292,7 @@ impl Entry {
         self.count == ones(self.bits & self.own())
     }
     /// The place that is right.
-    fn place(&self) -> [u8; 3] {
+    pub fn place(&self) -> [u8; 3] {
         [self.track, lowest(self.wrong()), 255]
     }
 }
@@ -306,7 +306,7 @@ fn ones(bits: u32) -> u8 {
 }
 
 /// The lowest of 24 bits, or 255.
-fn lowest(bits: u32) -> u8 {
+pub(super) fn lowest(bits: u32) -> u8 {
     (0..24).find(|bit| bits >> bit & 1 == 1).unwrap_or(255)
 }
 
@@ -316,34 +316,34 @@ fn highest(bits: u32) -> u8 {
 }
 
 /// Flips the bit of a sector.
-fn flip(image: &mut [u8], track: u8, sector: u8) {
-    image[map_offset(track) + 1 + usize::from(sector / 8)] ^= 1 << (sector % 8);
+fn flip(layout: u32, image: &mut [u8], track: u8, sector: u8) {
+    image[map_offset(layout, track) + 1 + usize::from(sector / 8)] ^= 1 << (sector % 8);
 }
 
 /// An image that gives 8, with its map put right: each bit that is named is
 /// flipped, and each count alone is counted.
-fn with_right_map(image: &[u8]) -> Vec<u8> {
+fn with_right_map(layout: u32, image: &[u8]) -> Vec<u8> {
     let mut image = image.to_vec();
     loop {
-        let found = check(&image);
+        let found = check(layout, &image);
         let (track, sector) = (found.place.track, found.place.sector);
         match (found.number, sector) {
             (8, 255) => {
-                let at = map_offset(track);
+                let at = map_offset(layout, track);
                 let own = (1 << track_length(track)) - 1;
                 image[at] = ones(bits(&image[at..at + 4]) & own);
             }
-            (8, sector) => flip(&mut image, track, sector),
+            (8, sector) => flip(layout, &mut image, track, sector),
             _ => return image,
         }
     }
 }
 
 /// The wrong entries of an image that gives 8, from track 1 on.
-fn wrong_entries(image: &[u8]) -> Vec<Entry> {
-    let sound = with_right_map(image);
+fn wrong_entries(layout: u32, image: &[u8]) -> Vec<Entry> {
+    let sound = with_right_map(layout, image);
     let entry = |track: u8| {
-        let at = map_offset(track)..map_offset(track) + 4;
+        let at = map_offset(layout, track)..map_offset(layout, track) + 4;
         let (is, right) = (&image[at.clone()], &sound[at]);
         Entry {
             track,
@@ -354,13 +354,13 @@ fn wrong_entries(image: &[u8]) -> Vec<Entry> {
         }
     };
     let is_wrong = |entry: &Entry| entry.wrong() != 0 || !entry.counts_right();
-    (1..=35).map(entry).filter(is_wrong).collect()
+    tracks(layout).map(entry).filter(is_wrong).collect()
 }
 
 // --- Wrong places ---------------------------------------------------------
 
 /// How a place comes about. All but `Place` keep the right track.
-enum Rule {
+pub(super) enum Rule {
     /// Another sector.
     Sector(fn(&Entry) -> u8),
     /// Another number for the right sector; 255 stays.
@@ -400,16 +400,16 @@ impl Rule {
     }
 }
 
-const ALL: &[&str] = &["check", "read", "store", "scratch", "tell"];
+pub(super) const ALL: &[&str] = &["check", "read", "store", "scratch", "tell"];
 
 /// A library in which some calls give another place with answer 8.
-struct In(&'static [&'static str], Rule);
+pub(super) struct In(pub &'static [&'static str], pub Rule);
 
 impl In {
-    unsafe fn put(&self, call: &str, number: u32, image: Slice, answer: Slice) -> u32 {
+    unsafe fn put(&self, layout: u32, call: &str, number: u32, image: Slice, answer: Slice) -> u32 {
         if number == 8 && self.0.contains(&call) {
             let image = unsafe { image.bytes() };
-            let place = self.1.place(&wrong_entries(image));
+            let place = self.1.place(&wrong_entries(layout, image));
             let block = unsafe { answer.bytes_mut() };
             block[..3].copy_from_slice(&place);
         }
@@ -418,20 +418,28 @@ impl In {
 }
 
 impl EntryPoints for In {
-    unsafe fn check(&self, image: Slice, answer: Slice) -> u32 {
+    unsafe fn check(&self, layout: u32, image: Slice, answer: Slice) -> u32 {
         unsafe {
-            let number = Faithful.check(image, answer);
-            self.put("check", number, image, answer)
+            let number = Faithful.check(layout, image, answer);
+            self.put(layout, "check", number, image, answer)
         }
     }
-    unsafe fn read(&self, image: Slice, name: Slice, out: Slice, answer: Slice) -> u32 {
+    unsafe fn read(
+        &self,
+        layout: u32,
+        image: Slice,
+        name: Slice,
+        out: Slice,
+        answer: Slice,
+    ) -> u32 {
         unsafe {
-            let number = Faithful.read(image, name, out, answer);
-            self.put("read", number, image, answer)
+            let number = Faithful.read(layout, image, name, out, answer);
+            self.put(layout, "read", number, image, answer)
         }
     }
     unsafe fn store(
         &self,
+        layout: u32,
         image: Slice,
         name: Slice,
         kind: u32,
@@ -439,20 +447,27 @@ impl EntryPoints for In {
         answer: Slice,
     ) -> u32 {
         unsafe {
-            let number = Faithful.store(image, name, kind, data, answer);
-            self.put("store", number, image, answer)
+            let number = Faithful.store(layout, image, name, kind, data, answer);
+            self.put(layout, "store", number, image, answer)
         }
     }
-    unsafe fn scratch(&self, image: Slice, name: Slice, answer: Slice) -> u32 {
+    unsafe fn scratch(&self, layout: u32, image: Slice, name: Slice, answer: Slice) -> u32 {
         unsafe {
-            let number = Faithful.scratch(image, name, answer);
-            self.put("scratch", number, image, answer)
+            let number = Faithful.scratch(layout, image, name, answer);
+            self.put(layout, "scratch", number, image, answer)
         }
     }
-    unsafe fn tell(&self, image: Slice, position: usize, entry: Slice, answer: Slice) -> u32 {
+    unsafe fn tell(
+        &self,
+        layout: u32,
+        image: Slice,
+        position: usize,
+        entry: Slice,
+        answer: Slice,
+    ) -> u32 {
         unsafe {
-            let number = Faithful.tell(image, position, entry, answer);
-            self.put("tell", number, image, answer)
+            let number = Faithful.tell(layout, image, position, entry, answer);
+            self.put(layout, "tell", number, image, answer)
         }
     }
 }
@@ -506,76 +521,76 @@ unsafe fn is_named(number: u32, answer: Slice) -> bool {
 }
 
 /// Puts right the bit that an answer 8 names.
-unsafe fn put_right(number: u32, image: Slice, answer: Slice) -> u32 {
+unsafe fn put_right(layout: u32, number: u32, image: Slice, answer: Slice) -> u32 {
     unsafe {
         if is_named(number, answer) {
             let place = answer.bytes();
-            flip(image.bytes_mut(), place[0], place[1]);
+            flip(layout, image.bytes_mut(), place[0], place[1]);
         }
     }
     number
 }
 
-wrong!(DoneLeaves255: check(image, answer) {
-    let number = Faithful.check(image, answer);
+wrong!(DoneLeaves255: check(layout, image, answer) {
+    let number = Faithful.check(layout, image, answer);
     if number == 0 {
         answer.bytes_mut()[1] = 255;
     }
     number
 });
 
-wrong!(CountedInReport: check(image, answer) {
-    let number = Faithful.check(image, answer);
+wrong!(CountedInReport: check(layout, image, answer) {
+    let number = Faithful.check(layout, image, answer);
     if is_named(number, answer) {
-        answer.bytes_mut()[7] = ones(wrong_entries(image.bytes())[0].wrong());
+        answer.bytes_mut()[7] = ones(wrong_entries(layout, image.bytes())[0].wrong());
     }
     number
 });
 
-wrong!(NamedGives7: check(image, answer) {
-    let number = Faithful.check(image, answer);
+wrong!(NamedGives7: check(layout, image, answer) {
+    let number = Faithful.check(layout, image, answer);
     if is_named(number, answer) { 7 } else { number }
 });
 
-wrong!(NamedGives0: check(image, answer) {
-    let number = Faithful.check(image, answer);
+wrong!(NamedGives0: check(layout, image, answer) {
+    let number = Faithful.check(layout, image, answer);
     if is_named(number, answer) { 0 } else { number }
 });
 
-wrong!(SectorZeroAccepted: check(image, answer) {
-    let number = Faithful.check(image, answer);
+wrong!(SectorZeroAccepted: check(layout, image, answer) {
+    let number = Faithful.check(layout, image, answer);
     let zero = is_named(number, answer) && answer.bytes()[1] == 0;
     if zero { give(answer, Answer::done(0, 0)) } else { number }
 });
 
-wrong!(CheckRepairs: check(image, answer) {
-    let number = Faithful.check(image, answer);
-    put_right(number, image, answer)
+wrong!(CheckRepairs: check(layout, image, answer) {
+    let number = Faithful.check(layout, image, answer);
+    put_right(layout, number, image, answer)
 });
 
-wrong!(StoreRepairs: store(image, name, kind, data, answer) {
-    let number = Faithful.store(image, name, kind, data, answer);
-    put_right(number, image, answer)
+wrong!(StoreRepairs: store(layout, image, name, kind, data, answer) {
+    let number = Faithful.store(layout, image, name, kind, data, answer);
+    put_right(layout, number, image, answer)
 });
 
-wrong!(ScratchRepairs: scratch(image, name, answer) {
-    let number = Faithful.scratch(image, name, answer);
-    put_right(number, image, answer)
+wrong!(ScratchRepairs: scratch(layout, image, name, answer) {
+    let number = Faithful.scratch(layout, image, name, answer);
+    put_right(layout, number, image, answer)
 });
 
 // It asks whether the counts on track 18 add up.
-wrong!(ListingGives8: listing(track18, text, answer) {
+wrong!(ListingGives8: listing(layout, track18, text, answer) {
     let map = track18.bytes();
-    let number = Faithful.listing(track18, text, answer);
+    let number = Faithful.listing(layout, track18, text, answer);
     let adds_up = |track: &u8| {
-        let entry = &map[4 * usize::from(*track)..][..4];
+        let entry = &map[entry_at(layout, *track)..][..4];
         let spare = u32::from(spare_mask(*track)) << 16;
         entry[0] == ones(bits(entry) & !spare)
     };
     if number != 0 || map.len() != TRACK_18_BYTES {
         return number;
     }
-    match (1..=35).find(|track| !adds_up(track)) {
+    match tracks(layout).find(|track| !adds_up(track)) {
         Some(track) => give(answer, Answer::fault(8, track, 255, 255)),
         None => number,
     }

@@ -1,13 +1,14 @@
 //! Wrong libraries in check, read, tell and listing.
 
-use super::{file_read, give, reported_length, slice_of, wrong, Row};
+use super::{file_read, give, is_image, reported_length, slice_of, tracks, wrong, Row};
 use boundary::calls::{EntryPoints, Faithful, Slice};
 use independent::answer::Answer;
-use independent::geometry::{number, IMAGE_BYTES, TRACK_18_OFFSET};
+use independent::geometry::TRACK_18_OFFSET;
 use independent::host::{block_of, BLOCK_BYTES, ENTRY_BYTES};
 use independent::listing::LONGEST;
-use independent::naive::{contents, File};
+use independent::naive::{contents, entry_at, File};
 use independent::request::track_18_of;
+use independent::sound::offset;
 
 pub const WRONG: &[Row] = &[
     ("the last byte is counted", &LastByteCounted, "answer:"),
@@ -118,10 +119,10 @@ pub const WRONG: &[Row] = &[
 
 // --- Errors met before, and cheats ----------------------------------------
 
-wrong!(LastByteCounted: read(image, name, out, answer) {
-    let number = Faithful.read(image, name, out, answer);
+wrong!(LastByteCounted: read(layout, image, name, out, answer) {
+    let number = Faithful.read(layout, image, name, out, answer);
     if number == 0 {
-        let file = file_read(image, name);
+        let file = file_read(layout, image, name);
         let length = file.bytes.len();
         give(answer, Answer::done(length as u32 + 1, file.chain.len() as u16));
         out.bytes_mut()[length..].iter_mut().take(1).for_each(|byte| *byte = 0);
@@ -129,28 +130,28 @@ wrong!(LastByteCounted: read(image, name, out, answer) {
     number
 });
 
-wrong!(MapLinkTrusted: check(image, answer) {
+wrong!(MapLinkTrusted: check(layout, image, answer) {
     let bytes = image.bytes();
-    if bytes.len() == IMAGE_BYTES && bytes[TRACK_18_OFFSET..][..2] != [18, 1] {
+    if is_image(layout, bytes) && bytes[TRACK_18_OFFSET..][..2] != [18, 1] {
         return give(answer, Answer::fault(2, 18, 0, 255));
     }
-    Faithful.check(image, answer)
+    Faithful.check(layout, image, answer)
 });
 
-wrong!(AllRefused: check(_image, answer) {
+wrong!(AllRefused: check(layout, _image, answer) {
     give(answer, Answer::fault(8, 1, 255, 255))
 });
 
-wrong!(ZerosRead: read(image, name, out, answer) {
-    let number = Faithful.read(image, name, out, answer);
+wrong!(ZerosRead: read(layout, image, name, out, answer) {
+    let number = Faithful.read(layout, image, name, out, answer);
     if number == 0 {
         out.bytes_mut()[..reported_length(answer)].fill(0);
     }
     number
 });
 
-wrong!(FirstSectorAlone: read(image, name, out, answer) {
-    let number = Faithful.read(image, name, out, answer);
+wrong!(FirstSectorAlone: read(layout, image, name, out, answer) {
+    let number = Faithful.read(layout, image, name, out, answer);
     if number == 0 {
         let length = reported_length(answer);
         out.bytes_mut()[254.min(length)..length].fill(0);
@@ -158,16 +159,16 @@ wrong!(FirstSectorAlone: read(image, name, out, answer) {
     number
 });
 
-wrong!(OneSectorReported: read(image, name, out, answer) {
-    let number = Faithful.read(image, name, out, answer);
+wrong!(OneSectorReported: read(layout, image, name, out, answer) {
+    let number = Faithful.read(layout, image, name, out, answer);
     if number == 0 {
         give(answer, Answer::done(reported_length(answer) as u32, 1));
     }
     number
 });
 
-wrong!(SectorsFromLength: read(image, name, out, answer) {
-    let number = Faithful.read(image, name, out, answer);
+wrong!(SectorsFromLength: read(layout, image, name, out, answer) {
+    let number = Faithful.read(layout, image, name, out, answer);
     if number == 0 {
         let length = reported_length(answer);
         let sectors = length.div_ceil(254).max(1);
@@ -178,39 +179,39 @@ wrong!(SectorsFromLength: read(image, name, out, answer) {
 
 // --- The answer block -----------------------------------------------------
 
-wrong!(WrongBlockWritten: check(image, answer) {
+wrong!(WrongBlockWritten: check(layout, image, answer) {
     let block = answer.bytes_mut();
     if block.len() != BLOCK_BYTES {
         let refusal = block_of(&Answer::refusal(16));
         block.iter_mut().zip(refusal).for_each(|(to, byte)| *to = byte);
     }
-    Faithful.check(image, answer)
+    Faithful.check(layout, image, answer)
 });
 
-wrong!(LongBlockTaken: check(image, answer) {
+wrong!(LongBlockTaken: check(layout, image, answer) {
     let len = if answer.len > BLOCK_BYTES { BLOCK_BYTES } else { answer.len };
-    Faithful.check(image, Slice { len, ..answer })
+    Faithful.check(layout, image, Slice { len, ..answer })
 });
 
-wrong!(PastBlockWritten: check(image, answer) {
-    let number = Faithful.check(image, answer);
+wrong!(PastBlockWritten: check(layout, image, answer) {
+    let number = Faithful.check(layout, image, answer);
     if answer.len == BLOCK_BYTES {
         answer.start.add(BLOCK_BYTES).write(0);
     }
     number
 });
 
-wrong!(RefusalUnanswered: check(image, answer) {
+wrong!(RefusalUnanswered: check(layout, image, answer) {
     let mut block = answer.bytes().to_vec();
-    let number = Faithful.check(image, slice_of(&mut block));
+    let number = Faithful.check(layout, image, slice_of(&mut block));
     if number == 0 {
         answer.bytes_mut().copy_from_slice(&block);
     }
     number
 });
 
-wrong!(LengthHighFirst: read(image, name, out, answer) {
-    let number = Faithful.read(image, name, out, answer);
+wrong!(LengthHighFirst: read(layout, image, name, out, answer) {
+    let number = Faithful.read(layout, image, name, out, answer);
     if number == 0 {
         answer.bytes_mut()[3..7].reverse();
     }
@@ -219,41 +220,41 @@ wrong!(LengthHighFirst: read(image, name, out, answer) {
 
 // --- What is written ------------------------------------------------------
 
-wrong!(PastOutputWritten: read(image, name, out, answer) {
-    let number = Faithful.read(image, name, out, answer);
+wrong!(PastOutputWritten: read(layout, image, name, out, answer) {
+    let number = Faithful.read(layout, image, name, out, answer);
     if number == 0 && !out.start.is_null() {
         out.start.add(out.len).write(0);
     }
     number
 });
 
-wrong!(BeforeOutputWritten: read(image, name, out, answer) {
-    let number = Faithful.read(image, name, out, answer);
+wrong!(BeforeOutputWritten: read(layout, image, name, out, answer) {
+    let number = Faithful.read(layout, image, name, out, answer);
     if number == 0 && !out.start.is_null() {
         out.start.sub(1).write(0);
     }
     number
 });
 
-wrong!(ShortOutputFilled: read(image, name, out, answer) {
-    let number = Faithful.read(image, name, out, answer);
+wrong!(ShortOutputFilled: read(layout, image, name, out, answer) {
+    let number = Faithful.read(layout, image, name, out, answer);
     if number == 16 && answer.len == BLOCK_BYTES {
-        let file = file_read(image, name);
+        let file = file_read(layout, image, name);
         out.bytes_mut().copy_from_slice(&file.bytes[..out.len]);
     }
     number
 });
 
-wrong!(RestCleared: read(image, name, out, answer) {
-    let number = Faithful.read(image, name, out, answer);
+wrong!(RestCleared: read(layout, image, name, out, answer) {
+    let number = Faithful.read(layout, image, name, out, answer);
     if number == 0 {
         out.bytes_mut()[reported_length(answer)..].fill(0);
     }
     number
 });
 
-wrong!(RefusedReadWrites: read(image, name, out, answer) {
-    let number = Faithful.read(image, name, out, answer);
+wrong!(RefusedReadWrites: read(layout, image, name, out, answer) {
+    let number = Faithful.read(layout, image, name, out, answer);
     // As one that copies before it has looked at the map.
     if number == 8 {
         out.bytes_mut().fill(0);
@@ -261,8 +262,8 @@ wrong!(RefusedReadWrites: read(image, name, out, answer) {
     number
 });
 
-wrong!(ImageWritten: read(image, name, out, answer) {
-    let number = Faithful.read(image, name, out, answer);
+wrong!(ImageWritten: read(layout, image, name, out, answer) {
+    let number = Faithful.read(layout, image, name, out, answer);
     if number == 0 {
         // An owner's mark that it forgets to take back.
         image.start.write(image.start.read() ^ 1);
@@ -270,8 +271,8 @@ wrong!(ImageWritten: read(image, name, out, answer) {
     number
 });
 
-wrong!(NameWritten: read(image, name, out, answer) {
-    let number = Faithful.read(image, name, out, answer);
+wrong!(NameWritten: read(layout, image, name, out, answer) {
+    let number = Faithful.read(layout, image, name, out, answer);
     if number == 0 {
         name.bytes_mut().reverse();
     }
@@ -280,18 +281,18 @@ wrong!(NameWritten: read(image, name, out, answer) {
 
 // --- The check ------------------------------------------------------------
 
-wrong!(TargetPlaced: check(image, answer) {
-    let number_given = Faithful.check(image, answer);
+wrong!(TargetPlaced: check(layout, image, answer) {
+    let number_given = Faithful.check(layout, image, answer);
     if number_given == 3 && answer.bytes()[2] == 255 {
         let sector = answer.bytes()[1];
-        let at = 256 * number(18, sector).expect("a directory sector");
+        let at = offset(18, sector);
         answer.bytes_mut()[1] = image.bytes()[at + 1];
     }
     number_given
 });
 
-wrong!(CountUnchecked: check(image, answer) {
-    match Faithful.check(image, answer) {
+wrong!(CountUnchecked: check(layout, image, answer) {
+    match Faithful.check(layout, image, answer) {
         7 => give(answer, Answer::done(0, 0)),
         number => number,
     }
@@ -299,70 +300,70 @@ wrong!(CountUnchecked: check(image, answer) {
 
 // --- Arguments and their order --------------------------------------------
 
-wrong!(NameCut: read(image, name, out, answer) {
+wrong!(NameCut: read(layout, image, name, out, answer) {
     let len = name.len.min(16);
-    Faithful.read(image, Slice { len, ..name }, out, answer)
+    Faithful.read(layout, image, Slice { len, ..name }, out, answer)
 });
 
-wrong!(NameBeforeSize: read(image, name, out, answer) {
+wrong!(NameBeforeSize: read(layout, image, name, out, answer) {
     if name.len == 0 || name.len > 16 {
         return give(answer, Answer::refusal(9));
     }
-    Faithful.read(image, name, out, answer)
+    Faithful.read(layout, image, name, out, answer)
 });
 
-wrong!(ShortBeforeMissing: read(image, name, out, answer) {
-    match Faithful.read(image, name, out, answer) {
+wrong!(ShortBeforeMissing: read(layout, image, name, out, answer) {
+    match Faithful.read(layout, image, name, out, answer) {
         13 if out.len == 0 => give(answer, Answer::refusal(16)),
         number => number,
     }
 });
 
-wrong!(NullRefused: read(image, name, out, answer) {
+wrong!(NullRefused: read(layout, image, name, out, answer) {
     if out.start.is_null() {
         return give(answer, Answer::refusal(16));
     }
-    Faithful.read(image, name, out, answer)
+    Faithful.read(layout, image, name, out, answer)
 });
 
 // --- Tell -----------------------------------------------------------------
 
-wrong!(RefusedTellClears: tell(image, position, entry, answer) {
-    let number = Faithful.tell(image, position, entry, answer);
+wrong!(RefusedTellClears: tell(layout, image, position, entry, answer) {
+    let number = Faithful.tell(layout, image, position, entry, answer);
     if number != 0 && answer.len == BLOCK_BYTES {
         entry.bytes_mut().fill(0);
     }
     number
 });
 
-wrong!(LongEntryRefused: tell(image, position, entry, answer) {
-    match Faithful.tell(image, position, entry, answer) {
+wrong!(LongEntryRefused: tell(layout, image, position, entry, answer) {
+    match Faithful.tell(layout, image, position, entry, answer) {
         0 if entry.len != ENTRY_BYTES => give(answer, Answer::refusal(16)),
         number => number,
     }
 });
 
-wrong!(EmptySlotsCounted: tell(image, position, entry, answer) {
-    let held = contents(image.bytes());
+wrong!(EmptySlotsCounted: tell(layout, image, position, entry, answer) {
+    let held = contents(layout, image.bytes());
     let slot_is = |file: &File| file.slot == position;
     let at = held.and_then(|held| held.files.iter().position(slot_is));
-    Faithful.tell(image, at.unwrap_or(usize::MAX), entry, answer)
+    Faithful.tell(layout, image, at.unwrap_or(usize::MAX), entry, answer)
 });
 
-wrong!(LockHidden: tell(image, position, entry, answer) {
-    let number = Faithful.tell(image, position, entry, answer);
+wrong!(LockHidden: tell(layout, image, position, entry, answer) {
+    let number = Faithful.tell(layout, image, position, entry, answer);
     if number == 0 {
         entry.bytes_mut()[0] &= 0xBF;
     }
     number
 });
 
-wrong!(PositionCut: tell(image, position, entry, answer) {
-    Faithful.tell(image, position & 0xFF, entry, answer)
+wrong!(PositionCut: tell(layout, image, position, entry, answer) {
+    Faithful.tell(layout, image, position & 0xFF, entry, answer)
 });
 
-wrong!(TellReports: tell(image, position, entry, answer) {
-    let number = Faithful.tell(image, position, entry, answer);
+wrong!(TellReports: tell(layout, image, position, entry, answer) {
+    let number = Faithful.tell(layout, image, position, entry, answer);
     if number == 0 {
         let length = &entry.bytes()[21..25];
         answer.bytes_mut()[3..7].copy_from_slice(length);
@@ -370,8 +371,8 @@ wrong!(TellReports: tell(image, position, entry, answer) {
     number
 });
 
-wrong!(TellWithoutMap: tell(image, position, entry, answer) {
-    match Faithful.tell(image, position, entry, answer) {
+wrong!(TellWithoutMap: tell(layout, image, position, entry, answer) {
+    match Faithful.tell(layout, image, position, entry, answer) {
         8 => give(answer, Answer::refusal(13)),
         number => number,
     }
@@ -379,34 +380,34 @@ wrong!(TellWithoutMap: tell(image, position, entry, answer) {
 
 // --- The listing ----------------------------------------------------------
 
-wrong!(LowercaseListing: listing(track18, text, answer) {
-    let number = Faithful.listing(track18, text, answer);
+wrong!(LowercaseListing: listing(layout, track18, text, answer) {
+    let number = Faithful.listing(layout, track18, text, answer);
     if number == 0 {
         text.bytes_mut()[..reported_length(answer)].make_ascii_lowercase();
     }
     number
 });
 
-wrong!(Track18Counted: listing(track18, text, answer) {
-    let number = Faithful.listing(track18, text, answer);
+wrong!(Track18Counted: listing(layout, track18, text, answer) {
+    let number = Faithful.listing(layout, track18, text, answer);
     if number == 0 {
-        let counts = track_18_of(track18.bytes()).chunks(4).skip(1).take(35);
-        let sum: u16 = counts.map(|entry| u16::from(entry[0])).sum();
+        let map = track_18_of(track18.bytes());
+        let sum: u16 = tracks(layout).map(|track| u16::from(map[entry_at(layout, track)])).sum();
         let end = reported_length(answer) - 1;
         text.bytes_mut()[end - 4..end].copy_from_slice(format!("{sum:04X}").as_bytes());
     }
     number
 });
 
-wrong!(ListingUnplaced: listing(track18, text, answer) {
-    match Faithful.listing(track18, text, answer) {
+wrong!(ListingUnplaced: listing(layout, track18, text, answer) {
+    match Faithful.listing(layout, track18, text, answer) {
         number @ 2..=6 => give(answer, Answer::refusal(number as u8)),
         number => number,
     }
 });
 
-wrong!(ShortTextFirst: listing(track18, text, answer) {
-    match Faithful.listing(track18, text, answer) {
+wrong!(ShortTextFirst: listing(layout, track18, text, answer) {
+    match Faithful.listing(layout, track18, text, answer) {
         4..=6 if text.len < LONGEST => give(answer, Answer::refusal(16)),
         number => number,
     }

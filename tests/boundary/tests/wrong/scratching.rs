@@ -1,13 +1,13 @@
 //! Wrong libraries in scratch.
 
 use super::changes::{mark, Change, ScratchEdited};
-use super::{file_read, give, reported_length, slice_of, wrong, Row};
+use super::{file_read, give, is_image, reported_length, slice_of, tracks, wrong, Row};
 use boundary::calls::{EntryPoints, Faithful, Slice};
 use independent::answer::Answer;
-use independent::geometry::{IMAGE_BYTES, TRACK_18_OFFSET};
+use independent::geometry::TRACK_18_OFFSET;
 use independent::host::BLOCK_BYTES;
 use independent::naive::{contents, places, Owner};
-use independent::sound::offset;
+use independent::sound::{map_offset, offset};
 
 pub const WRONG: &[Row] = &[
     (
@@ -153,7 +153,7 @@ pub fn nothing_scratched(image: &mut [u8], change: &Change) {
     image.copy_from_slice(&change.before);
 }
 
-wrong!(AlwaysRefused: scratch(_image, _name, answer) {
+wrong!(AlwaysRefused: scratch(layout, _image, _name, answer) {
     give(answer, Answer::refusal(13))
 });
 
@@ -181,7 +181,7 @@ pub fn directory_shrinks(image: &mut [u8], change: &Change) {
     if empty {
         let at = offset(18, previous);
         (image[at], image[at + 1]) = (0, 0xFF);
-        mark(image, (18, last), true);
+        mark(change.layout, image, (18, last), true);
     }
 }
 
@@ -192,56 +192,61 @@ pub fn map_left(image: &mut [u8], change: &Change) {
 }
 
 pub fn counts_left(image: &mut [u8], change: &Change) {
-    for track in 1..36 {
-        change.restore(image, TRACK_18_OFFSET + 4 * track, 1);
+    for track in tracks(change.layout) {
+        change.restore(image, map_offset(change.layout, track), 1);
     }
 }
 
 pub fn one_left_used(image: &mut [u8], change: &Change) {
-    mark(image, change.file.chain[change.chain.len() - 1], false);
+    mark(
+        change.layout,
+        image,
+        change.file.chain[change.chain.len() - 1],
+        false,
+    );
 }
 
 /// One sector too many is freed: another file's.
 pub fn one_too_many_freed(image: &mut [u8], change: &Change) {
     let mine = Owner::File(change.file.slot);
     let others = |owner: &Owner| matches!(owner, Owner::File(_)) && *owner != mine;
-    let mut owned = places().zip(&change.held.owners);
+    let mut owned = places(change.layout).zip(&change.held.owners);
     if let Some((place, _)) = owned.find(|(_, owner)| others(owner)) {
-        mark(image, place, true);
+        mark(change.layout, image, place, true);
     }
 }
 
 // --- Which file, and the report -------------------------------------------
 
-wrong!(FirstFileScratched: scratch(image, name, answer) {
-    let files = contents(image.bytes()).map_or(Vec::new(), |held| held.files);
+wrong!(FirstFileScratched: scratch(layout, image, name, answer) {
+    let files = contents(layout, image.bytes()).map_or(Vec::new(), |held| held.files);
     let first = files.first().map(|file| file.name.clone());
     let there = files.iter().any(|file| file.name == name.bytes());
     match first.filter(|_| there) {
-        Some(mut first) => Faithful.scratch(image, slice_of(&mut first), answer),
-        None => Faithful.scratch(image, name, answer),
+        Some(mut first) => Faithful.scratch(layout, image, slice_of(&mut first), answer),
+        None => Faithful.scratch(layout, image, name, answer),
     }
 });
 
-wrong!(LockedRefused: scratch(image, name, answer) {
+wrong!(LockedRefused: scratch(layout, image, name, answer) {
     let before = image.bytes().to_vec();
-    let number = Faithful.scratch(image, name, answer);
-    if number == 0 && file_read(slice_of(&mut before.clone()), name).type_byte & 0x40 != 0 {
+    let number = Faithful.scratch(layout, image, name, answer);
+    if number == 0 && file_read(layout, slice_of(&mut before.clone()), name).type_byte & 0x40 != 0 {
         image.bytes_mut().copy_from_slice(&before);
         return give(answer, Answer::refusal(11));
     }
     number
 });
 
-wrong!(NothingReported: scratch(image, name, answer) {
-    match Faithful.scratch(image, name, answer) {
+wrong!(NothingReported: scratch(layout, image, name, answer) {
+    match Faithful.scratch(layout, image, name, answer) {
         0 => give(answer, Answer::done(0, 0)),
         number => number,
     }
 });
 
-wrong!(SectorsFromLength: scratch(image, name, answer) {
-    let number = Faithful.scratch(image, name, answer);
+wrong!(SectorsFromLength: scratch(layout, image, name, answer) {
+    let number = Faithful.scratch(layout, image, name, answer);
     if number == 0 {
         let length = reported_length(answer);
         let sectors = length.div_ceil(254).max(1);
@@ -250,8 +255,8 @@ wrong!(SectorsFromLength: scratch(image, name, answer) {
     number
 });
 
-wrong!(LengthFromSectors: scratch(image, name, answer) {
-    let number = Faithful.scratch(image, name, answer);
+wrong!(LengthFromSectors: scratch(layout, image, name, answer) {
+    let number = Faithful.scratch(layout, image, name, answer);
     if number == 0 {
         let block = answer.bytes();
         let sectors = u16::from_le_bytes([block[7], block[8]]);
@@ -262,34 +267,34 @@ wrong!(LengthFromSectors: scratch(image, name, answer) {
 
 // --- Refusals -------------------------------------------------------------
 
-wrong!(VersionUnasked: scratch(image, name, answer) {
-    match Faithful.scratch(image, name, answer) {
+wrong!(VersionUnasked: scratch(layout, image, name, answer) {
+    match Faithful.scratch(layout, image, name, answer) {
         11 => give(answer, Answer::refusal(13)),
         number => number,
     }
 });
 
-wrong!(VersionBeforeFaults: scratch(image, name, answer) {
+wrong!(VersionBeforeFaults: scratch(layout, image, name, answer) {
     let bytes = image.bytes();
-    let forbidden = bytes.len() == IMAGE_BYTES && !matches!(bytes[TRACK_18_OFFSET + 2], 0x41 | 0x00);
-    match Faithful.scratch(image, name, answer) {
+    let forbidden = is_image(layout, bytes) && !matches!(bytes[TRACK_18_OFFSET + 2], 0x41 | 0x00);
+    match Faithful.scratch(layout, image, name, answer) {
         2..=8 if forbidden => give(answer, Answer::refusal(11)),
         number => number,
     }
 });
 
-wrong!(RefusedYetWritten: scratch(image, name, answer) {
-    let number = Faithful.scratch(image, name, answer);
+wrong!(RefusedYetWritten: scratch(layout, image, name, answer) {
+    let number = Faithful.scratch(layout, image, name, answer);
     if number == 13 {
         image.start.write(image.start.read() ^ 1);
     }
     number
 });
 
-wrong!(WrongBlockYetScratched: scratch(image, name, answer) {
+wrong!(WrongBlockYetScratched: scratch(layout, image, name, answer) {
     if answer.len == BLOCK_BYTES {
-        return Faithful.scratch(image, name, answer);
+        return Faithful.scratch(layout, image, name, answer);
     }
-    Faithful.scratch(image, name, slice_of(&mut [0; BLOCK_BYTES]));
+    Faithful.scratch(layout, image, name, slice_of(&mut [0; BLOCK_BYTES]));
     16
 });

@@ -3,12 +3,13 @@
 
 use super::changes::{mark, Change, ScratchEdited, StoreEdited};
 use super::formatting::FormatEdited;
-use super::{file_read, give, reported_length, slice_of, wrong, Row};
+use super::{
+    file_read, give, house_tracks, is_image, reported_length, slice_of, tracks, wrong, Row,
+};
 use boundary::calls::{EntryPoints, Faithful, Slice};
 use independent::answer::Answer;
 use independent::check::check;
-use independent::geometry::IMAGE_BYTES;
-use independent::naive::{contents, places, track_length, Owner, Place};
+use independent::naive::{contents, entry_at, places, track_length, Owner, Place};
 use independent::request::track_18_of;
 use independent::sound::{map_offset, offset, spare_mask};
 
@@ -166,16 +167,16 @@ fn ones(byte: u8) -> u8 {
 pub struct CheckSees(pub fn(u8, [u8; 4]) -> [u8; 4]);
 
 impl EntryPoints for CheckSees {
-    unsafe fn check(&self, image: Slice, answer: Slice) -> u32 {
+    unsafe fn check(&self, layout: u32, image: Slice, answer: Slice) -> u32 {
         let mut seen = unsafe { image.bytes() }.to_vec();
-        if seen.len() == IMAGE_BYTES {
-            for track in 1..=35 {
-                let entry = &mut seen[map_offset(track)..][..4];
+        if is_image(layout, &seen) {
+            for track in tracks(layout) {
+                let entry = &mut seen[map_offset(layout, track)..][..4];
                 let is = [entry[0], entry[1], entry[2], entry[3]];
                 entry.copy_from_slice(&self.0(track, is));
             }
         }
-        unsafe { Faithful.check(slice_of(&mut seen), answer) }
+        unsafe { Faithful.check(layout, slice_of(&mut seen), answer) }
     }
 }
 
@@ -229,15 +230,15 @@ pub fn twenty_one_bits(track: u8, is: [u8; 4]) -> [u8; 4] {
 pub struct CheckIgnores(pub fn(u8) -> u8);
 
 impl EntryPoints for CheckIgnores {
-    unsafe fn check(&self, image: Slice, answer: Slice) -> u32 {
+    unsafe fn check(&self, layout: u32, image: Slice, answer: Slice) -> u32 {
         let mut seen = unsafe { image.bytes() }.to_vec();
         loop {
-            let number = unsafe { Faithful.check(slice_of(&mut seen), answer) };
+            let number = unsafe { Faithful.check(layout, slice_of(&mut seen), answer) };
             if number != 8 {
                 return number;
             }
             let track = unsafe { answer.bytes() }[0];
-            if !made_right(&mut seen, track, self.0(track)) {
+            if !made_right(layout, &mut seen, track, self.0(track)) {
                 return number;
             }
         }
@@ -246,12 +247,12 @@ impl EntryPoints for CheckIgnores {
 
 /// Makes a track's entry right by the ignored bits alone; false if that can't
 /// be done.
-fn made_right(image: &mut [u8], track: u8, ignored: u8) -> bool {
-    let last = map_offset(track) + 3;
+fn made_right(layout: u32, image: &mut [u8], track: u8, ignored: u8) -> bool {
+    let last = map_offset(layout, track) + 3;
     let old = image[last];
     for bits in (0..=0xFF).filter(|bits| bits & !ignored == 0) {
         image[last] = old & !ignored | bits;
-        let found = check(image);
+        let found = check(layout, image);
         if (found.number, found.place.track) != (8, track) {
             return true;
         }
@@ -273,20 +274,22 @@ fn last_sector(track: u8, from: u8, to: u8) -> u8 {
     }
 }
 
-wrong!(CheckClears: check(image, answer) {
-    let number = Faithful.check(image, answer);
+wrong!(CheckClears: check(layout, image, answer) {
+    let number = Faithful.check(layout, image, answer);
     if number == 0 {
-        put_spare(image.bytes_mut(), 1..=35, 0);
+        put_spare(layout, image.bytes_mut(), tracks(layout), 0);
     }
     number
 });
 
-wrong!(ListingCounts: listing(track18, text, answer) {
-    let number = Faithful.listing(track18, text, answer);
+wrong!(ListingCounts: listing(layout, track18, text, answer) {
+    let number = Faithful.listing(layout, track18, text, answer);
     if number == 0 {
-        let entries = track_18_of(track18.bytes()).chunks(4).zip(0..=35).skip(1);
-        let room = entries.filter(|(_, track)| *track != 18);
-        let counts = room.flat_map(|(is, track)| [is[0], ones(spare_of(is, track))]);
+        let map = track_18_of(track18.bytes());
+        let counts = house_tracks(layout).flat_map(|track| {
+            let is = &map[entry_at(layout, track)..][..4];
+            [is[0], ones(spare_of(is, track))]
+        });
         let sum: u16 = counts.map(u16::from).sum();
         let end = reported_length(answer) - 1;
         text.bytes_mut()[end - 4..end].copy_from_slice(format!("{sum:04X}").as_bytes());
@@ -297,187 +300,198 @@ wrong!(ListingCounts: listing(track18, text, answer) {
 // --- The calls that check first -------------------------------------------
 
 /// What the check said of an accepted image with spare bits set.
-fn fault_before(image: &[u8]) -> Option<Answer> {
-    contents(image)?;
-    let is_set = |track: &u8| spare_of(&image[map_offset(*track)..], *track) != 0;
-    let track = (1..=35).find(is_set)?;
+fn fault_before(layout: u32, image: &[u8]) -> Option<Answer> {
+    contents(layout, image)?;
+    let is_set = |track: &u8| spare_of(&image[map_offset(layout, *track)..], *track) != 0;
+    let track = tracks(layout).find(is_set)?;
     Some(Answer::fault(8, track, 255, 255))
 }
 
 /// What a check says where no fault of an argument comes first.
 pub unsafe fn fault_after_name(
+    layout: u32,
     image: Slice,
     name: Slice,
-    check: fn(&[u8]) -> Option<Answer>,
+    check: fn(u32, &[u8]) -> Option<Answer>,
 ) -> Option<Answer> {
     let (image, name) = unsafe { (image.bytes(), name.bytes()) };
     let good = (1..=16).contains(&name.len()) && !name.contains(&0xA0);
-    check(image).filter(|_| good)
+    check(layout, image).filter(|_| good)
 }
 
-wrong!(ReadStillRefuses: read(image, name, out, answer) {
-    match fault_after_name(image, name, fault_before) {
+wrong!(ReadStillRefuses: read(layout, image, name, out, answer) {
+    match fault_after_name(layout, image, name, fault_before) {
         Some(fault) => give(answer, fault),
-        None => Faithful.read(image, name, out, answer),
+        None => Faithful.read(layout, image, name, out, answer),
     }
 });
 
-wrong!(TellStillRefuses: tell(image, position, entry, answer) {
-    match fault_before(image.bytes()) {
+wrong!(TellStillRefuses: tell(layout, image, position, entry, answer) {
+    match fault_before(layout, image.bytes()) {
         Some(fault) => give(answer, fault),
-        None => Faithful.tell(image, position, entry, answer),
+        None => Faithful.tell(layout, image, position, entry, answer),
     }
 });
 
-wrong!(StoreStillRefuses: store(image, name, kind, data, answer) {
-    match fault_after_name(image, name, fault_before) {
+wrong!(StoreStillRefuses: store(layout, image, name, kind, data, answer) {
+    match fault_after_name(layout, image, name, fault_before) {
         Some(fault) if (1..=2).contains(&kind) => give(answer, fault),
-        _ => Faithful.store(image, name, kind, data, answer),
+        _ => Faithful.store(layout, image, name, kind, data, answer),
     }
 });
 
-wrong!(ScratchStillRefuses: scratch(image, name, answer) {
-    match fault_after_name(image, name, fault_before) {
+wrong!(ScratchStillRefuses: scratch(layout, image, name, answer) {
+    match fault_after_name(layout, image, name, fault_before) {
         Some(fault) => give(answer, fault),
-        None => Faithful.scratch(image, name, answer),
+        None => Faithful.scratch(layout, image, name, answer),
     }
 });
 
 // --- What store and scratch leave -----------------------------------------
 
 /// Gives the spare bits of some tracks the values of a byte's.
-fn put_spare(image: &mut [u8], tracks: impl IntoIterator<Item = u8>, byte: u8) {
+fn put_spare(layout: u32, image: &mut [u8], tracks: impl IntoIterator<Item = u8>, byte: u8) {
     for track in tracks {
-        let (last, mask) = (&mut image[map_offset(track) + 3], spare_mask(track));
+        let (last, mask) = (&mut image[map_offset(layout, track) + 3], spare_mask(track));
         *last = *last & !mask | byte & mask;
     }
 }
 
 /// The tracks whose entries the call changed.
 fn written(image: &[u8], change: &Change) -> Vec<u8> {
-    let entry = |track| map_offset(track)..map_offset(track) + 4;
+    let entry = |track| map_offset(change.layout, track)..map_offset(change.layout, track) + 4;
     let differs = |track: &u8| image[entry(*track)] != change.before[entry(*track)];
-    (1..=35).filter(differs).collect()
+    tracks(change.layout).filter(differs).collect()
 }
 
-pub fn cleared(image: &mut [u8], _change: &Change) {
-    put_spare(image, 1..=35, 0);
+pub fn cleared(image: &mut [u8], change: &Change) {
+    put_spare(change.layout, image, tracks(change.layout), 0);
 }
 
 pub fn cleared_where_written(image: &mut [u8], change: &Change) {
     let tracks = written(image, change);
-    put_spare(image, tracks, 0);
+    put_spare(change.layout, image, tracks, 0);
 }
 
 pub fn cleared_by_growth(image: &mut [u8], change: &Change) {
     if change.grown.is_some() {
-        put_spare(image, [18], 0);
+        put_spare(change.layout, image, [18], 0);
     }
 }
 
-pub fn set(image: &mut [u8], _change: &Change) {
-    put_spare(image, 1..=35, 0xFF);
+pub fn set(image: &mut [u8], change: &Change) {
+    put_spare(change.layout, image, tracks(change.layout), 0xFF);
 }
 
 pub fn set_where_written(image: &mut [u8], change: &Change) {
     let tracks = written(image, change);
-    put_spare(image, tracks, 0xFF);
+    put_spare(change.layout, image, tracks, 0xFF);
 }
 
 /// The new counts are those of all 24 bits.
 pub fn counted(image: &mut [u8], change: &Change) {
     for track in written(image, change) {
-        let entry = &mut image[map_offset(track)..][..4];
+        let entry = &mut image[map_offset(change.layout, track)..][..4];
         entry[0] += ones(spare_of(entry, track));
     }
 }
 
 /// The map is made of zeros, and each free sector marked in it.
-pub fn written_anew(image: &mut [u8], _change: &Change) {
-    let held = contents(image).expect("an accepted image");
-    image[map_offset(1)..map_offset(36)].fill(0);
-    for (place, owner) in places().zip(&held.owners) {
-        mark(image, place, *owner == Owner::Nobody);
+pub fn written_anew(image: &mut [u8], change: &Change) {
+    let held = contents(change.layout, image).expect("an accepted image");
+    for track in tracks(change.layout) {
+        image[map_offset(change.layout, track)..][..4].fill(0);
+    }
+    for (place, owner) in places(change.layout).zip(&held.owners) {
+        mark(change.layout, image, place, *owner == Owner::Nobody);
     }
 }
 
 // --- What is no sector ----------------------------------------------------
 
 /// Whether the bit is set that comes after those of a track's sectors.
-fn next_bit_is_set(image: &[u8], track: u8) -> bool {
-    image[map_offset(track) + 3] & (1 << (track_length(track) - 16)) != 0
+fn next_bit_is_set(layout: u32, image: &[u8], track: u8) -> bool {
+    image[map_offset(layout, track) + 3] & (1 << (track_length(track) - 16)) != 0
 }
 
 /// Links a sector to the one that would come after a track's last, and takes
 /// that one's bit.
-fn lead_past(image: &mut [u8], from: Place, track: u8) {
+fn lead_past(layout: u32, image: &mut [u8], from: Place, track: u8) {
     let at = offset(from.0, from.1);
     image[at..at + 2].copy_from_slice(&[track, track_length(track)]);
-    image[map_offset(track) + 3] &= !(1 << (track_length(track) - 16));
+    image[map_offset(layout, track) + 3] &= !(1 << (track_length(track) - 16));
 }
 
 /// A file that goes on to another track takes one sector more of the first.
 pub fn past_the_end(image: &mut [u8], change: &Change) {
     for pair in change.file.chain.windows(2) {
         let (track, last) = (pair[0].0, track_length(pair[0].0) - 1);
-        if pair[0].1 == last && pair[1].0 != track && next_bit_is_set(&change.before, track) {
-            lead_past(image, pair[0], track);
-            return mark(image, pair[1], true);
+        if pair[0].1 == last
+            && pair[1].0 != track
+            && next_bit_is_set(change.layout, &change.before, track)
+        {
+            lead_past(change.layout, image, pair[0], track);
+            return mark(change.layout, image, pair[1], true);
         }
     }
 }
 
 // Where one sector is lacking, it is 17/21.
-wrong!(TakenAsRoom: store(image, name, kind, data, answer) {
-    let number = Faithful.store(image, name, kind, data, answer);
-    let held = contents(image.bytes()).filter(|_| number == 15);
+wrong!(TakenAsRoom: store(layout, image, name, kind, data, answer) {
+    let number = Faithful.store(layout, image, name, kind, data, answer);
+    let held = contents(layout, image.bytes()).filter(|_| number == 15);
     let free = held.map_or(0, |held| held.free_off_track_18());
     let lacks_one = free > 0 && data.len.div_ceil(254) == free + 1;
-    if !lacks_one || !next_bit_is_set(image.bytes(), 17) {
+    if !lacks_one || !next_bit_is_set(layout, image.bytes(), 17) {
         return number;
     }
-    Faithful.store(image, name, kind, Slice { len: 254 * free, ..data }, answer);
-    let file = file_read(image, name);
-    lead_past(image.bytes_mut(), file.chain[free - 1], 17);
+    Faithful.store(layout, image, name, kind, Slice { len: 254 * free, ..data }, answer);
+    let file = file_read(layout, image, name);
+    lead_past(layout, image.bytes_mut(), file.chain[free - 1], 17);
     give(answer, Answer::done(data.len as u32, free as u16 + 1))
 });
 
-wrong!(TakenByDirectory: store(image, name, kind, data, answer) {
-    let number = Faithful.store(image, name, kind, data, answer);
-    if number != 14 || !next_bit_is_set(image.bytes(), 18) {
+wrong!(TakenByDirectory: store(layout, image, name, kind, data, answer) {
+    let number = Faithful.store(layout, image, name, kind, data, answer);
+    if number != 14 || !next_bit_is_set(layout, image.bytes(), 18) {
         return number;
     }
-    let directory = contents(image.bytes()).expect("an accepted image").directory;
-    lead_past(image.bytes_mut(), (18, directory[directory.len() - 1]), 18);
+    let directory = contents(layout, image.bytes()).expect("an accepted image").directory;
+    lead_past(layout, image.bytes_mut(), (18, directory[directory.len() - 1]), 18);
     give(answer, Answer::done(data.len as u32, data.len.div_ceil(254).max(1) as u16))
 });
 
 // --- Refusals, and format -------------------------------------------------
 
-wrong!(RefusedStoreClears: store(image, name, kind, data, answer) {
-    let number = Faithful.store(image, name, kind, data, answer);
+wrong!(RefusedStoreClears: store(layout, image, name, kind, data, answer) {
+    let number = Faithful.store(layout, image, name, kind, data, answer);
     if matches!(number, 12 | 14 | 15) {
-        put_spare(image.bytes_mut(), 1..=35, 0);
+        put_spare(layout, image.bytes_mut(), tracks(layout), 0);
     }
     number
 });
 
-wrong!(RefusedScratchClears: scratch(image, name, answer) {
-    let number = Faithful.scratch(image, name, answer);
+wrong!(RefusedScratchClears: scratch(layout, image, name, answer) {
+    let number = Faithful.scratch(layout, image, name, answer);
     if number == 13 {
-        put_spare(image.bytes_mut(), 1..=35, 0);
+        put_spare(layout, image.bytes_mut(), tracks(layout), 0);
     }
     number
 });
 
 /// Those of the disk that was there.
-pub fn kept(image: &mut [u8], before: &[u8]) {
-    for track in 1..=35 {
-        put_spare(image, [track], before[map_offset(track) + 3]);
+pub fn kept(layout: u32, image: &mut [u8], before: &[u8]) {
+    for track in tracks(layout) {
+        put_spare(
+            layout,
+            image,
+            [track],
+            before[map_offset(layout, track) + 3],
+        );
     }
 }
 
 /// As document 000 shows a track: `15 FF FF FF`.
-pub fn set_by_format(image: &mut [u8], _before: &[u8]) {
-    put_spare(image, 1..=35, 0xFF);
+pub fn set_by_format(layout: u32, image: &mut [u8], _before: &[u8]) {
+    put_spare(layout, image, tracks(layout), 0xFF);
 }

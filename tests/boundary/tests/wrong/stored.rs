@@ -1,9 +1,8 @@
 //! Wrong stores that answer right and leave a wrong image.
 
 use super::changes::{mark, Change, StoreEdited};
-use super::Row;
-use independent::geometry::house_tracks;
-use independent::naive::{track_length, Place};
+use super::{house_tracks, Row};
+use independent::naive::{last_track, track_length, Place};
 use independent::sound::offset;
 
 pub const WRONG: &[Row] = &[
@@ -182,7 +181,7 @@ pub fn placed(image: &mut [u8], change: &Change, order: impl Iterator<Item = Pla
         .collect();
     for (&at, &place) in change.chain.iter().zip(&change.file.chain) {
         change.restore_sector(image, at);
-        mark(image, place, true);
+        mark(change.layout, image, place, true);
     }
     let parts = change.file.bytes.chunks(254).chain([&[][..]]);
     for (turn, (&(track, sector), part)) in chain.iter().zip(parts).enumerate() {
@@ -191,36 +190,45 @@ pub fn placed(image: &mut [u8], change: &Change, order: impl Iterator<Item = Pla
         bytes.fill(0);
         (bytes[0], bytes[1]) = link.unwrap_or((0, part.len() as u8 + 1));
         bytes[2..2 + part.len()].copy_from_slice(part);
-        mark(image, (track, sector), false);
+        mark(change.layout, image, (track, sector), false);
     }
     (image[change.slot + 3], image[change.slot + 4]) = chain[0];
 }
 
 /// The sectors of tracks, upward.
-fn upward(tracks: impl Iterator<Item = u8>) -> impl Iterator<Item = Place> {
+pub fn upward(tracks: impl Iterator<Item = u8>) -> impl Iterator<Item = Place> {
     tracks.flat_map(|track| (0..track_length(track)).map(move |sector| (track, sector)))
+}
+
+/// The tracks past 18, upward.
+fn past_18(change: &Change) -> impl Iterator<Item = u8> {
+    19..=last_track(change.layout)
 }
 
 /// The right order, which moves nothing.
 pub fn house_order(image: &mut [u8], change: &Change) {
-    placed(image, change, upward(house_tracks()));
+    placed(image, change, upward(house_tracks(change.layout)));
 }
 
 pub fn tracks_upward(image: &mut [u8], change: &Change) {
-    placed(image, change, upward((1..18).chain(19..36)));
+    placed(image, change, upward((1..18).chain(past_18(change))));
 }
 
 pub fn outer_tracks_first(image: &mut [u8], change: &Change) {
-    placed(image, change, upward((19..36).chain((1..18).rev())));
+    placed(image, change, upward(past_18(change).chain((1..18).rev())));
 }
 
 pub fn sectors_downward(image: &mut [u8], change: &Change) {
     let down = |track| (0..track_length(track)).rev().map(move |s| (track, s));
-    placed(image, change, house_tracks().flat_map(down));
+    placed(image, change, house_tracks(change.layout).flat_map(down));
 }
 
 pub fn track_18_taken(image: &mut [u8], change: &Change) {
-    placed(image, change, upward((1..18).rev().chain(18..36)));
+    placed(
+        image,
+        change,
+        upward((1..18).rev().chain([18]).chain(past_18(change))),
+    );
 }
 
 // --- The slot -------------------------------------------------------------
@@ -285,7 +293,7 @@ pub fn grown_sector_without_its_end(image: &mut [u8], change: &Change) {
 
 pub fn grown_sector_marked_free(image: &mut [u8], change: &Change) {
     if let Some(sector) = change.grown {
-        mark(image, (18, sector), true);
+        mark(change.layout, image, (18, sector), true);
     }
 }
 
@@ -307,6 +315,6 @@ pub fn highest_sector_joins(image: &mut [u8], change: &Change) {
     change.restore_sector(image, from);
     image[offset(18, to)..][..256].copy_from_slice(&bytes);
     image[change.last + 1] = to;
-    mark(image, (18, change.grown.unwrap_or(to)), true);
-    mark(image, (18, to), false);
+    mark(change.layout, image, (18, change.grown.unwrap_or(to)), true);
+    mark(change.layout, image, (18, to), false);
 }

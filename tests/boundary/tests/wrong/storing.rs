@@ -1,11 +1,11 @@
 //! Wrong stores that give another answer, or write where they may not.
 
 use super::changes::mark;
-use super::{give, slice_of, wrong, Row};
+use super::{give, is_image, slice_of, wrong, Row};
 use boundary::calls::{EntryPoints, Faithful, Slice};
 use independent::answer::Answer;
 use independent::calls::sectors_needed;
-use independent::geometry::{IMAGE_BYTES, TRACK_18_OFFSET};
+use independent::geometry::TRACK_18_OFFSET;
 use independent::host::BLOCK_BYTES;
 use independent::naive::{contents, places, Owner, Place};
 
@@ -88,70 +88,70 @@ pub const WRONG: &[Row] = &[
 
 // --- Errors met before ----------------------------------------------------
 
-wrong!(MapLinkTrusted: store(image, name, kind, data, answer) {
+wrong!(MapLinkTrusted: store(layout, image, name, kind, data, answer) {
     let bytes = image.bytes();
-    if bytes.len() == IMAGE_BYTES && bytes[TRACK_18_OFFSET..][..2] != [18, 1] {
+    if is_image(layout, bytes) && bytes[TRACK_18_OFFSET..][..2] != [18, 1] {
         return give(answer, Answer::fault(2, 18, 0, 255));
     }
-    Faithful.store(image, name, kind, data, answer)
+    Faithful.store(layout, image, name, kind, data, answer)
 });
 
-wrong!(Track18CountedAsRoom: store(image, name, kind, data, answer) {
-    let number = Faithful.store(image, name, kind, data, answer);
+wrong!(Track18CountedAsRoom: store(layout, image, name, kind, data, answer) {
+    let number = Faithful.store(layout, image, name, kind, data, answer);
     let needed = sectors_needed(data.len);
-    if number == 15 && needed <= free_anywhere(image.bytes()) {
+    if number == 15 && needed <= free_anywhere(layout, image.bytes()) {
         return give(answer, Answer::done(data.len as u32, needed as u16));
     }
     number
 });
 
 /// Free sectors, track 18 counted.
-fn free_anywhere(image: &[u8]) -> usize {
-    let owners = contents(image).expect("an accepted image").owners;
+fn free_anywhere(layout: u32, image: &[u8]) -> usize {
+    let owners = contents(layout, image).expect("an accepted image").owners;
     owners
         .iter()
         .filter(|owner| **owner == Owner::Nobody)
         .count()
 }
 
-wrong!(MapMarkedBeforeFull: store(image, name, kind, data, answer) {
-    let number = Faithful.store(image, name, kind, data, answer);
+wrong!(MapMarkedBeforeFull: store(layout, image, name, kind, data, answer) {
+    let number = Faithful.store(layout, image, name, kind, data, answer);
     if number == 14 {
-        mark_first_free(image.bytes_mut(), sectors_needed(data.len));
+        mark_first_free(layout, image.bytes_mut(), sectors_needed(data.len));
     }
     number
 });
 
-wrong!(MapMarkedBeforeNoRoom: store(image, name, kind, data, answer) {
-    let number = Faithful.store(image, name, kind, data, answer);
+wrong!(MapMarkedBeforeNoRoom: store(layout, image, name, kind, data, answer) {
+    let number = Faithful.store(layout, image, name, kind, data, answer);
     if number == 15 {
-        mark_first_free(image.bytes_mut(), sectors_needed(data.len));
+        mark_first_free(layout, image.bytes_mut(), sectors_needed(data.len));
     }
     number
 });
 
 /// Marks the sectors used that a store would take.
-fn mark_first_free(image: &mut [u8], count: usize) {
-    let held = contents(image).expect("an accepted image");
-    let free: Vec<Place> = places()
+fn mark_first_free(layout: u32, image: &mut [u8], count: usize) {
+    let held = contents(layout, image).expect("an accepted image");
+    let free: Vec<Place> = places(layout)
         .zip(&held.owners)
         .filter(|((track, _), owner)| *track != 18 && **owner == Owner::Nobody)
         .map(|(place, _)| place)
         .take(count)
         .collect();
     for place in free {
-        mark(image, place, false);
+        mark(layout, image, place, false);
     }
 }
 
 // --- Cheats ---------------------------------------------------------------
 
-wrong!(AlwaysRefused: store(_image, _name, _kind, _data, answer) {
+wrong!(AlwaysRefused: store(layout, _image, _name, _kind, _data, answer) {
     give(answer, Answer::refusal(15))
 });
 
-wrong!(OneSectorReported: store(image, name, kind, data, answer) {
-    match Faithful.store(image, name, kind, data, answer) {
+wrong!(OneSectorReported: store(layout, image, name, kind, data, answer) {
+    match Faithful.store(layout, image, name, kind, data, answer) {
         0 => give(answer, Answer::done(data.len as u32, 1)),
         number => number,
     }
@@ -159,22 +159,22 @@ wrong!(OneSectorReported: store(image, name, kind, data, answer) {
 
 // --- The report -----------------------------------------------------------
 
-wrong!(NoSectorForNoBytes: store(image, name, kind, data, answer) {
-    match Faithful.store(image, name, kind, data, answer) {
+wrong!(NoSectorForNoBytes: store(layout, image, name, kind, data, answer) {
+    match Faithful.store(layout, image, name, kind, data, answer) {
         0 if data.len == 0 => give(answer, Answer::done(0, 0)),
         number => number,
     }
 });
 
-wrong!(OneSectorMoreForFullOnes: store(image, name, kind, data, answer) {
-    match Faithful.store(image, name, kind, data, answer) {
+wrong!(OneSectorMoreForFullOnes: store(layout, image, name, kind, data, answer) {
+    match Faithful.store(layout, image, name, kind, data, answer) {
         0 => give(answer, Answer::done(data.len as u32, (data.len / 254 + 1) as u16)),
         number => number,
     }
 });
 
-wrong!(LengthCut: store(image, name, kind, data, answer) {
-    let number = Faithful.store(image, name, kind, data, answer);
+wrong!(LengthCut: store(layout, image, name, kind, data, answer) {
+    let number = Faithful.store(layout, image, name, kind, data, answer);
     if number == 0 {
         answer.bytes_mut()[5] = 0;
     }
@@ -183,26 +183,26 @@ wrong!(LengthCut: store(image, name, kind, data, answer) {
 
 // --- Arguments and their order --------------------------------------------
 
-wrong!(KindCut: store(image, name, kind, data, answer) {
-    Faithful.store(image, name, kind & 0xFF, data, answer)
+wrong!(KindCut: store(layout, image, name, kind, data, answer) {
+    Faithful.store(layout, image, name, kind & 0xFF, data, answer)
 });
 
-wrong!(NameCut: store(image, name, kind, data, answer) {
+wrong!(NameCut: store(layout, image, name, kind, data, answer) {
     let len = name.len.min(16);
-    Faithful.store(image, Slice { len, ..name }, kind, data, answer)
+    Faithful.store(layout, image, Slice { len, ..name }, kind, data, answer)
 });
 
-wrong!(KindBeforeName: store(image, name, kind, data, answer) {
-    match Faithful.store(image, name, kind, data, answer) {
+wrong!(KindBeforeName: store(layout, image, name, kind, data, answer) {
+    match Faithful.store(layout, image, name, kind, data, answer) {
         9 if !(1..=2).contains(&kind) => give(answer, Answer::refusal(10)),
         number => number,
     }
 });
 
-wrong!(CheckBeforeKind: store(image, name, kind, data, answer) {
-    match Faithful.store(image, name, kind, data, answer) {
+wrong!(CheckBeforeKind: store(layout, image, name, kind, data, answer) {
+    match Faithful.store(layout, image, name, kind, data, answer) {
         10 => {
-            let number = Faithful.check(image, answer);
+            let number = Faithful.check(layout, image, answer);
             if number == 0 { give(answer, Answer::refusal(10)) } else { number }
         }
         number => number,
@@ -210,34 +210,34 @@ wrong!(CheckBeforeKind: store(image, name, kind, data, answer) {
 });
 
 /// Whether the DOS version allows writing.
-unsafe fn writable(image: Slice) -> bool {
+unsafe fn writable(layout: u32, image: Slice) -> bool {
     let bytes = unsafe { image.bytes() };
-    bytes.len() != IMAGE_BYTES || matches!(bytes[TRACK_18_OFFSET + 2], 0x41 | 0x00)
+    !is_image(layout, bytes) || matches!(bytes[TRACK_18_OFFSET + 2], 0x41 | 0x00)
 }
 
-wrong!(VersionBeforeFaults: store(image, name, kind, data, answer) {
-    match Faithful.store(image, name, kind, data, answer) {
-        2..=8 if !writable(image) => give(answer, Answer::refusal(11)),
+wrong!(VersionBeforeFaults: store(layout, image, name, kind, data, answer) {
+    match Faithful.store(layout, image, name, kind, data, answer) {
+        2..=8 if !writable(layout, image) => give(answer, Answer::refusal(11)),
         number => number,
     }
 });
 
-wrong!(VersionUnasked: store(image, name, kind, data, answer) {
-    let asked = !writable(image) && Faithful.check(image, slice_of(&mut [0; 9])) == 0;
+wrong!(VersionUnasked: store(layout, image, name, kind, data, answer) {
+    let asked = !writable(layout, image) && Faithful.check(layout, image, slice_of(&mut [0; 9])) == 0;
     let version = if asked { image.bytes()[TRACK_18_OFFSET + 2] } else { 0x41 };
     if asked {
         image.bytes_mut()[TRACK_18_OFFSET + 2] = 0x41;
     }
-    let number = Faithful.store(image, name, kind, data, answer);
+    let number = Faithful.store(layout, image, name, kind, data, answer);
     if asked {
         image.bytes_mut()[TRACK_18_OFFSET + 2] = version;
     }
     number
 });
 
-wrong!(Version00Refused: store(image, name, kind, data, answer) {
+wrong!(Version00Refused: store(layout, image, name, kind, data, answer) {
     let old = image.bytes().to_vec();
-    let number = Faithful.store(image, name, kind, data, answer);
+    let number = Faithful.store(layout, image, name, kind, data, answer);
     if number == 0 && old[TRACK_18_OFFSET + 2] == 0 {
         image.bytes_mut().copy_from_slice(&old);
         return give(answer, Answer::refusal(11));
@@ -245,41 +245,41 @@ wrong!(Version00Refused: store(image, name, kind, data, answer) {
     number
 });
 
-wrong!(NameReplaced: store(image, name, kind, data, answer) {
-    match Faithful.store(image, name, kind, data, answer) {
+wrong!(NameReplaced: store(layout, image, name, kind, data, answer) {
+    match Faithful.store(layout, image, name, kind, data, answer) {
         12 => {
-            Faithful.scratch(image, name, answer);
-            Faithful.store(image, name, kind, data, answer)
+            Faithful.scratch(layout, image, name, answer);
+            Faithful.store(layout, image, name, kind, data, answer)
         }
         number => number,
     }
 });
 
-wrong!(RoomBeforeSlot: store(image, name, kind, data, answer) {
-    match Faithful.store(image, name, kind, data, answer) {
+wrong!(RoomBeforeSlot: store(layout, image, name, kind, data, answer) {
+    match Faithful.store(layout, image, name, kind, data, answer) {
         14 if data.len > 168_656 => give(answer, Answer::refusal(15)),
         number => number,
     }
 });
 
-wrong!(MapUnchecked: store(image, name, kind, data, answer) {
-    match Faithful.store(image, name, kind, data, answer) {
+wrong!(MapUnchecked: store(layout, image, name, kind, data, answer) {
+    match Faithful.store(layout, image, name, kind, data, answer) {
         8 => give(answer, Answer::refusal(15)),
         number => number,
     }
 });
 
-wrong!(NullRefused: store(image, name, kind, data, answer) {
+wrong!(NullRefused: store(layout, image, name, kind, data, answer) {
     if data.start.is_null() {
         return give(answer, Answer::refusal(15));
     }
-    Faithful.store(image, name, kind, data, answer)
+    Faithful.store(layout, image, name, kind, data, answer)
 });
 
-wrong!(DirectoryNeverGrows: store(image, name, kind, data, answer) {
+wrong!(DirectoryNeverGrows: store(layout, image, name, kind, data, answer) {
     let before = image.bytes().to_vec();
-    let number = Faithful.store(image, name, kind, data, answer);
-    let sectors = |image: &[u8]| contents(image).map(|held| held.directory.len());
+    let number = Faithful.store(layout, image, name, kind, data, answer);
+    let sectors = |image: &[u8]| contents(layout, image).map(|held| held.directory.len());
     if number == 0 && sectors(&before) != sectors(image.bytes()) {
         image.bytes_mut().copy_from_slice(&before);
         return give(answer, Answer::refusal(14));
@@ -289,8 +289,8 @@ wrong!(DirectoryNeverGrows: store(image, name, kind, data, answer) {
 
 // --- What is written ------------------------------------------------------
 
-wrong!(RefusedYetWritten: store(image, name, kind, data, answer) {
-    let number = Faithful.store(image, name, kind, data, answer);
+wrong!(RefusedYetWritten: store(layout, image, name, kind, data, answer) {
+    let number = Faithful.store(layout, image, name, kind, data, answer);
     if number == 12 {
         // An owner's mark that it forgets to take back.
         image.start.write(image.start.read() ^ 1);
@@ -298,32 +298,32 @@ wrong!(RefusedYetWritten: store(image, name, kind, data, answer) {
     number
 });
 
-wrong!(WrongBlockYetStored: store(image, name, kind, data, answer) {
+wrong!(WrongBlockYetStored: store(layout, image, name, kind, data, answer) {
     if answer.len == BLOCK_BYTES {
-        return Faithful.store(image, name, kind, data, answer);
+        return Faithful.store(layout, image, name, kind, data, answer);
     }
-    Faithful.store(image, name, kind, data, slice_of(&mut [0; BLOCK_BYTES]));
+    Faithful.store(layout, image, name, kind, data, slice_of(&mut [0; BLOCK_BYTES]));
     16
 });
 
-wrong!(DataWritten: store(image, name, kind, data, answer) {
-    let number = Faithful.store(image, name, kind, data, answer);
+wrong!(DataWritten: store(layout, image, name, kind, data, answer) {
+    let number = Faithful.store(layout, image, name, kind, data, answer);
     if number == 0 {
         data.bytes_mut().reverse();
     }
     number
 });
 
-wrong!(NameWritten: store(image, name, kind, data, answer) {
-    let number = Faithful.store(image, name, kind, data, answer);
+wrong!(NameWritten: store(layout, image, name, kind, data, answer) {
+    let number = Faithful.store(layout, image, name, kind, data, answer);
     if number == 0 {
         name.bytes_mut().reverse();
     }
     number
 });
 
-wrong!(PastImageWritten: store(image, name, kind, data, answer) {
-    let number = Faithful.store(image, name, kind, data, answer);
+wrong!(PastImageWritten: store(layout, image, name, kind, data, answer) {
+    let number = Faithful.store(layout, image, name, kind, data, answer);
     if number == 0 {
         image.start.add(image.len).write(0);
     }

@@ -58,44 +58,44 @@ fn is_usr(file: &File) -> bool {
 // --- A store of kind 3 ----------------------------------------------------
 
 /// Stores a USR file: as a PRG file, but for the type byte.
-unsafe fn store_usr(image: Slice, name: Slice, data: Slice, answer: Slice) -> u32 {
+unsafe fn store_usr(layout: u32, image: Slice, name: Slice, data: Slice, answer: Slice) -> u32 {
     unsafe {
-        let number = Faithful.store(image, name, 2, data, answer);
+        let number = Faithful.store(layout, image, name, 2, data, answer);
         if number == 0 {
-            let held = contents(image.bytes()).expect("an accepted image");
-            let slot = file_read(image, name).slot;
+            let held = contents(layout, image.bytes()).expect("an accepted image");
+            let slot = file_read(layout, image, name).slot;
             image.bytes_mut()[slot_offset(&held.directory, slot) + 2] = 0x83;
         }
         number
     }
 }
 
-wrong!(StillStored: store(image, name, kind, data, answer) {
-    match Faithful.store(image, name, kind, data, answer) {
-        10 if kind == 3 => store_usr(image, name, data, answer),
+wrong!(StillStored: store(layout, image, name, kind, data, answer) {
+    match Faithful.store(layout, image, name, kind, data, answer) {
+        10 if kind == 3 => store_usr(layout, image, name, data, answer),
         number => number,
     }
 });
 
-wrong!(StoredAsPrg: store(image, name, kind, data, answer) {
+wrong!(StoredAsPrg: store(layout, image, name, kind, data, answer) {
     let kind = if kind == 3 { 2 } else { kind };
-    Faithful.store(image, name, kind, data, answer)
+    Faithful.store(layout, image, name, kind, data, answer)
 });
 
-wrong!(RefusedYetStored: store(image, name, kind, data, answer) {
-    let number = Faithful.store(image, name, kind, data, answer);
+wrong!(RefusedYetStored: store(layout, image, name, kind, data, answer) {
+    let number = Faithful.store(layout, image, name, kind, data, answer);
     if number == 10 && kind == 3 {
-        store_usr(image, name, data, slice_of(&mut [0; BLOCK_BYTES]));
+        store_usr(layout, image, name, data, slice_of(&mut [0; BLOCK_BYTES]));
     }
     number
 });
 
-wrong!(RefusedLast: store(image, name, kind, data, answer) {
+wrong!(RefusedLast: store(layout, image, name, kind, data, answer) {
     if kind != 3 {
-        return Faithful.store(image, name, kind, data, answer);
+        return Faithful.store(layout, image, name, kind, data, answer);
     }
     let mut copy = image.bytes().to_vec();
-    match Faithful.store(slice_of(&mut copy), name, 2, data, answer) {
+    match Faithful.store(layout, slice_of(&mut copy), name, 2, data, answer) {
         0 => give(answer, Answer::refusal(10)),
         number => number,
     }
@@ -111,15 +111,15 @@ pub fn turned_into_prg(image: &mut [u8], change: &Change) {
 
 pub fn taken_off(image: &mut [u8], change: &Change) {
     if let Some(file) = change.held.files.iter().find(|file| is_usr(file)) {
-        scratch(image, &file.name, &mut [0; BLOCK_BYTES]);
+        scratch(change.layout, image, &file.name, &mut [0; BLOCK_BYTES]);
     }
 }
 
 // --- The calls that look --------------------------------------------------
 
-wrong!(CheckRefused: check(image, answer) {
-    let number = Faithful.check(image, answer);
-    let Some(held) = contents(image.bytes()).filter(|_| number == 0) else {
+wrong!(CheckRefused: check(layout, image, answer) {
+    let number = Faithful.check(layout, image, answer);
+    let Some(held) = contents(layout, image.bytes()).filter(|_| number == 0) else {
         return number;
     };
     match held.files.iter().find(|file| is_usr(file)).map(|file| file.slot) {
@@ -128,8 +128,8 @@ wrong!(CheckRefused: check(image, answer) {
     }
 });
 
-wrong!(ToldAsPrg: tell(image, position, entry, answer) {
-    let number = Faithful.tell(image, position, entry, answer);
+wrong!(ToldAsPrg: tell(layout, image, position, entry, answer) {
+    let number = Faithful.tell(layout, image, position, entry, answer);
     if number == 0 && entry.bytes()[0] & 0x0F == 3 {
         entry.bytes_mut()[0] ^= 1;
     }
@@ -144,9 +144,9 @@ fn without_usr(text: &[u8]) -> Vec<u8> {
     kept.flat_map(|(_, line)| line.to_vec()).collect()
 }
 
-wrong!(NotListed: listing(track18, text, answer) {
+wrong!(NotListed: listing(layout, track18, text, answer) {
     let mut whole = [0; LONGEST];
-    let number = Faithful.listing(track18, slice_of(&mut whole), answer);
+    let number = Faithful.listing(layout, track18, slice_of(&mut whole), answer);
     if number != 0 {
         return number;
     }
@@ -158,21 +158,21 @@ wrong!(NotListed: listing(track18, text, answer) {
     give(answer, Answer::done(kept.len() as u32, 0))
 });
 
-wrong!(NotRead: read(image, name, out, answer) {
+wrong!(NotRead: read(layout, image, name, out, answer) {
     let before = out.bytes().to_vec();
-    let number = Faithful.read(image, name, out, answer);
-    if number == 0 && is_usr(&file_read(image, name)) {
+    let number = Faithful.read(layout, image, name, out, answer);
+    if number == 0 && is_usr(&file_read(layout, image, name)) {
         out.bytes_mut().copy_from_slice(&before);
         return give(answer, Answer::refusal(13));
     }
     number
 });
 
-wrong!(LastByteUnread: read(image, name, out, answer) {
+wrong!(LastByteUnread: read(layout, image, name, out, answer) {
     let before = out.bytes().to_vec();
-    let number = Faithful.read(image, name, out, answer);
-    if number == 0 && is_usr(&file_read(image, name)) && reported_length(answer) > 0 {
-        let (last, sectors) = (reported_length(answer) - 1, file_read(image, name).chain.len());
+    let number = Faithful.read(layout, image, name, out, answer);
+    if number == 0 && is_usr(&file_read(layout, image, name)) && reported_length(answer) > 0 {
+        let (last, sectors) = (reported_length(answer) - 1, file_read(layout, image, name).chain.len());
         out.bytes_mut()[last] = before[last];
         give(answer, Answer::done(last as u32, sectors as u16));
     }
@@ -181,10 +181,10 @@ wrong!(LastByteUnread: read(image, name, out, answer) {
 
 // --- Scratch --------------------------------------------------------------
 
-wrong!(NotScratched: scratch(image, name, answer) {
+wrong!(NotScratched: scratch(layout, image, name, answer) {
     let mut before = image.bytes().to_vec();
-    let number = Faithful.scratch(image, name, answer);
-    if number == 0 && is_usr(&file_read(slice_of(&mut before), name)) {
+    let number = Faithful.scratch(layout, image, name, answer);
+    if number == 0 && is_usr(&file_read(layout, slice_of(&mut before), name)) {
         image.bytes_mut().copy_from_slice(&before);
         return give(answer, Answer::refusal(13));
     }

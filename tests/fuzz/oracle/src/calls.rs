@@ -22,16 +22,24 @@ pub unsafe fn bytes_mut<'a>(start: *mut u8, len: usize) -> &'a mut [u8] {
 
 #[no_mangle]
 unsafe extern "C" fn oracle_check(
+    layout: u32,
     image: *const u8,
     image_len: usize,
     answer: *mut u8,
     answer_len: usize,
 ) -> u32 {
-    unsafe { host::check(bytes(image, image_len), bytes_mut(answer, answer_len)) }
+    unsafe {
+        host::check(
+            layout,
+            bytes(image, image_len),
+            bytes_mut(answer, answer_len),
+        )
+    }
 }
 
 #[no_mangle]
 unsafe extern "C" fn oracle_format(
+    layout: u32,
     image: *mut u8,
     image_len: usize,
     name: *const u8,
@@ -43,12 +51,13 @@ unsafe extern "C" fn oracle_format(
 ) -> u32 {
     unsafe {
         let (image, name) = (bytes_mut(image, image_len), bytes(name, name_len));
-        host::format(image, name, id1, id2, bytes_mut(answer, answer_len))
+        host::format(layout, image, name, id1, id2, bytes_mut(answer, answer_len))
     }
 }
 
 #[no_mangle]
 unsafe extern "C" fn oracle_read(
+    layout: u32,
     image: *const u8,
     image_len: usize,
     name: *const u8,
@@ -61,12 +70,13 @@ unsafe extern "C" fn oracle_read(
     unsafe {
         let (image, name) = (bytes(image, image_len), bytes(name, name_len));
         let (out, answer) = (bytes_mut(out, out_len), bytes_mut(answer, answer_len));
-        host::read(image, name, out, answer)
+        host::read(layout, image, name, out, answer)
     }
 }
 
 #[no_mangle]
 unsafe extern "C" fn oracle_store(
+    layout: u32,
     image: *mut u8,
     image_len: usize,
     name: *const u8,
@@ -80,12 +90,13 @@ unsafe extern "C" fn oracle_store(
     unsafe {
         let (image, name) = (bytes_mut(image, image_len), bytes(name, name_len));
         let (data, answer) = (bytes(data, data_len), bytes_mut(answer, answer_len));
-        host::store(image, name, kind, data, answer)
+        host::store(layout, image, name, kind, data, answer)
     }
 }
 
 #[no_mangle]
 unsafe extern "C" fn oracle_scratch(
+    layout: u32,
     image: *mut u8,
     image_len: usize,
     name: *const u8,
@@ -95,12 +106,13 @@ unsafe extern "C" fn oracle_scratch(
 ) -> u32 {
     unsafe {
         let (image, name) = (bytes_mut(image, image_len), bytes(name, name_len));
-        host::scratch(image, name, bytes_mut(answer, answer_len))
+        host::scratch(layout, image, name, bytes_mut(answer, answer_len))
     }
 }
 
 #[no_mangle]
 unsafe extern "C" fn oracle_tell(
+    layout: u32,
     image: *const u8,
     image_len: usize,
     position: usize,
@@ -111,12 +123,13 @@ unsafe extern "C" fn oracle_tell(
 ) -> u32 {
     unsafe {
         let (entry, answer) = (bytes_mut(entry, entry_len), bytes_mut(answer, answer_len));
-        host::tell(bytes(image, image_len), position, entry, answer)
+        host::tell(layout, bytes(image, image_len), position, entry, answer)
     }
 }
 
 #[no_mangle]
 unsafe extern "C" fn oracle_listing(
+    layout: u32,
     track18: *const u8,
     track18_len: usize,
     text: *mut u8,
@@ -126,6 +139,6 @@ unsafe extern "C" fn oracle_listing(
 ) -> u32 {
     unsafe {
         let (text, answer) = (bytes_mut(text, text_len), bytes_mut(answer, answer_len));
-        host::listing(bytes(track18, track18_len), text, answer)
+        host::listing(layout, bytes(track18, track18_len), text, answer)
     }
 }

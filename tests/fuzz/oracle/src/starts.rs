@@ -3,7 +3,7 @@
 
 use crate::calls::bytes_mut;
 use independent::generate::{generate, kinds};
-use independent::geometry::IMAGE_BYTES;
+use independent::geometry::Geometry;
 use independent::host;
 use std::sync::OnceLock;
 
@@ -16,33 +16,39 @@ fn all_kinds() -> &'static [String] {
     KINDS.get_or_init(kinds)
 }
 
-fn formatted() -> Vec<u8> {
-    let mut image = vec![0; IMAGE_BYTES];
-    host::format(&mut image, b"CODES", b'0', b'1', &mut [0; 9]);
+fn formatted(layout: u32) -> Vec<u8> {
+    let geometry = Geometry::of(layout).expect("a layout");
+    let mut image = vec![0; geometry.image_bytes()];
+    host::format(layout, &mut image, b"CODES", b'0', b'1', &mut [0; 9]);
     image
 }
 
 /// The image with this number. A kind's images follow each other.
-fn start(number: usize) -> Vec<u8> {
+fn start(layout: u32, number: usize) -> Vec<u8> {
     let Some(number) = number.checked_sub(1) else {
-        return formatted();
+        return formatted(layout);
     };
     let kind = &all_kinds()[number / SEEDS];
-    let made = generate(kind, (number % SEEDS) as u64);
+    let made = generate(layout, kind, (number % SEEDS) as u64);
     made.expect("a kind that kinds() names").image
 }
 
-/// How many there are.
+/// How many there are in each layout.
 #[no_mangle]
 extern "C" fn oracle_starts() -> usize {
     1 + SEEDS * all_kinds().len()
 }
 
-/// Writes the image with this number to the start of `out` and gives its
-/// length, at most `out_len`.
+/// Writes the layout's image with this number to the start of `out` and gives
+/// its length, at most `out_len`.
 #[no_mangle]
-unsafe extern "C" fn oracle_start(number: usize, out: *mut u8, out_len: usize) -> usize {
-    let image = start(number);
+unsafe extern "C" fn oracle_start(
+    layout: u32,
+    number: usize,
+    out: *mut u8,
+    out_len: usize,
+) -> usize {
+    let image = start(layout, number);
     let out = unsafe { bytes_mut(out, out_len) };
     let len = image.len().min(out.len());
     out[..len].copy_from_slice(&image[..len]);

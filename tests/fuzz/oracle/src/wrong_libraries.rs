@@ -9,7 +9,8 @@ mod wrong;
 use boundary::calls::{EntryPoints, Slice};
 use std::sync::atomic::{AtomicUsize, Ordering};
 use wrong::{
-    counting, formatting, masks, place, reading, scratching, spare, stored, storing, usr, Row,
+    counting, formatting, last_tracks, layouts, masks, place, reading, scratching, spare, stored,
+    storing, usr, Row,
 };
 
 static CHOSEN: AtomicUsize = AtomicUsize::new(0);
@@ -28,6 +29,8 @@ fn rows() -> impl Iterator<Item = &'static Row> {
         masks::OTHER_CALLS,
         counting::WRONG,
         counting::STORES,
+        layouts::WRONG,
+        last_tracks::WRONG,
     ]
     .into_iter()
     .flatten()
@@ -56,12 +59,19 @@ fn slice(start: *const u8, len: usize) -> Slice {
 }
 
 #[no_mangle]
-unsafe extern "C" fn wrong_check(i: *const u8, il: usize, a: *mut u8, al: usize) -> u32 {
-    unsafe { library().check(slice(i, il), slice(a, al)) }
+unsafe extern "C" fn wrong_check(
+    layout: u32,
+    i: *const u8,
+    il: usize,
+    a: *mut u8,
+    al: usize,
+) -> u32 {
+    unsafe { library().check(layout, slice(i, il), slice(a, al)) }
 }
 
 #[no_mangle]
 unsafe extern "C" fn wrong_format(
+    layout: u32,
     i: *mut u8,
     il: usize,
     n: *const u8,
@@ -71,11 +81,12 @@ unsafe extern "C" fn wrong_format(
     a: *mut u8,
     al: usize,
 ) -> u32 {
-    unsafe { library().format(slice(i, il), slice(n, nl), id1, id2, slice(a, al)) }
+    unsafe { library().format(layout, slice(i, il), slice(n, nl), id1, id2, slice(a, al)) }
 }
 
 #[no_mangle]
 unsafe extern "C" fn wrong_read(
+    layout: u32,
     i: *const u8,
     il: usize,
     n: *const u8,
@@ -85,11 +96,20 @@ unsafe extern "C" fn wrong_read(
     a: *mut u8,
     al: usize,
 ) -> u32 {
-    unsafe { library().read(slice(i, il), slice(n, nl), slice(o, ol), slice(a, al)) }
+    unsafe {
+        library().read(
+            layout,
+            slice(i, il),
+            slice(n, nl),
+            slice(o, ol),
+            slice(a, al),
+        )
+    }
 }
 
 #[no_mangle]
 unsafe extern "C" fn wrong_store(
+    layout: u32,
     i: *mut u8,
     il: usize,
     n: *const u8,
@@ -101,11 +121,12 @@ unsafe extern "C" fn wrong_store(
     al: usize,
 ) -> u32 {
     let (image, name, data) = (slice(i, il), slice(n, nl), slice(d, dl));
-    unsafe { library().store(image, name, kind, data, slice(a, al)) }
+    unsafe { library().store(layout, image, name, kind, data, slice(a, al)) }
 }
 
 #[no_mangle]
 unsafe extern "C" fn wrong_scratch(
+    layout: u32,
     i: *mut u8,
     il: usize,
     n: *const u8,
@@ -113,11 +134,12 @@ unsafe extern "C" fn wrong_scratch(
     a: *mut u8,
     al: usize,
 ) -> u32 {
-    unsafe { library().scratch(slice(i, il), slice(n, nl), slice(a, al)) }
+    unsafe { library().scratch(layout, slice(i, il), slice(n, nl), slice(a, al)) }
 }
 
 #[no_mangle]
 unsafe extern "C" fn wrong_tell(
+    layout: u32,
     i: *const u8,
     il: usize,
     position: usize,
@@ -126,11 +148,12 @@ unsafe extern "C" fn wrong_tell(
     a: *mut u8,
     al: usize,
 ) -> u32 {
-    unsafe { library().tell(slice(i, il), position, slice(e, el), slice(a, al)) }
+    unsafe { library().tell(layout, slice(i, il), position, slice(e, el), slice(a, al)) }
 }
 
 #[no_mangle]
 unsafe extern "C" fn wrong_listing(
+    layout: u32,
     t: *const u8,
     tl: usize,
     o: *mut u8,
@@ -138,5 +161,5 @@ unsafe extern "C" fn wrong_listing(
     a: *mut u8,
     al: usize,
 ) -> u32 {
-    unsafe { library().listing(slice(t, tl), slice(o, ol), slice(a, al)) }
+    unsafe { library().listing(layout, slice(t, tl), slice(o, ol), slice(a, al)) }
 }

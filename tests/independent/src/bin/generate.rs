@@ -1,28 +1,29 @@
-//! `generate KIND SEED > image` writes one generated image to standard
-//! output; `generate --list` prints the kinds.
+//! `generate [LAYOUT] KIND SEED > image` writes one generated image to standard
+//! output, in layout 0 if none is given; `generate --list` prints the kinds.
 
-use independent::generate::{generate, kinds};
+use independent::generate::{generate, kinds, Generated};
 use std::io::{self, Write};
 use std::process::ExitCode;
 
 fn main() -> ExitCode {
     let arguments: Vec<String> = std::env::args().skip(1).collect();
     let mut output = io::stdout().lock();
-    let written = match &arguments[..] {
-        [flag] if flag == "--list" => output.write_all((kinds().join("\n") + "\n").as_bytes()),
-        [kind, seed] => match seed.parse().ok().and_then(|seed| generate(kind, seed)) {
-            Some(generated) => output.write_all(&generated.image),
-            None => return usage(),
-        },
-        _ => return usage(),
+    let made = match &arguments[..] {
+        [flag] if flag == "--list" => Some((kinds().join("\n") + "\n").into_bytes()),
+        [kind, seed] => made("0", kind, seed).map(|made| made.image),
+        [layout, kind, seed] => made(layout, kind, seed).map(|made| made.image),
+        _ => None,
     };
-    match written {
+    let Some(bytes) = made else {
+        eprintln!("usage: generate [LAYOUT] KIND SEED > image, or generate --list");
+        return ExitCode::from(2);
+    };
+    match output.write_all(&bytes) {
         Ok(()) => ExitCode::SUCCESS,
         Err(_) => ExitCode::FAILURE,
     }
 }
 
-fn usage() -> ExitCode {
-    eprintln!("usage: generate KIND SEED > image, or generate --list");
-    ExitCode::from(2)
+fn made(layout: &str, kind: &str, seed: &str) -> Option<Generated> {
+    generate(layout.parse().ok()?, kind, seed.parse().ok()?)
 }

@@ -4,18 +4,19 @@
 
 use super::Fault;
 use crate::answer::Answer;
-use crate::naive::track_length;
+use crate::naive::{last_track, track_length};
 use crate::rng::Rng;
-use crate::sound::{map_offset, spare_bit, spare_mask, Plan};
+use crate::sound::{map_offset, offset, spare_bit, spare_mask, Plan};
 
 /// Whether the map of a sound image says that a sector is free.
 pub(super) fn says_free(plan: &Plan, track: u8, sector: u8) -> bool {
-    let byte = plan.image[map_offset(track) + 1 + usize::from(sector / 8)];
+    let byte = plan.image[map_offset(plan.layout, track) + 1 + usize::from(sector / 8)];
     byte & (1 << (sector % 8)) != 0
 }
 
 /// A track's map entry in the making, and the sectors whose bits are wrong.
 struct Entry {
+    layout: u32,
     track: u8,
     bytes: [u8; 4],
     wrong: Vec<u8>,
@@ -24,8 +25,9 @@ struct Entry {
 impl Entry {
     /// The right entry of a track.
     fn of(plan: &Plan, track: u8) -> Entry {
-        let at = map_offset(track);
+        let at = map_offset(plan.layout, track);
         Entry {
+            layout: plan.layout,
             track,
             bytes: std::array::from_fn(|byte| plan.image[at + byte]),
             wrong: Vec::new(),
@@ -34,8 +36,12 @@ impl Entry {
 
     /// The right entry of any track, those at the ends of a zone more often.
     fn any(rng: &mut Rng, plan: &Plan) -> Entry {
-        let any = rng.range(1, 35) as u8;
-        let end = rng.pick(&[1, 17, 18, 19, 24, 25, 30, 31, 35]);
+        let any = rng.range(1, usize::from(last_track(plan.layout))) as u8;
+        let ends = match plan.layout {
+            0 => [1, 17, 18, 19, 24, 25, 30, 31, 35],
+            _ => [1, 17, 18, 19, 31, 35, 36, 38, 40],
+        };
+        let end = rng.pick(&ends);
         Entry::of(plan, rng.pick(&[any, any, any, end]))
     }
 
@@ -88,7 +94,9 @@ impl Entry {
     fn fault(self) -> Fault {
         let sector = self.wrong.iter().copied().min().unwrap_or(255);
         Fault {
-            writes: (map_offset(self.track)..).zip(self.bytes).collect(),
+            writes: (map_offset(self.layout, self.track)..)
+                .zip(self.bytes)
+                .collect(),
             answer: Answer::fault(8, self.track, sector, 255),
             rank: (4, usize::from(self.track), 0, 0),
             immediate: true,
@@ -164,7 +172,8 @@ pub(super) fn count_of_others(rng: &mut Rng, plan: &Plan) -> Option<Fault> {
     let mut parts = vec![!bits & own, !bits, bits, own, 0xFF_FFFF];
     parts.extend([0xFF, 0xFF00, 0xFFFF, 0xFF_FF00, !1, own >> 1].map(|part| bits & own & part));
     let mut counts: Vec<u8> = parts.iter().map(|&bits| ones(bits)).collect();
-    let beside = [entry.track - 1, entry.track + 1].map(|track| track.clamp(1, 35));
+    let last = last_track(plan.layout);
+    let beside = [entry.track - 1, entry.track + 1].map(|track| track.clamp(1, last));
     counts.extend(beside.map(|track| Entry::of(plan, track).bytes[0]));
     counts.extend([0, 255]);
     counts.retain(|&count| count != entry.bytes[0]);
@@ -286,8 +295,9 @@ pub(super) fn bits_swapped(rng: &mut Rng, plan: &Plan) -> Option<Fault> {
 
 /// Two different tracks' right entries, the lower track's first.
 fn two_entries(rng: &mut Rng, plan: &Plan) -> (Entry, Entry) {
-    let lower = rng.range(1, 34);
-    let higher = rng.range(lower + 1, 35);
+    let last = usize::from(last_track(plan.layout));
+    let lower = rng.range(1, last - 1);
+    let higher = rng.range(lower + 1, last);
     (
         Entry::of(plan, lower as u8),
         Entry::of(plan, rng.pick(&[lower + 1, higher]) as u8),
@@ -319,13 +329,32 @@ pub(super) fn count_then_bit(rng: &mut Rng, plan: &Plan) -> Option<Fault> {
 /// Two tracks have each other's entry, with as many free sectors.
 pub(super) fn entries_exchanged(rng: &mut Rng, plan: &Plan) -> Option<Fault> {
     let mut one = Entry::any(rng, plan);
-    let all = (1..=35).map(|track| Entry::of(plan, track));
+    let all = (1..=last_track(plan.layout)).map(|track| Entry::of(plan, track));
     let alike = all.filter(|other| other.track != one.track && other.bytes[0] == one.bytes[0]);
     let alike: Vec<u8> = alike.map(|other| other.track).collect();
     let mut two = Entry::of(plan, *alike.get(rng.below(alike.len()))?);
     let (bits, others) = (one.bits(), two.bits());
     let wrong = one.put_bits(others) & two.put_bits(bits);
     wrong.then(|| both(one, two))
+}
+
+/// A right entry stands where another layout has one of tracks 36 to 40, and a
+/// wrong one at its own place (02, §8).
+pub(super) fn entry_elsewhere(rng: &mut Rng, plan: &Plan) -> Option<Fault> {
+    let extra = rng.range(36, 40) as u8;
+    let (mut entry, elsewhere) = match plan.layout {
+        0 => (
+            Entry::any(rng, plan),
+            offset(18, 0) + 0xAC + 4 * rng.below(10),
+        ),
+        layout => (Entry::of(plan, extra), map_offset(3 - layout, extra)),
+    };
+    let right = entry.bytes;
+    let sector = any_sector(rng, entry.track);
+    entry.spoil_all(rng, &[sector]);
+    let mut fault = entry.fault();
+    fault.writes.extend((elsewhere..).zip(right));
+    Some(fault)
 }
 
 // --- Bits past a track's last sector (02, §5) -----------------------------

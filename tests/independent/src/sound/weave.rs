@@ -32,7 +32,7 @@ pub(super) fn woven(rng: &mut Rng, pool: Vec<Place>, weave: Weave) -> Vec<Place>
 fn tracks_of(rng: &mut Rng, pool: &[Place]) -> Vec<Vec<Place>> {
     let turn = rng.below(3);
     let of = |track: u8| pool.iter().copied().filter(move |place| place.0 == track);
-    let mut tracks: Vec<Vec<Place>> = (1..=35).map(|track| of(track).collect()).collect();
+    let mut tracks: Vec<Vec<Place>> = (1..=40).map(|track| of(track).collect()).collect();
     tracks.retain(|sectors| !sectors.is_empty());
     for sectors in &mut tracks {
         match turn {

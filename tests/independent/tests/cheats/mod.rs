@@ -6,8 +6,14 @@ use independent::request::{Library, Request};
 use std::collections::BTreeSet;
 use std::fmt::Debug;
 
-/// A start image, and a list of calls on it.
+/// A start image, and a list of calls on it, which all name one layout; the
+/// list isn't empty.
 pub type Run = (Vec<u8>, Vec<Request>);
+
+/// Demand 3 over a run, in its layout.
+fn over(library: &dyn Library, (start, list): &Run) -> Result<Vec<u8>, String> {
+    demand3(library, list[0].layout, start, list)
+}
 
 /// Each is caught by demand 3, and by exactly its own clauses.
 pub fn demand3_catches<C: Copy + Debug, L: Library>(
@@ -18,7 +24,7 @@ pub fn demand3_catches<C: Copy + Debug, L: Library>(
     for (cheat, clauses) in cheats {
         let caught = runs
             .iter()
-            .find_map(|(start, list)| demand3(&cheating(*cheat), start, list).err());
+            .find_map(|run| over(&cheating(*cheat), run).err());
         let what = caught.unwrap_or_else(|| panic!("{cheat:?} was not caught"));
         let broken = CLAUSES.iter().filter(|clause| what.contains(**clause));
         let broken: Vec<&str> = broken.copied().collect();
@@ -35,8 +41,9 @@ pub fn only_the_model_catches<C: Copy + Debug, L: Library>(
 ) {
     for &(cheat, given, owed) in cheats {
         let mut differ = BTreeSet::new();
-        for (start, list) in runs {
-            demand3(&cheating(cheat), start, list).unwrap();
+        for run in runs {
+            over(&cheating(cheat), run).unwrap();
+            let (start, list) = run;
             differ.extend(model::differences(&cheating(cheat), start, list));
         }
         assert!(differ.contains(&(given, owed)), "{cheat:?}: {differ:?}");

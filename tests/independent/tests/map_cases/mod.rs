@@ -12,16 +12,16 @@ use independent::sound::map_offset;
 /// LAST, 10 bytes on 17/4. GONE lay between them.
 pub fn disk() -> Vec<u8> {
     let mut image = vec![0xEE; IMAGE_BYTES];
-    assert_eq!(format(&mut image, b"CODES", 0x30, 0x31).number, 0);
-    assert_eq!(store(&mut image, b"CODE", 2, &[7; 300]).number, 0);
-    assert_eq!(store(&mut image, b"GONE", 2, &[8; 300]).number, 0);
-    assert_eq!(store(&mut image, b"LAST", 2, &[9; 10]).number, 0);
-    assert_eq!(scratch(&mut image, b"GONE").number, 0);
+    assert_eq!(format(0, &mut image, b"CODES", 0x30, 0x31).number, 0);
+    assert_eq!(store(0, &mut image, b"CODE", 2, &[7; 300]).number, 0);
+    assert_eq!(store(0, &mut image, b"GONE", 2, &[8; 300]).number, 0);
+    assert_eq!(store(0, &mut image, b"LAST", 2, &[9; 10]).number, 0);
+    assert_eq!(scratch(0, &mut image, b"GONE").number, 0);
     image
 }
 
 pub fn entry(image: &mut [u8], track: u8) -> &mut [u8; 4] {
-    let at = map_offset(track);
+    let at = map_offset(0, track);
     (&mut image[at..at + 4]).try_into().unwrap()
 }
 

@@ -11,7 +11,8 @@ use independent::answer::Answer;
 use independent::calls::Told;
 use independent::check::check;
 use independent::naive::{
-    contents, places, position, track_length, wrong_entry, Contents, File, Owner,
+    contents, entry_at, last_track, places, position, track_length, wrong_entry, Contents, File,
+    Owner,
 };
 use independent::request::{perform, Call, Library, Request};
 use std::collections::HashSet;
@@ -30,17 +31,25 @@ fn asked_name(call: &Call) -> Option<&[u8]> {
     }
 }
 
-/// The answer number, by the order of 01, Answer numbers: a list of
+/// The size of an image; 0 for a number that is no layout.
+pub fn size(layout: u32) -> usize {
+    256 * places(layout).count()
+}
+
+/// The answer number, by the order of 01, Answer numbers, and 02, §8: a list of
 /// conditions, of which the first that holds decides.
 pub fn number(image: &[u8], request: &Request) -> u32 {
-    let call = &request.call;
+    let (call, layout) = (&request.call, request.layout);
     if request.block != 9 {
         return 16;
     }
-    if let Call::Listing { room } = call {
-        return listing_number(image, *room);
+    if ![0, 1, 2].contains(&layout) {
+        return 17;
     }
-    if image.len() != 174_848 {
+    if let Call::Listing { room } = call {
+        return listing_number(layout, image, *room);
+    }
+    if image.len() != size(layout) {
         return 1;
     }
     if asked_name(call).is_some_and(name_is_wrong) {
@@ -52,18 +61,18 @@ pub fn number(image: &[u8], request: &Request) -> u32 {
     if matches!(call, Call::Format { .. }) {
         return 0;
     }
-    match contents(image) {
-        None => u32::from(fault(image).number),
+    match contents(layout, image) {
+        None => u32::from(fault(layout, image).number),
         Some(held) => number_when_accepted(image, &held, call),
     }
 }
 
 /// What the check owes an image that is not accepted: 8 if only its map is
 /// wrong, with the place that `naive` finds (02, §3).
-pub fn fault(image: &[u8]) -> Answer {
-    match wrong_entry(image) {
+pub fn fault(layout: u32, image: &[u8]) -> Answer {
+    match wrong_entry(layout, image) {
         Some((track, sector)) => Answer::fault(8, track, sector, 255),
-        None => check(image),
+        None => check(layout, image),
     }
 }
 
@@ -111,7 +120,7 @@ fn needed(length: usize) -> usize {
 
 /// All free sectors off track 18, in the order in which store takes them.
 fn house_order(held: &Contents) -> Vec<(u8, u8)> {
-    let tracks: Vec<u8> = (1..=17).rev().chain(19..=35).collect();
+    let tracks: Vec<u8> = (1..=17).rev().chain(19..=last_track(held.layout)).collect();
     let mut free = Vec::new();
     for track in tracks {
         for sector in 0..track_length(track) {
@@ -148,32 +157,31 @@ fn at(track: u8, sector: u8) -> usize {
 }
 
 /// The image after a call that is answered 0.
-pub fn image_after(image: &[u8], call: &Call) -> Vec<u8> {
+pub fn image_after(layout: u32, image: &[u8], call: &Call) -> Vec<u8> {
     let mut new = image.to_vec();
-    let Some(held) = contents(image) else {
-        if let Call::Format { name, id1, id2 } = call {
-            return formatted(name, *id1, *id2);
-        }
+    if let Call::Format { name, id1, id2 } = call {
+        return formatted(layout, name, *id1, *id2);
+    }
+    let Some(held) = contents(layout, image) else {
         return new;
     };
     let mut owners = held.owners.clone();
     match call {
-        Call::Format { name, id1, id2 } => return formatted(name, *id1, *id2),
         Call::Store { name, kind, data } => {
             stored(&mut new, &held, &mut owners, (name, *kind, data))
         }
         Call::Scratch { name } => scratched(&mut new, &held, &mut owners, name),
         _ => return new,
     }
-    map_from(&mut new, &owners);
+    map_from(layout, &mut new, &owners);
     new
 }
 
 /// Rewrites each sector's bit and each track's count from the owners. Bits
 /// past a track's last sector stay as they are (02, §5).
-fn map_from(image: &mut [u8], owners: &[Owner]) {
-    for ((track, sector), owner) in places().zip(owners) {
-        let entry = 91_392 + 4 * track as usize;
+fn map_from(layout: u32, image: &mut [u8], owners: &[Owner]) {
+    for ((track, sector), owner) in places(layout).zip(owners) {
+        let entry = 91_392 + entry_at(layout, track);
         if sector == 0 {
             image[entry] = 0;
         }
@@ -186,12 +194,12 @@ fn map_from(image: &mut [u8], owners: &[Owner]) {
     }
 }
 
-fn formatted(name: &[u8], id1: u8, id2: u8) -> Vec<u8> {
-    let mut image = vec![0; 174_848];
-    let mut owners = vec![Owner::Nobody; 683];
+fn formatted(layout: u32, name: &[u8], id1: u8, id2: u8) -> Vec<u8> {
+    let mut image = vec![0; size(layout)];
+    let mut owners = vec![Owner::Nobody; places(layout).count()];
     owners[357] = Owner::Map;
     owners[358] = Owner::Directory;
-    map_from(&mut image, &owners);
+    map_from(layout, &mut image, &owners);
     image[91_392..91_396].copy_from_slice(&[0x12, 0x01, 0x41, 0x00]);
     let mut label = name.to_vec();
     label.resize(18, 0xA0);
@@ -251,31 +259,31 @@ fn scratched(image: &mut [u8], held: &Contents, owners: &mut [Owner], name: &[u8
 }
 
 /// Length and sectors that a call answered 0 reports.
-pub fn report(image: &[u8], call: &Call) -> (u32, u16) {
+pub fn report(layout: u32, image: &[u8], call: &Call) -> (u32, u16) {
     match call {
         Call::Store { data, .. } => (data.len() as u32, needed(data.len()) as u16),
         Call::Read { name, .. } | Call::Scratch { name } => {
-            let held = contents(image).unwrap();
+            let held = contents(layout, image).unwrap();
             let file = find(&held, name).unwrap();
             (file.bytes.len() as u32, file.chain.len() as u16)
         }
-        Call::Listing { .. } => (output(image, call).len() as u32, 0),
+        Call::Listing { .. } => (output(layout, image, call).len() as u32, 0),
         _ => (0, 0),
     }
 }
 
 /// What a call answered 0 writes at the start of its output.
-pub fn output(image: &[u8], call: &Call) -> Vec<u8> {
+pub fn output(layout: u32, image: &[u8], call: &Call) -> Vec<u8> {
     match call {
         Call::Read { name, .. } => {
-            let held = contents(image).unwrap();
+            let held = contents(layout, image).unwrap();
             find(&held, name).unwrap().bytes.clone()
         }
         Call::Tell { position, .. } => {
-            let held = contents(image).unwrap();
+            let held = contents(layout, image).unwrap();
             entry(&told(&held.files[*position]))
         }
-        Call::Listing { .. } => listing(independent::request::track_18_of(image))
+        Call::Listing { .. } => listing(layout, independent::request::track_18_of(image))
             .unwrap()
             .into_bytes(),
         _ => Vec::new(),
@@ -308,8 +316,8 @@ fn entry(told: &Told) -> Vec<u8> {
 
 // --- The sleeve listing ---------------------------------------------------
 
-fn listing_number(image: &[u8], room: usize) -> u32 {
-    match listing(independent::request::track_18_of(image)) {
+fn listing_number(layout: u32, image: &[u8], room: usize) -> u32 {
+    match listing(layout, independent::request::track_18_of(image)) {
         Err(refusal) => u32::from(refusal.number),
         Ok(text) if text.len() > room => 16,
         Ok(_) => 0,
@@ -333,7 +341,7 @@ fn directory(track18: &[u8]) -> Result<Vec<usize>, Answer> {
 }
 
 /// The listing's text, or its refusal.
-pub fn listing(track18: &[u8]) -> Result<String, Answer> {
+pub fn listing(layout: u32, track18: &[u8]) -> Result<String, Answer> {
     if track18.len() != 4_864 {
         return Err(Answer::refusal(1));
     }
@@ -362,9 +370,9 @@ pub fn listing(track18: &[u8]) -> Result<String, Answer> {
             text += &(hex(&slot[2..21]) + &hex(&slot[30..32]) + "\n");
         }
     }
-    let sum: u32 = (1..=35)
+    let sum: u32 = (1..=last_track(layout))
         .filter(|track| *track != 18)
-        .map(|track| u32::from(track18[4 * track]))
+        .map(|track| u32::from(track18[entry_at(layout, track)]))
         .sum();
     Ok(text + &format!("{sum:04X}\n"))
 }

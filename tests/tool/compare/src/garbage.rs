@@ -4,6 +4,7 @@
 use crate::tool::{Said, Tool};
 use independent::check::check;
 use independent::generate::sound;
+use independent::geometry::LAYOUTS;
 use independent::rng::Rng;
 
 const STATUSES: &[i32] = &[64, 66, 71, 73, 74, 75];
@@ -29,6 +30,13 @@ const WORDS: &[&str] = &[
     "--",
     "--quiet",
     "--keep-going",
+    "--layout",
+    "--layout",
+    "--layout=",
+    "--layout=1",
+    "--layout=dolphin",
+    "--layout=3",
+    "speeddos",
     "--help",
     "--version",
     "-k",
@@ -86,7 +94,7 @@ fn sensible(said: &Said, context: &str) {
     );
 }
 
-/// The image is as it was unless the status is 0; an accepted image stays accepted.
+/// The image is as it was unless the status is 0; an accepted image stays accepted, in the layout of what was done to it.
 fn unharmed(tool: &Tool, before: &[u8], said: &Said, context: &str) {
     let now = tool.read("image").expect("the image");
     assert!(
@@ -95,15 +103,19 @@ fn unharmed(tool: &Tool, before: &[u8], said: &Said, context: &str) {
         said.shown()
     );
     assert!(
-        check(&now).number == 0,
+        LAYOUTS
+            .iter()
+            .any(|&layout| check(layout, &now).number == 0),
         "{context}: no accepted image:\n{}",
         said.shown()
     );
     tool.nothing_hidden(context);
 }
 
+/// Now and then of another layout than the one that a command has where none is named.
 fn image(rng: &mut Rng, tool: &Tool) -> Vec<u8> {
-    let image = sound("few", rng).expect("a kind").image;
+    let layout = if rng.one_in(3) { rng.pick(&LAYOUTS) } else { 0 };
+    let image = sound(layout, "few", rng).expect("a kind").image;
     tool.write("image", &image);
     tool.write("file", &rng.bytes(600));
     tool.write("jobs", b"check\nstore X file\n");

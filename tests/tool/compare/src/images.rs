@@ -1,64 +1,99 @@
-//! Generated images, sound and damaged: check, dir and listing say what the independent program finds, and every command that checks the image gives the same
-//! line for a damaged one.
+//! Generated images of each layout, sound and damaged: check, dir and listing say what the independent program finds, and every command that checks the image
+//! gives the same line for a damaged one. So they do in the other layouts.
 
 use crate::text::{printed, refusal};
-use crate::tool::Tool;
+use crate::tool::{Layout, Tool};
 use independent::answer::{Answer, DONE, MAP_WRONG, NONE, WRONG_SIZE};
 use independent::check::check;
 use independent::generate::{generate, kinds};
-use independent::geometry::{IMAGE_BYTES, TRACK_18_OFFSET};
+use independent::geometry::{Geometry, LAYOUTS, TRACK_18_OFFSET};
 use independent::listing::{listing, LONGEST};
 use independent::naive::contents;
 use independent::request::track_18_of;
+use independent::rng::Rng;
 
-/// How many images were looked at, how many of them were refused, and for how many of these a mark of the map was wrong, or only a count.
+/// How many images were looked at, how many of them were refused, for how many of these a mark of the map was wrong, or only a count, how many of both were on
+/// tracks 36 to 40, and how many images were accepted in two layouts.
 #[derive(Default)]
 pub struct Seen {
     pub made: usize,
     pub refused: usize,
     pub marks: usize,
     pub counts: usize,
+    pub extra: usize,
+    pub in_two: usize,
 }
+
+/// Every command that checks the image, by itself and in a list.
+const COMMANDS: [&[&str]; 6] = [
+    &["check", "image"],
+    &["dir", "image"],
+    &["read", "image", "A", "out"],
+    &["store", "image", "A", "data"],
+    &["scratch", "image", "A"],
+    &["run", "--quiet", "jobs", "image"],
+];
 
 pub fn compare(tool: &Tool, seeds: u64) -> Seen {
     let mut seen = Seen::default();
     tool.write("data", b"data");
     tool.write("jobs", b"# the job is in line 2\nscratch A\n");
-    for kind in kinds() {
-        for seed in 0..seeds {
-            let image = generate(&kind, seed).expect("a kind").image;
-            tool.write("image", &image);
-            let context = format!("generate {kind} {seed}");
-            let answer = check(&image);
-            match answer.number {
-                DONE => accepted(tool, &image, &context),
-                _ => refused(tool, &image, &answer, &context),
+    for made_in in LAYOUTS {
+        for kind in kinds() {
+            for seed in 0..seeds {
+                let image = generate(made_in, &kind, seed).expect("a kind").image;
+                tool.write("image", &image);
+                let context = format!("generate {made_in} {kind} {seed}");
+                seen.add(made_in, &image);
+                for number in LAYOUTS {
+                    let layout = Layout::named(&mut Rng::new(seed), number);
+                    let context = format!("{context}, layout {number}");
+                    let commands = match number == made_in {
+                        true => &COMMANDS[..],
+                        false => &COMMANDS[..1],
+                    };
+                    one(tool, &layout, commands, &image, &context);
+                }
+                let now = tool.read("image").expect("the image");
+                assert!(now == image, "{context}: the image is changed");
+                tool.nothing_hidden(&context);
             }
-            sleeve(tool, &image, &context);
-            let now = tool.read("image").expect("the image");
-            assert!(now == image, "{context}: the image is changed");
-            tool.nothing_hidden(&context);
-            seen.add(&answer);
         }
     }
     seen
 }
 
+/// One image in one layout; a refusal by these commands.
+fn one(tool: &Tool, layout: &Layout, commands: &[&[&str]], image: &[u8], context: &str) {
+    match check(layout.number, image).number {
+        DONE => accepted(tool, layout, image, context),
+        _ => refused(tool, layout, commands, image, context),
+    }
+    sleeve(tool, layout, image, context);
+}
+
 impl Seen {
-    fn add(&mut self, answer: &Answer) {
+    fn add(&mut self, layout: u32, image: &[u8]) {
+        let answer = check(layout, image);
+        let accepting = LAYOUTS
+            .iter()
+            .filter(|&&layout| check(layout, image).number == DONE);
         let map = answer.number == MAP_WRONG;
         self.made += 1;
         self.refused += usize::from(answer.number != DONE);
         self.marks += usize::from(map && answer.place.sector != NONE);
         self.counts += usize::from(map && answer.place.sector == NONE);
+        self.extra += usize::from(map && answer.place.track > 35);
+        self.in_two += usize::from(accepting.count() > 1);
     }
 }
 
-fn accepted(tool: &Tool, image: &[u8], context: &str) {
-    tool.run(&["check", "image"]).status_is(DONE, context);
-    let listed = tool.run(&["dir", "image"]);
+fn accepted(tool: &Tool, layout: &Layout, image: &[u8], context: &str) {
+    tool.run_in(layout, &["check", "image"])
+        .status_is(DONE, context);
+    let listed = tool.run_in(layout, &["dir", "image"]);
     listed.status_is(DONE, context);
-    let expected = directory(image);
+    let expected = directory(layout.number, image);
     let seen = String::from_utf8_lossy(&listed.out);
     assert!(
         expected == seen,
@@ -66,19 +101,11 @@ fn accepted(tool: &Tool, image: &[u8], context: &str) {
     );
 }
 
-/// Every command that checks the image, by itself and in a list.
-fn refused(tool: &Tool, image: &[u8], answer: &Answer, context: &str) {
-    let line = refusal(answer, image);
-    let commands: [&[&str]; 6] = [
-        &["check", "image"],
-        &["dir", "image"],
-        &["read", "image", "A", "out"],
-        &["store", "image", "A", "data"],
-        &["scratch", "image", "A"],
-        &["run", "--quiet", "jobs", "image"],
-    ];
+fn refused(tool: &Tool, layout: &Layout, commands: &[&[&str]], image: &[u8], context: &str) {
+    let answer = check(layout.number, image);
+    let line = refusal(layout.number, &answer, image);
     for words in commands {
-        let said = tool.run(words);
+        let said = tool.run_in(layout, words);
         said.status_is(answer.number, context);
         match words[0] {
             "run" => said.says(&format!("line 2: {line}"), context),
@@ -91,13 +118,14 @@ fn refused(tool: &Tool, image: &[u8], answer: &Answer, context: &str) {
     }
 }
 
-fn sleeve(tool: &Tool, image: &[u8], context: &str) {
+fn sleeve(tool: &Tool, layout: &Layout, image: &[u8], context: &str) {
     let mut text = [0; LONGEST];
-    let answer = match image.len() {
-        IMAGE_BYTES => listing(track_18_of(image), &mut text),
-        _ => Answer::refusal(WRONG_SIZE),
+    let geometry = Geometry::of(layout.number).expect("a layout");
+    let answer = match image.len() == geometry.image_bytes() {
+        true => listing(layout.number, track_18_of(image), &mut text),
+        false => Answer::refusal(WRONG_SIZE),
     };
-    let said = tool.run(&["listing", "image"]);
+    let said = tool.run_in(layout, &["listing", "image"]);
     said.status_is(answer.number, context);
     if answer.number == DONE {
         assert!(
@@ -105,13 +133,13 @@ fn sleeve(tool: &Tool, image: &[u8], context: &str) {
             "{context}: another listing"
         );
     } else {
-        said.says(&refusal(&answer, image), context);
+        said.says(&refusal(layout.number, &answer, image), context);
     }
 }
 
 /// The directory of an accepted image as a drive lists it.
-fn directory(image: &[u8]) -> String {
-    let contents = contents(image).expect("an accepted image");
+fn directory(layout: u32, image: &[u8]) -> String {
+    let contents = contents(layout, image).expect("an accepted image");
     let map = &image[TRACK_18_OFFSET..];
     // In the head, which no rule binds, $A0 is the blank that a drive shows.
     let head = |bytes: &[u8]| -> String {

@@ -1,15 +1,16 @@
 //! Random lists of calls, once as job lists and once as single commands: images, statuses, lines and files read are those of the independent program.
 
 use crate::text::{refusal, typed, word};
-use crate::tool::Tool;
+use crate::tool::{Layout, Tool};
 use independent::answer::{Answer, Place, DONE};
 use independent::generate::sound;
+use independent::geometry::{IMAGE_BYTES_40, LAYOUTS};
 use independent::lists::{requests, STYLES};
 use independent::request::{perform, Call, Independent, Reply, Request};
 use independent::rng::Rng;
 
 /// Room for every file that a disk can hold.
-const ROOM: usize = 174_848;
+const ROOM: usize = IMAGE_BYTES_40;
 
 #[derive(Default)]
 pub struct Tally {
@@ -18,9 +19,9 @@ pub struct Tally {
 }
 
 /// The calls of a list that a job can be; each is lent what the tool lends.
-fn calls(rng: &mut Rng, image: &[u8], count: usize) -> Vec<Call> {
+fn calls(layout: u32, rng: &mut Rng, image: &[u8], count: usize) -> Vec<Call> {
     let style = rng.pick(STYLES);
-    requests(rng, image, style, count)
+    requests(layout, rng, image, style, count)
         .into_iter()
         .filter_map(|request| match request.call {
             Call::Tell { .. } | Call::Listing { .. } => None,
@@ -30,7 +31,9 @@ fn calls(rng: &mut Rng, image: &[u8], count: usize) -> Vec<Call> {
         .collect()
 }
 
-fn start_image(rng: &mut Rng) -> Vec<u8> {
+/// The layouts in turn, and an image that is accepted in its layout.
+fn start(seed: u64, rng: &mut Rng) -> (Layout, Vec<u8>) {
+    let number = LAYOUTS[seed as usize % LAYOUTS.len()];
     let kind = rng.pick(&[
         "fresh",
         "few",
@@ -40,8 +43,11 @@ fn start_image(rng: &mut Rng) -> Vec<u8> {
         "nearly-full",
         "locked",
         "odd-names",
+        "last-tracks",
+        "two-maps",
     ]);
-    sound(kind, rng).expect("a kind").image
+    let image = sound(number, kind, rng).expect("a kind").image;
+    (Layout::named(rng, number), image)
 }
 
 fn answer_of(reply: &Reply) -> Answer {
@@ -58,7 +64,7 @@ fn answer_of(reply: &Reply) -> Answer {
 }
 
 /// The line of a refusal: a name that is not there may have been typed in small letters, and is then told so; so is who asks for a USR file.
-fn refusal_of(call: &Call, reply: &Reply, image: &[u8]) -> String {
+fn refusal_of(layout: u32, call: &Call, reply: &Reply, image: &[u8]) -> String {
     let shifted = match call {
         Call::Read { name, .. } | Call::Scratch { name } => {
             name.iter().any(|byte| (0xC1..=0xDA).contains(byte))
@@ -70,20 +76,13 @@ fn refusal_of(call: &Call, reply: &Reply, image: &[u8]) -> String {
         (10, Call::Store { kind: 3, .. }) => "; USR files can no longer be stored",
         _ => "",
     };
-    refusal(&answer_of(reply), image) + hint
+    refusal(layout, &answer_of(reply), image) + hint
 }
 
 /// Does a call with the independent program.
-fn done_by_oracle(image: &mut [u8], call: &Call) -> Reply {
-    perform(
-        &Independent,
-        image,
-        &Request {
-            call: call.clone(),
-            block: 9,
-        },
-    )
-    .expect("every call is there")
+fn done_by_oracle(layout: u32, image: &mut [u8], call: &Call) -> Reply {
+    let request = Request::of(layout, call.clone());
+    perform(&Independent, image, &request).expect("every call is there")
 }
 
 /// The words of a call: command, name, then id, or file and type. Data go to the file.
@@ -115,6 +114,7 @@ fn words(rng: &mut Rng, tool: &Tool, call: &Call, file: &str) -> Vec<String> {
 
 /// A job list on an image, and what is expected of it.
 struct List {
+    layout: Layout,
     image: Vec<u8>,
     calls: Vec<Call>,
     text: String,
@@ -122,9 +122,10 @@ struct List {
     lines: Vec<usize>,
 }
 
-fn list(rng: &mut Rng, tool: &Tool, count: usize) -> List {
-    let image = start_image(rng);
-    let calls = calls(rng, &image, count);
+fn list(seed: u64, tool: &Tool, count: usize) -> List {
+    let rng = &mut Rng::new(seed ^ 0x10B5);
+    let (layout, image) = start(seed, rng);
+    let calls = calls(layout.number, rng, &image, count);
     let (mut text, mut lines, mut line) = (String::new(), Vec::new(), 1);
     for (at, call) in calls.iter().enumerate() {
         while rng.one_in(8) {
@@ -139,6 +140,7 @@ fn list(rng: &mut Rng, tool: &Tool, count: usize) -> List {
         line += 1;
     }
     List {
+        layout,
         image,
         calls,
         text,
@@ -151,12 +153,12 @@ fn run_list(tool: &Tool, list: &List, keep_going: bool, context: &str, tally: &m
     let (mut expected, mut lines, mut status) = (list.image.clone(), Vec::new(), DONE);
     let mut replies = Vec::new();
     for (call, line) in list.calls.iter().zip(&list.lines) {
-        let reply = done_by_oracle(&mut expected, call);
+        let reply = done_by_oracle(list.layout.number, &mut expected, call);
         let number = reply.number as u8;
         if number != DONE {
             lines.push(format!(
                 "line {line}: {}",
-                refusal_of(call, &reply, &expected)
+                refusal_of(list.layout.number, call, &reply, &expected)
             ));
             status = if status == DONE { number } else { status };
         }
@@ -172,7 +174,7 @@ fn run_list(tool: &Tool, list: &List, keep_going: bool, context: &str, tally: &m
     tool.write("image", &list.image);
     tool.write("jobs", list.text.as_bytes());
     let option = if keep_going { "--keep-going" } else { "--" };
-    let said = tool.run(&["run", option, "jobs", "image"]);
+    let said = tool.run_in(&list.layout, &["run", option, "jobs", "image"]);
     said.status_is(status, context);
     let seen: Vec<&str> = said
         .err
@@ -225,8 +227,7 @@ fn compare_reads(tool: &Tool, list: &List, replies: &[Reply], context: &str) {
 pub fn compare_lists(tool: &Tool, seeds: &[u64], count: usize) -> Tally {
     let mut tally = Tally::default();
     for &seed in seeds {
-        let rng = &mut Rng::new(seed ^ 0x10B5);
-        let list = list(rng, tool, count);
+        let list = list(seed, tool, count);
         run_list(
             tool,
             &list,
@@ -250,12 +251,13 @@ pub fn compare_commands(tool: &Tool, seeds: &[u64], count: usize) -> Tally {
     let mut tally = Tally::default();
     for &seed in seeds {
         let rng = &mut Rng::new(seed ^ 0x51);
-        let mut image = start_image(rng);
+        let (layout, mut image) = start(seed, rng);
         tool.write("image", &image);
-        for (at, call) in calls(rng, &image, count).iter().enumerate() {
+        for (at, call) in calls(layout.number, rng, &image, count).iter().enumerate() {
             single(
                 rng,
                 tool,
+                &layout,
                 &mut image,
                 call,
                 &format!("command {at}, SEED={seed}"),
@@ -270,6 +272,7 @@ pub fn compare_commands(tool: &Tool, seeds: &[u64], count: usize) -> Tally {
 fn single(
     rng: &mut Rng,
     tool: &Tool,
+    layout: &Layout,
     image: &mut [u8],
     call: &Call,
     context: &str,
@@ -279,14 +282,14 @@ fn single(
     let words = words(rng, tool, call, "file");
     let mut arguments = vec![&words[0][..], "image", "--"];
     arguments.extend(words[1..].iter().map(|word| &word[..]));
-    let said = tool.run(&arguments);
-    let reply = done_by_oracle(image, call);
+    let said = tool.run_in(layout, &arguments);
+    let reply = done_by_oracle(layout.number, image, call);
     let answer = answer_of(&reply);
     said.status_is(answer.number, context);
     tally.jobs += 1;
     if answer.number != DONE {
         tally.refused += 1;
-        said.says(&refusal_of(call, &reply, image), context);
+        said.says(&refusal_of(layout.number, call, &reply, image), context);
     }
     assert!(
         tool.read("image").expect("the image") == image,

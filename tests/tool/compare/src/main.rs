@@ -19,10 +19,10 @@ fn main() -> ExitCode {
         eprintln!("usage: compare-tool TOOL FOLDER (a new one)");
         return ExitCode::from(64);
     };
-    let seen = images::compare(&tool, number("IMAGES", 4));
+    let seen = images::compare(&tool, number("IMAGES", 2));
     assert!(
-        seen.marks > 0 && seen.counts > 0,
-        "no wrong mark, or no wrong count alone, in any map"
+        seen.marks > 0 && seen.counts > 0 && seen.extra > 0 && seen.in_two > 0,
+        "no wrong mark, no wrong count alone or none on tracks 36 to 40 in any map, or no image that two layouts accept"
     );
     let lists = jobs::compare_lists(&tool, &seeds(40), 200);
     let single = jobs::compare_commands(&tool, &seeds(3), 200);
@@ -34,12 +34,12 @@ fn main() -> ExitCode {
     garbage::words(&tool, odd);
     garbage::lists(&tool, odd);
     println!(
-        "tool: as the independent program: check, dir and listing of {} images; every command on the {} of them that are refused,",
+        "tool: as the independent program: check, dir and listing of {} images in each layout; every command on the {} of them that are refused in their own,",
         seen.made, seen.refused
     );
     println!(
-        "tool: {} for a mark of the map and {} for a count of it;",
-        seen.marks, seen.counts
+        "tool: {} for a mark of the map and {} for a count of it, {} on tracks 36 to 40; {} are accepted in two layouts;",
+        seen.marks, seen.counts, seen.extra, seen.in_two
     );
     println!(
         "tool: {} jobs of lists, {} of them refused; {} single commands, {} of them refused",

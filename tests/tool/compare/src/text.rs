@@ -1,7 +1,7 @@
 //! Names as text and refusals as lines, written from the manual.
 
 use independent::answer::{Answer, Place, MAP_WRONG, NONE, WRONG_SIZE};
-use independent::geometry::{sectors_on, IMAGE_BYTES, TRACK_18_OFFSET};
+use independent::geometry::{Geometry, TRACK_18_OFFSET};
 use independent::rng::Rng;
 
 /// The character of a byte, by the table in NAMES.
@@ -69,16 +69,16 @@ fn meaning(number: u8) -> &'static str {
         13 => "name is not there",
         14 => "directory full: no empty slot and no free sector on track 18",
         15 => "disk full: more sectors needed than are free off track 18",
-        _ => unreachable!("the tool lends enough, so 16 is not met"),
+        _ => unreachable!("the tool lends enough and names a layout, so 16 and 17 are not met"),
     }
 }
 
-/// The line of a refusal of an image.
-pub fn refusal(answer: &Answer, image: &[u8]) -> String {
+/// The line of a refusal of an image in a layout.
+pub fn refusal(layout: u32, answer: &Answer, image: &[u8]) -> String {
     let line = format!("refused, {}: {}", answer.number, meaning(answer.number));
     let place = answer.place;
     match answer.number {
-        WRONG_SIZE => format!("{line}; {}", size(image.len())),
+        WRONG_SIZE => format!("{line}; {}", size(layout, image.len())),
         2 | 3 if place.slot == NONE => {
             format!(
                 "{line}; the link is in track {} sector {}, in the directory",
@@ -93,17 +93,23 @@ pub fn refusal(answer: &Answer, image: &[u8]) -> String {
             "{line}; the entry is in track {} sector {}, slot {}",
             place.track, place.sector, place.slot
         ),
-        MAP_WRONG => format!("{line}: track {}, {}", place.track, mark(place, image)),
+        MAP_WRONG => format!(
+            "{line}: track {}, {}{}",
+            place.track,
+            mark(layout, place, image),
+            elsewhere(layout, place.track)
+        ),
         _ => line,
     }
 }
 
 /// What the map says of the sector whose mark is wrong; where it names none, the count and the sectors marked free.
-fn mark(place: Place, image: &[u8]) -> String {
-    let entry = &image[TRACK_18_OFFSET + 4 * usize::from(place.track)..][..4];
+fn mark(layout: u32, place: Place, image: &[u8]) -> String {
+    let geometry = Geometry::of(layout).expect("a layout");
+    let entry = &image[TRACK_18_OFFSET + geometry.entry_at(place.track)..][..4];
     let free = |sector: u8| entry[1 + usize::from(sector / 8)] >> (sector % 8) & 1 == 1;
     if place.sector == NONE {
-        let marked = (0..sectors_on(place.track))
+        let marked = (0..geometry.sectors_on(place.track))
             .filter(|&sector| free(sector))
             .count();
         let are = if marked == 1 {
@@ -120,11 +126,33 @@ fn mark(place: Place, image: &[u8]) -> String {
     format!("sector {} is marked {wrongly}", place.sector)
 }
 
-fn size(length: usize) -> String {
+/// Tracks 36 to 40 have their entries elsewhere in the other layout of their size.
+fn elsewhere(layout: u32, track: u8) -> String {
+    let other = match layout {
+        1 => "dolphin (2)",
+        _ => "speeddos (1)",
+    };
+    match track {
+        36.. => format!("; layout {other} has this entry elsewhere"),
+        _ => String::new(),
+    }
+}
+
+fn size(layout: u32, length: usize) -> String {
     let has = match length {
-        _ if length > IMAGE_BYTES => "more".to_string(),
+        196_609.. => "more than 196,608".to_string(),
         0..1000 => length.to_string(),
         _ => format!("{},{:03}", length / 1000, length % 1000),
     };
-    format!("an image has 174,848 bytes, this one has {has}")
+    let named = ["35 (0)", "speeddos (1)", "dolphin (2)"][layout as usize];
+    let sizes = match length {
+        174_848 => format!(", the size of layout 35 (0), not of layout {named}"),
+        196_608 => {
+            format!(", the size of layouts speeddos (1) and dolphin (2), not of layout {named}")
+        }
+        _ => {
+            "; layout 35 (0) has 174,848, layouts speeddos (1) and dolphin (2) have 196,608".into()
+        }
+    };
+    format!("this image has {has} bytes{sizes}")
 }

@@ -1,5 +1,6 @@
 //! The tool as a program: runs it in a folder and keeps what it printed.
 
+use independent::rng::Rng;
 use std::path::PathBuf;
 use std::process::{Command, Output, Stdio};
 use std::{env, fs};
@@ -7,6 +8,37 @@ use std::{env, fs};
 pub struct Tool {
     pub path: PathBuf,
     pub folder: PathBuf,
+}
+
+/// A layout by its number, and the words that name it on a command line.
+#[derive(Clone)]
+pub struct Layout {
+    pub number: u32,
+    words: Vec<&'static str>,
+}
+
+impl Layout {
+    /// The layout, named in one of the ways that the manual has; layout 0 may stay unnamed.
+    pub fn named(rng: &mut Rng, number: u32) -> Layout {
+        let ways: &[&[&str]] = match number {
+            0 => &[&[], &["--layout", "0"], &["--layout=35"]],
+            1 => &[
+                &["--layout", "speeddos"],
+                &["--layout=1"],
+                &["--layout", "SpeedDOS"],
+            ],
+            2 => &[
+                &["--layout", "2"],
+                &["--layout=dolphin"],
+                &["--layout", "Dolphin"],
+            ],
+            _ => unreachable!("three layouts"),
+        };
+        Layout {
+            number,
+            words: rng.pick(ways).to_vec(),
+        }
+    }
 }
 
 pub struct Said {
@@ -45,6 +77,11 @@ impl Tool {
             out: stdout,
             err: String::from_utf8_lossy(&stderr).into_owned(),
         }
+    }
+
+    /// Runs a command with the layout named behind its first word.
+    pub fn run_in(&self, layout: &Layout, arguments: &[&str]) -> Said {
+        self.run(&[&arguments[..1], &layout.words[..], &arguments[1..]].concat())
     }
 
     pub fn write(&self, name: &str, bytes: &[u8]) {
