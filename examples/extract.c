@@ -1,4 +1,4 @@
-/* extract NAME < image.d64 > file: writes one file of a disk image to standard output, or says why it cannot. */
+/* extract NAME < image.d64 > file: writes one file of a disk image of 35 tracks to standard output, or says why it cannot. */
 #include "d64.h"
 #include <stdio.h>
 #include <string.h>
@@ -10,7 +10,7 @@ int main(int argc, char **argv)
     uint8_t answer[D64_BLOCK_BYTES];
     const char *name = argc == 2 ? argv[1] : "";
     size_t image_len = fread(image, 1, sizeof image, stdin); /* one byte too many is noticed */
-    uint32_t number = d64_read(image, image_len, (const uint8_t *)name, strlen(name), out, sizeof out, answer, sizeof answer);
+    uint32_t number = d64_read(D64_LAYOUT_35, image, image_len, (const uint8_t *)name, strlen(name), out, sizeof out, answer, sizeof answer);
     size_t length = answer[3] | (size_t)answer[4] << 8 | (size_t)answer[5] << 16;
 
     if (number != D64_DONE) {

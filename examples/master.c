@@ -1,4 +1,4 @@
-/* master DISK NAME FILE > image.d64: formats a disk, stores a file on it as a PRG, and says what it stored or why not. */
+/* master DISK NAME FILE > image.d64: formats a disk of 35 tracks, stores a file on it as a PRG, and says what it stored or why not. */
 #include "d64.h"
 #include <stdio.h>
 #include <string.h>
@@ -23,9 +23,9 @@ int main(int argc, char **argv)
     }
     data_len = fread(data, 1, sizeof data, file);
     fclose(file);
-    number = d64_format(image, sizeof image, bytes(argv[1]), strlen(argv[1]), 0x30, 0x31, answer, sizeof answer);
+    number = d64_format(D64_LAYOUT_35, image, sizeof image, bytes(argv[1]), strlen(argv[1]), 0x30, 0x31, answer, sizeof answer);
     if (number == D64_DONE)
-        number = d64_store(image, sizeof image, bytes(argv[2]), strlen(argv[2]), 2, data, data_len, answer, sizeof answer);
+        number = d64_store(D64_LAYOUT_35, image, sizeof image, bytes(argv[2]), strlen(argv[2]), 2, data, data_len, answer, sizeof answer);
     if (number != D64_DONE) {
         fprintf(stderr, "refused, %u: track %u sector %u slot %u\n", (unsigned)number, answer[0], answer[1], answer[2]);
         return (int)number;

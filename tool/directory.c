@@ -14,22 +14,22 @@ enum {
     PADDING = 0xA0
 };
 
-/* The listing of track 18 of an image; of no bytes, which is refused with 1, where the image has another size. */
-static struct answer listing_of(const uint8_t *image, size_t image_length, uint8_t text[D64_LISTING_BYTES])
+/* The listing of track 18 of an image; of no bytes, which is refused with 1, where the image has not the layout's size. */
+static struct answer listing_of(const struct layout *layout, const uint8_t *image, size_t image_length, uint8_t text[D64_LISTING_BYTES])
 {
-    bool whole = image_length == D64_IMAGE_BYTES;
+    bool whole = image_length == layout->image_bytes;
     uint8_t block[D64_BLOCK_BYTES];
-    uint32_t number = d64_listing(image + (whole ? D64_TRACK18_OFFSET : 0), whole ? D64_TRACK18_BYTES : 0,
+    uint32_t number = d64_listing(layout->number, image + (whole ? D64_TRACK18_OFFSET : 0), whole ? D64_TRACK18_BYTES : 0,
                                   text, D64_LISTING_BYTES, block, sizeof block);
 
     return answer_of(number, block);
 }
 
-int print_listing(const uint8_t *image, size_t image_length, struct answer *answer)
+int print_listing(const struct layout *layout, const uint8_t *image, size_t image_length, struct answer *answer)
 {
     static uint8_t text[D64_LISTING_BYTES];
 
-    *answer = listing_of(image, image_length, text);
+    *answer = listing_of(layout, image, image_length, text);
     return answer->number == D64_DONE ? write_stream(text, answer->length) : 0;
 }
 
@@ -57,15 +57,15 @@ static void print_entry(const uint8_t entry[D64_ENTRY_BYTES])
            kind < sizeof kinds / sizeof kinds[0] ? kinds[kind] : "?", (entry[0] & 0x40) != 0 ? "<" : "");
 }
 
-int print_directory(const uint8_t *image, size_t image_length, struct answer *answer)
+int print_directory(const struct layout *layout, const uint8_t *image, size_t image_length, struct answer *answer)
 {
     static uint8_t text[D64_LISTING_BYTES];
     uint8_t entry[D64_ENTRY_BYTES], block[D64_BLOCK_BYTES];
     char total[TOTAL_DIGITS + 1] = "";
 
-    *answer = answer_of(d64_check(image, image_length, block, sizeof block), block);
+    *answer = answer_of(d64_check(layout->number, image, image_length, block, sizeof block), block);
     if (answer->number == D64_DONE)
-        *answer = listing_of(image, image_length, text);
+        *answer = listing_of(layout, image, image_length, text);
     if (answer->number != D64_DONE)
         return 0;
     fputs("0 \"", stdout);
@@ -73,7 +73,7 @@ int print_directory(const uint8_t *image, size_t image_length, struct answer *an
     fputs("\" ", stdout);
     print_label(image + DISK_ID_OFFSET, DISK_ID_BYTES);
     putchar('\n');
-    for (size_t position = 0; d64_tell(image, image_length, position, entry, sizeof entry, block, sizeof block) == D64_DONE; position++)
+    for (size_t position = 0; d64_tell(layout->number, image, image_length, position, entry, sizeof entry, block, sizeof block) == D64_DONE; position++)
         print_entry(entry);
     memcpy(total, text + answer->length - TOTAL_DIGITS - 1, TOTAL_DIGITS);
     printf("%lu BLOCKS FREE.\n", strtoul(total, NULL, 16));

@@ -10,12 +10,13 @@ static int read_image(struct image *image)
     return status;
 }
 
-int image_open(struct image *image, const char *path, bool for_change, bool may_be_new)
+int image_open(struct image *image, const struct layout *layout, const char *path, bool for_change, bool may_be_new)
 {
     bool is_file = for_change && !is_stream(path);
     int status = 0;
 
     image->path = path;
+    image->layout = layout;
     image->for_change = for_change;
     if (is_file)
         status = replacement_begin(&image->file, path);
@@ -23,7 +24,7 @@ int image_open(struct image *image, const char *path, bool for_change, bool may_
         return status;
     image->is_new = may_be_new && (is_stream(path) || (is_file && image->file.is_new));
     if (image->is_new) {
-        image->length = D64_IMAGE_BYTES;
+        image->length = layout->image_bytes;
         return 0;
     }
     status = read_image(image);
@@ -38,7 +39,7 @@ int image_save(struct image *image, bool *written)
 
     *written = image->for_change && (changed || (is_stream(image->path) && !image->is_new));
     if (*written && is_stream(image->path)) {
-        if (image->length > D64_IMAGE_BYTES)
+        if (image->length > LARGEST_IMAGE_BYTES)
             return fail(STATUS_NO_OUTPUT, "the image was not read to its end; nothing is written");
         return write_stream(image->bytes, image->length);
     }

@@ -14,6 +14,7 @@
 
 struct options {
     bool help, keep_going;
+    const struct layout *layout; /* NULL until one is named */
 };
 
 static void print_synopsis(FILE *file, const struct command *command)
@@ -37,7 +38,8 @@ static void print_help(const struct command *command)
     fputs("usage: ", stdout);
     print_synopsis(stdout, command);
     printf("\n\n%s\n", command->help);
-    puts("--quiet prints no line for what is done; -- ends the options. IMAGE '-' is standard input, and standard\n"
+    puts("--layout LAYOUT is the layout of the image: 35 (or 0), speeddos (1) or dolphin (2); 35 if it is not given.\n"
+         "--quiet prints no line for what is done; -- ends the options. IMAGE '-' is standard input, and standard\n"
          "output for a changed image. The exit status is the library's answer number, or over 63; see d64(1).");
 }
 
@@ -51,6 +53,7 @@ static void print_overview(FILE *file)
         print_synopsis(file, command);
         fputc('\n', file);
     }
+    fputs("each takes --layout LAYOUT: 35, speeddos or dolphin; 35 if it is not given\n", file);
     fputs("see d64 COMMAND --help, and d64(1)\n", file);
 }
 
@@ -66,33 +69,56 @@ static int unknown_option(const struct command *command, char **words)
     return expected(command, seen);
 }
 
+static int take_layout(const struct command *command, const char *text, struct options *options)
+{
+    if (options->layout != NULL)
+        return expected(command, "--layout is given twice");
+    options->layout = layout_of_text(text);
+    if (options->layout == NULL)
+        return fail(STATUS_USAGE, "'%s' is no layout; expected 35, speeddos or dolphin, or 0, 1 or 2", text);
+    return 0;
+}
+
+/* One option as getopt_long() finds it. */
+static int take_option(int option, const struct command *command, char **words, struct options *options)
+{
+    if (option == 'l')
+        return take_layout(command, optarg, options);
+    if (option == ':')
+        return expected(command, "--layout is without a layout");
+    if (option == 'k' && command->verb != RUN)
+        return expected(command, "--keep-going is for run");
+    if (option == '?')
+        return unknown_option(command, words);
+    if (option == 'h')
+        options->help = true;
+    if (option == 'k')
+        options->keep_going = true;
+    if (option == 'q')
+        keep_quiet();
+    return 0;
+}
+
 static int read_options(const struct command *command, int count, char **words, struct options *options)
 {
     static const struct option names[] = {
         {"help", no_argument, NULL, 'h'},
         {"quiet", no_argument, NULL, 'q'},
         {"keep-going", no_argument, NULL, 'k'},
+        {"layout", required_argument, NULL, 'l'},
         {NULL, 0, NULL, 0},
     };
-    int option;
+    int option, status = 0;
 
     opterr = 0;
-    while ((option = getopt_long(count, words, "hqk", names, NULL)) != -1) {
-        if (option == 'h')
-            options->help = true;
-        else if (option == 'q')
-            keep_quiet();
-        else if (option == 'k' && command->verb == RUN)
-            options->keep_going = true;
-        else if (option == 'k')
-            return expected(command, "--keep-going is for run");
-        else
-            return unknown_option(command, words);
-    }
-    return 0;
+    while (status == 0 && (option = getopt_long(count, words, ":hqk", names, NULL)) != -1)
+        status = take_option(option, command, words, options);
+    if (options->layout == NULL)
+        options->layout = usual_layout();
+    return status;
 }
 
-static int run_list(const char *jobs_path, const char *image_path, bool keep_going)
+static int run_list(const char *jobs_path, const char *image_path, const struct options *options)
 {
     struct job_list list = {.from_stream = is_stream(jobs_path)};
     int status;
@@ -101,12 +127,12 @@ static int run_list(const char *jobs_path, const char *image_path, bool keep_goi
         return fail(STATUS_USAGE, "standard input is asked for twice");
     status = read_job_list(&list, jobs_path);
     if (status == 0)
-        status = carry_out(&list, image_path, keep_going);
+        status = carry_out(&list, options->layout, image_path, options->keep_going);
     free_job_list(&list);
     return status;
 }
 
-static int run_command(const struct command *command, char **operands, size_t count, bool keep_going)
+static int run_command(const struct command *command, char **operands, size_t count, const struct options *options)
 {
     struct job job = {.line = 0};
     int status;
@@ -114,9 +140,9 @@ static int run_command(const struct command *command, char **operands, size_t co
     if (count < command->fewest + 1 || count > command->most + 1)
         return expected(command, count < command->fewest + 1 ? "an operand is missing" : "too many operands");
     if (command->verb == RUN)
-        return run_list(operands[0], operands[1], keep_going);
+        return run_list(operands[0], operands[1], options);
     status = job_of_words(&job, command, operands + 1, count - 1);
-    return status != 0 ? status : carry_out_one(&job, operands[0]);
+    return status != 0 ? status : carry_out_one(&job, options->layout, operands[0]);
 }
 
 static int do_command(const struct command *command, int count, char **words)
@@ -130,7 +156,7 @@ static int do_command(const struct command *command, int count, char **words)
         print_help(command);
         return 0;
     }
-    return run_command(command, words + optind, (size_t)(count - optind), options.keep_going);
+    return run_command(command, words + optind, (size_t)(count - optind), &options);
 }
 
 static int do_word(int count, char **words)

@@ -2,9 +2,8 @@
 #ifndef MAP_H
 #define MAP_H
 
+#include "layouts.h"
 #include <stdbool.h>
-#include <stddef.h>
-#include <stdint.h>
 
 /* A track's entry. */
 struct map_entry {
@@ -12,8 +11,8 @@ struct map_entry {
     uint32_t marks; /* bit s is 1 where sector s is marked free; 0 past the track's last sector, whatever stands there */
 };
 
-/* All zero for a track that no disk has, and where the image has another size. */
-struct map_entry map_entry_of(const uint8_t *image, size_t image_length, unsigned track);
+/* All zero for a track that the layout has not, and where the image has not its size. */
+struct map_entry map_entry_of(const struct layout *layout, const uint8_t *image, size_t image_length, unsigned track);
 
 bool is_marked_free(const struct map_entry *entry, unsigned sector);
 unsigned sectors_marked_free(const struct map_entry *entry);

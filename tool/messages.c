@@ -32,6 +32,7 @@ static const struct {
     [D64_DIRECTORY_FULL] = {"directory full: no empty slot and no free sector on track 18", NO_PLACE},
     [D64_DISK_FULL] = {"disk full: more sectors needed than are free off track 18", NO_PLACE},
     [D64_SHORT] = {"output buffer too short", NO_PLACE},
+    [D64_UNKNOWN_LAYOUT] = {"unknown layout", NO_PLACE},
 };
 
 struct answer answer_of(uint32_t number, const uint8_t block[D64_BLOCK_BYTES])
@@ -115,21 +116,35 @@ int fail_file(enum status status, const char *what, const char *path)
     return fail(errno == ENOMEM ? STATUS_NO_MEMORY : status, "cannot %s %s: %s", what, path[0] != '\0' ? path : "''", strerror(errno));
 }
 
-static void print_size(size_t length)
+static void print_number(size_t number)
 {
-    fprintf(stderr, "; an image has %d,%03d bytes, this one has ", D64_IMAGE_BYTES / 1000, D64_IMAGE_BYTES % 1000);
-    if (length > D64_IMAGE_BYTES)
-        fputs("more", stderr);
-    else if (length < 1000)
-        fprintf(stderr, "%zu", length);
+    if (number < 1000)
+        fprintf(stderr, "%zu", number);
     else
-        fprintf(stderr, "%zu,%03zu", length / 1000, length % 1000);
+        fprintf(stderr, "%zu,%03zu", number / 1000, number % 1000);
+}
+
+/* Which layouts have the size; where none has, which sizes there are. Of an image that is too long for any of them no more was read. */
+static void print_size(const struct layout *layout, size_t length)
+{
+    const char *those = layouts_of_size(length);
+
+    fprintf(stderr, "; this image has %s", length > LARGEST_IMAGE_BYTES ? "more than " : "");
+    print_number(length > LARGEST_IMAGE_BYTES ? LARGEST_IMAGE_BYTES : length);
+    if (those != NULL) {
+        fprintf(stderr, " bytes, the size of %s, not of layout %s (%u)", those, layout->name, (unsigned)layout->number);
+        return;
+    }
+    fprintf(stderr, " bytes; %s has ", layouts_of_size(D64_IMAGE_BYTES));
+    print_number(D64_IMAGE_BYTES);
+    fprintf(stderr, ", %s have ", layouts_of_size(D64_IMAGE40_BYTES));
+    print_number(D64_IMAGE40_BYTES);
 }
 
 /* The answer says which mark of the map is wrong; what it is stands in the image. */
-static void print_map(const struct answer *answer, const uint8_t *image, size_t image_length)
+static void print_map(const struct answer *answer, const struct layout *layout, const uint8_t *image, size_t image_length)
 {
-    struct map_entry entry = map_entry_of(image, image_length, answer->track);
+    struct map_entry entry = map_entry_of(layout, image, image_length, answer->track);
     unsigned sector = answer->sector, marked = sectors_marked_free(&entry);
 
     fprintf(stderr, ": track %u, ", answer->track);
@@ -139,10 +154,10 @@ static void print_map(const struct answer *answer, const uint8_t *image, size_t 
         fprintf(stderr, "the count is %u, %u sector%s marked free", entry.count, marked, marked == 1 ? " is" : "s are");
 }
 
-static void print_place(enum place place, const struct answer *answer, const uint8_t *image, size_t image_length)
+static void print_place(enum place place, const struct answer *answer, const struct layout *layout, const uint8_t *image, size_t image_length)
 {
     if (place == SIZE)
-        print_size(image_length);
+        print_size(layout, image_length);
     if (place == LINK)
         fprintf(stderr, "; the link is in track %u sector %u, ", answer->track, answer->sector);
     if (place == LINK && answer->slot == 255)
@@ -152,16 +167,16 @@ static void print_place(enum place place, const struct answer *answer, const uin
     if (place == ENTRY)
         fprintf(stderr, "; the entry is in track %u sector %u, slot %u", answer->track, answer->sector, answer->slot);
     if (place == MAP)
-        print_map(answer, image, image_length);
+        print_map(answer, layout, image, image_length);
 }
 
-int refuse(const struct answer *answer, const uint8_t *image, size_t image_length, const char *hint)
+int refuse(const struct answer *answer, const struct layout *layout, const uint8_t *image, size_t image_length, const char *hint)
 {
     begin_line("");
     fprintf(stderr, "refused, %u", (unsigned)answer->number);
     if (answer->number < sizeof answers / sizeof answers[0]) {
         fprintf(stderr, ": %s", answers[answer->number].meaning);
-        print_place(answers[answer->number].place, answer, image, image_length);
+        print_place(answers[answer->number].place, answer, layout, image, image_length);
     }
     fprintf(stderr, "%s\n", hint);
     return (int)answer->number;

@@ -2,7 +2,7 @@
 #ifndef MESSAGES_H
 #define MESSAGES_H
 
-#include "d64.h"
+#include "layouts.h"
 #include <stdbool.h>
 
 /* Exit statuses of the tool itself; those below 64 are the library's answers. */
@@ -43,8 +43,8 @@ int fail(enum status status, const char *format, ...) __attribute__((format(prin
 /* The same for a file, with the system's reason in errno. */
 int fail_file(enum status status, const char *what, const char *path);
 
-/* Says why the library refuses the image, with a hint behind it, and returns its number. */
-int refuse(const struct answer *answer, const uint8_t *image, size_t image_length, const char *hint);
+/* Says why the library refuses the image in this layout, with a hint behind it, and returns its number. */
+int refuse(const struct answer *answer, const struct layout *layout, const uint8_t *image, size_t image_length, const char *hint);
 
 /* Says what is done. */
 void say(const char *format, ...) __attribute__((format(printf, 1, 2)));

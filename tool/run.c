@@ -6,9 +6,9 @@
 #include <string.h>
 
 static struct image image;
-static uint8_t data[D64_IMAGE_BYTES]; /* no disk takes so much: a file that is cut here is refused */
-static uint8_t piped[D64_IMAGE_BYTES];
-static uint8_t output[D64_IMAGE_BYTES];
+static uint8_t data[LARGEST_IMAGE_BYTES]; /* no disk takes so much: a file that is cut here is refused */
+static uint8_t piped[LARGEST_IMAGE_BYTES];
+static uint8_t output[LARGEST_IMAGE_BYTES];
 static size_t piped_length;
 
 static const char *image_name(void)
@@ -79,7 +79,7 @@ static int store(const struct job *job, struct answer *answer)
     int status = from_pipe ? 0 : read_file(job->file, data, sizeof data, &length);
 
     if (status == 0)
-        *answer = answer_of(d64_store(image.bytes, image.length, job->name.bytes, job->name.length, job->kind,
+        *answer = answer_of(d64_store(image.layout->number, image.bytes, image.length, job->name.bytes, job->name.length, job->kind,
                                       from_pipe ? piped : data, length, block, sizeof block), block);
     return status;
 }
@@ -87,7 +87,8 @@ static int store(const struct job *job, struct answer *answer)
 static int read_to_file(const struct job *job, struct answer *answer)
 {
     uint8_t block[D64_BLOCK_BYTES];
-    uint32_t number = d64_read(image.bytes, image.length, job->name.bytes, job->name.length, output, sizeof output, block, sizeof block);
+    uint32_t number = d64_read(image.layout->number, image.bytes, image.length, job->name.bytes, job->name.length,
+                               output, sizeof output, block, sizeof block);
 
     *answer = answer_of(number, block);
     return number == D64_DONE ? write_file(job->file, output, answer->length) : 0;
@@ -97,26 +98,27 @@ static int read_to_file(const struct job *job, struct answer *answer)
 static int ask(const struct job *job, struct answer *answer)
 {
     const struct name *name = &job->name, *id = &job->id;
+    uint32_t layout = image.layout->number;
     uint8_t block[D64_BLOCK_BYTES];
 
     switch (job->command->verb) {
     case FORMAT:
-        *answer = answer_of(d64_format(image.bytes, image.length, name->bytes, name->length, id->bytes[0], id->bytes[1],
+        *answer = answer_of(d64_format(layout, image.bytes, image.length, name->bytes, name->length, id->bytes[0], id->bytes[1],
                                        block, sizeof block), block);
         return 0;
     case SCRATCH:
-        *answer = answer_of(d64_scratch(image.bytes, image.length, name->bytes, name->length, block, sizeof block), block);
+        *answer = answer_of(d64_scratch(layout, image.bytes, image.length, name->bytes, name->length, block, sizeof block), block);
         return 0;
     case STORE:
         return store(job, answer);
     case READ:
         return read_to_file(job, answer);
     case DIR:
-        return print_directory(image.bytes, image.length, answer);
+        return print_directory(image.layout, image.bytes, image.length, answer);
     case LISTING:
-        return print_listing(image.bytes, image.length, answer);
+        return print_listing(image.layout, image.bytes, image.length, answer);
     default:
-        *answer = answer_of(d64_check(image.bytes, image.length, block, sizeof block), block);
+        *answer = answer_of(d64_check(layout, image.bytes, image.length, block, sizeof block), block);
         return 0;
     }
 }
@@ -128,6 +130,9 @@ static const char *hint_of(const struct job *job, const struct answer *answer)
         return "; small letters are those with shift";
     if (answer->number == D64_BAD_KIND && job->kind == 3)
         return "; USR files can no longer be stored";
+    if (answer->number == D64_WRONG_MAP && answer->track >= FIRST_EXTRA_TRACK)
+        return image.layout->number == D64_LAYOUT_SPEEDDOS ? "; layout dolphin (2) has this entry elsewhere"
+                                                           : "; layout speeddos (1) has this entry elsewhere";
     return "";
 }
 
@@ -138,7 +143,7 @@ static int do_job(const struct job *job, struct answer *answer)
     set_line(job->line);
     status = ask(job, answer);
     if (status == 0 && answer->number != D64_DONE)
-        status = refuse(answer, image.bytes, image.length, hint_of(job, answer));
+        status = refuse(answer, image.layout, image.bytes, image.length, hint_of(job, answer));
     set_line(0);
     return status;
 }
@@ -188,21 +193,21 @@ static struct outcome do_list(const struct job_list *list, bool keep_going)
     return outcome;
 }
 
-static int prepare(const struct job_list *list, const char *image_path, bool for_change)
+static int prepare(const struct job_list *list, const struct layout *layout, const char *image_path, bool for_change)
 {
     int status = check_paths(list, image_path, for_change);
 
     if (status == 0)
         status = read_piped(list);
     if (status == 0)
-        status = image_open(&image, image_path, for_change, starts_new(list));
+        status = image_open(&image, layout, image_path, for_change, starts_new(list));
     return status;
 }
 
-int carry_out(const struct job_list *list, const char *image_path, bool keep_going)
+int carry_out(const struct job_list *list, const struct layout *layout, const char *image_path, bool keep_going)
 {
     bool for_change = any_changes(list) || is_stream(image_path); /* whoever pipes an image through a list wants it back */
-    int status = prepare(list, image_path, for_change);
+    int status = prepare(list, layout, image_path, for_change);
     struct outcome outcome;
     bool written = false;
 
@@ -240,12 +245,12 @@ static void say_done(const struct job *job, const struct answer *answer)
         puts("accepted");
 }
 
-int carry_out_one(struct job *job, const char *image_path)
+int carry_out_one(struct job *job, const struct layout *layout, const char *image_path)
 {
     const struct job_list list = {.jobs = job, .count = 1};
     struct answer answer;
     bool written;
-    int status = prepare(&list, image_path, job->command->changes_image);
+    int status = prepare(&list, layout, image_path, job->command->changes_image);
 
     if (status != 0)
         return status;
