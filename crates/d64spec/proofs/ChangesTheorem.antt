@@ -16,7 +16,7 @@ use Rattle.d64spec.specs.Accepted.{Accepted}
 use Rattle.d64spec.specs.Reply.{Change, changed}
 use Rattle.d64spec.specs.Store.{SlotPlace, call_store, new_entry, placement, sectors_needed, slot_place_for, stored_disk, write_chain, write_slot}
 use Rattle.d64spec.specs.Scratch.{call_scratch, scratch_change, scratched_disk}
-use Rattle.d64spec.specs.Changes.{OtherBits, OutsideKept, ScratchWrites, ScratchedBytes, StoreWrites, StoredBytes, added_sectors}
+use Rattle.d64spec.specs.Changes.{DataWritten, EntryWritten, OtherBits, OutsideKept, ScratchWrites, ScratchedBytes, StoreWrites, StoredBytes, added_sectors}
 use Rattle.d64spec.proofs.ResultLaws.{done_inj}
 use Rattle.d64spec.proofs.CallLaws.{ScratchDone, StoreDone, scratch-done, store-done}
 use Rattle.d64spec.proofs.FrameLaws.{Sound}
@@ -160,8 +160,8 @@ module _ (g : Geometry) (img name : Bytes) (kind : ℕ) (bs : Bytes) (ch : Chang
         let t : List Address = added_sectors place ++ (r ∷ l) in
         record {
           size = after-size g v img a e2 t k.prepared;
-          laid = rw (after-disk g v img a e2 t k.prepared) k.laid;
-          entry = rw (after-disk g v img a e2 t k.prepared) k.entry;
+          laid = subst (λ (x : Disk). DataWritten g x (r ∷ l) bs) (sym (after-disk g v img a e2 t k.prepared)) k.laid;
+          entry = subst (λ (x : Disk). EntryWritten g (disk img) x place (new_entry name kind r (length (r ∷ l)))) (sym (after-disk g v img a e2 t k.prepared)) k.entry;
           map = after_map g v img a e2 t k.prepared;
           bits = rw store-change at stored-bits;
           rest = after-rest g v img a e2 t k.prepared small (λ n i. StoreWrites g (disk img) place (r ∷ l) n i) (λ n i h. inr (inr h)) (λ n i out. k.rest n i (λ h. out (inl h)) (λ h. out (inr (inl h))));

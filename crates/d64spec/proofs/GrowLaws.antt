@@ -1,7 +1,7 @@
 -- A directory that grows at its end: its chain goes on to the new sector, and its slots are the old ones and the new sector's.
 use Prim.Native.Nat.{ℕ, ◌+◌, ◌*◌, ◌≤◌, ◌<◌}
 use native.Mathlib.Omega.{arith}
-use mathlib.Core.Path.{◌≡◌, refl, sym, ap, ap₂, ◌∙◌}
+use mathlib.Core.Path.{◌≡◌, refl, sym, ap, ap₂, ◌∙◌, subst}
 use mathlib.Core.List.{List, [], ◌∷◌, ◌++◌, map, append-nil, append_assoc}
 use lib.ListN.{length}
 use lib.Dec.{eqb}
@@ -36,7 +36,7 @@ module _ (g : Geometry) where
     chain-grow x k (q ∷ q' ∷ l) p c u f h z =
         let self : indicator (eqb (sector_number g q) (sector_number g q)) ≡ 1 = rw (eq-eqb (sector_number g q) (sector_number g q) refl) in
         let other : sector_number g q ≡ sector_number g (last_of q (q' ∷ l)) → ⊥
-        = λ y. (let i : 0 < count (sector_number g q) (map (sector_number g) (q' ∷ l)) = rw y (last-in q (q' ∷ l) (omega arith)) in omega (arith, u (sector_number g q))) in
+        = λ y. (let i : 0 < count (sector_number g q) (map (sector_number g) (q' ∷ l)) = subst (λ (m : ℕ). 0 < count m (map (sector_number g) (q' ∷ l))) (sym y) (last-in q (q' ∷ l) (omega arith)) in omega (arith, u (sector_number g q))) in
         let s : step (d (sector_number g q)) ≡ step (e (sector_number g q)) = f (sector_number g q) (omega arith) other in
         (c.0, rw s at (chain-grow q (step (d (sector_number g q))) (q' ∷ l) (omega arith) c.1 (λ m. omega (arith, u m)) (λ n i j. f n (omega arith) j) h z))
 

@@ -18,6 +18,7 @@ use Rattle.d64spec.proofs.CheckLaws.{slot_name}
 
 -- a file of a name is counted among the names
 pub name-met : (n : Bytes) (fs : List File) (f : File) → Memᴰ f fs → slot_name f ≡ n → 1 ≤ name_count n (map slot_name fs)
+name-met n [] f m e = elim m [ ]
 name-met n (y ∷ l) f (Memᴰ.head h) e =
     let z : slot_name y ≡ n = ap slot_name (sym h) ∙ e in
     rw z (rw (equal-refl n) (omega arith))
@@ -27,6 +28,7 @@ name-met n (y ∷ l) f (Memᴰ.tail m) e = omega (arith, name-met n l f m e)
 pub files_named-one : (n : Bytes) (fs : List File) (f : File) → Memᴰ f fs → slot_name f ≡ n → name_count n (map slot_name fs) ≤ 1
     → first not_found (files_named n fs) ≡ done f
 unfolding first files_named
+files_named-one n [] f m e u = elim m [ ]
 files_named-one n (y ∷ l) f (Memᴰ.head h) e u =
     let z : equal n (slot_name y) ≡ true = rw (ap slot_name (sym h) ∙ e) (equal-refl n) in
     rw z (ap (λ (x : File). done x) (sym h))

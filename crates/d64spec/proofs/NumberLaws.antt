@@ -33,6 +33,7 @@ module _ (P : Fault → Type 0) where
   answers-append (c ∷ l) m a b = (a.0, answers-append l m a.1 b)
 
   pub first_fails-answers : (l : List Condition) (f : Fault) → Answers P l → FirstFails l f → P f
+  first_fails-answers [] f a h = elim h [ ]
   first_fails-answers (c ∷ l) f a (inl h) = a.0 f h.1
   first_fails-answers (c ∷ l) f a (inr h) = first_fails-answers l f a.1 h.1
 

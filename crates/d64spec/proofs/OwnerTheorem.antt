@@ -36,15 +36,17 @@ module _ (g : Geometry) (n : ℕ) where
   among_same f f' e h = rw e at h
 
   pub claims-some : {f : File} (fs : List File) → Memᴰ f fs → Among g n f.sectors → 0 < count n (file_claims g fs)
-  claims-some {f} (y ∷ fs) (Memᴰ.head e) h = omega (arith, count-file y fs, among_same f y e h)
-  claims-some (y ∷ fs) (Memᴰ.tail m) h = omega (arith, count-file y fs, claims-some fs m h)
+  claims-some {f = f} [] m h = elim m [ ]
+  claims-some {f = f} (y ∷ fs) (Memᴰ.head e) h = omega (arith, count-file y fs, among_same f y e h)
+  claims-some {f = f} (y ∷ fs) (Memᴰ.tail m) h = omega (arith, count-file y fs, claims-some {f = f} fs m h)
 
   -- a sector that is claimed once is that of one file
   claimant-one : {f f' : File} (fs : List File) → count n (file_claims g fs) ≤ 1 → Memᴰ f fs → Among g n f.sectors → Memᴰ f' fs → Among g n f'.sectors → f ≡ f'
-  claimant-one (y ∷ fs) u (Memᴰ.head e) h (Memᴰ.head e') h' = e ∙ sym e'
-  claimant-one {f} (y ∷ fs) u (Memᴰ.head e) h (Memᴰ.tail m') h' = absurd (omega (arith, count-file y fs, among_same f y e h, claims-some fs m' h'))
-  claimant-one {f} {f'} (y ∷ fs) u (Memᴰ.tail m) h (Memᴰ.head e') h' = absurd (omega (arith, count-file y fs, among_same f' y e' h', claims-some fs m h))
-  claimant-one (y ∷ fs) u (Memᴰ.tail m) h (Memᴰ.tail m') h' = claimant-one fs (omega (arith, count-file y fs)) m h m' h'
+  claimant-one {f = f} {f' = f'} [] u m h m' h' = elim m [ ]
+  claimant-one {f = f} {f' = f'} (y ∷ fs) u (Memᴰ.head e) h (Memᴰ.head e') h' = e ∙ sym e'
+  claimant-one {f = f} {f' = f'} (y ∷ fs) u (Memᴰ.head e) h (Memᴰ.tail m') h' = absurd (omega (arith, count-file y fs, among_same f y e h, claims-some fs m' h'))
+  claimant-one {f = f} {f' = f'} (y ∷ fs) u (Memᴰ.tail m) h (Memᴰ.head e') h' = absurd (omega (arith, count-file y fs, among_same f' y e' h', claims-some fs m h))
+  claimant-one {f = f} {f' = f'} (y ∷ fs) u (Memᴰ.tail m) h (Memᴰ.tail m') h' = claimant-one {f = f} {f' = f'} fs (omega (arith, count-file y fs)) m h m' h'
 
 module _ (g : Geometry) (d : Disk) (n : ℕ) where
   pub map-claims : Owns g d the_map n → indicator (eqb n (sector_number g map_address)) ≡ 1
