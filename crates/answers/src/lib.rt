@@ -1,11 +1,13 @@
 // Why a call is refused, document 01's number and place of each refusal, and the nine bytes that the host sees (01, Answer numbers; Host calls).
 // One variant for each row of document 01's table; the numbers are given once, in `answer_of`.
+#![tactic(auto)]
+
 ghost use Rattle.std.specs.Prelude.{◌≡◌};
 ghost use Rattle.d64spec.specs.Answers.{answer_of};
 ghost use Rattle.answers.specs.Faults.{fault_of, verdict_of, meant, answer_to, block_of, Given};
 
 // The sector that holds a fault, and the slot being checked: 255 where it is none's.
-#[derive(Drop)]
+#[derive(Clone, Copy)]
 pub struct Place {
     pub track: u8,
     pub sector: u8,
@@ -13,7 +15,7 @@ pub struct Place {
 }
 
 // The rows of document 01's table, each with what its place names.
-#[derive(Drop)]
+#[derive(Clone, Copy)]
 pub enum Fault {
     WrongSize,
     BadLink(Place),
@@ -35,14 +37,14 @@ pub enum Fault {
 }
 
 // Whether a step found nothing, or its fault.
-#[derive(Drop)]
+#[derive(Clone, Copy)]
 pub enum Verdict {
     Fine,
     Refused(Fault),
 }
 
 // An answer number with its place: track, sector, slot. Number 0 is "done".
-#[derive(Drop)]
+#[derive(Clone, Copy)]
 pub struct Answer {
     pub number: u8,
     pub track: u8,
@@ -51,7 +53,7 @@ pub struct Answer {
 }
 
 // What a call reports to the host: its verdict, a length in bytes and a number of sectors.
-#[derive(Drop)]
+#[derive(Clone, Copy)]
 pub struct Report {
     pub verdict: Verdict,
     pub length: u32,
@@ -169,6 +171,6 @@ pub fn give_answer(report: Report, block: &mut [u8]) -> u32
     let verdict = report.verdict;
     let answer = answer_to(verdict);
     let filled = block_bytes(answer, report.length, report.sectors);
-    bytes::copy(&filled, block);
+    block.copy_from_slice(&filled);
     answer.number as u32
 }

@@ -1,5 +1,7 @@
 // The block availability map (document 01's map, 18/0): an entry of four bytes for each track, a count of free sectors and three bitmap bytes, which are
 // one number. In order: one entry; the map by value, changed mark by mark; loaded from its sector and stored back; the same in an image.
+#![tactic(auto)]
+
 ghost use Rattle.std.specs.Prelude.{◌≡◌, ◌+◌, ◌-◌, ◌≤◌, ◌<◌, length};
 ghost use Rattle.d64spec.specs.Lists.{splice};
 ghost use Rattle.d64spec.specs.Geometry.{sector_number, map_address};

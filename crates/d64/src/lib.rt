@@ -1,6 +1,8 @@
 // The calls of the mastering program, which is in C (01, Host calls): numbers and byte slices, a slice as its pointer and then its length.
 // Each one is refused with 16 before all else where the answer block is not nine bytes; then nothing is read or written.
 // Next it is refused with 17 where its first number names no layout (02, §8).
+#![tactic(auto)]
+
 ghost use Rattle.std.specs.Prelude.{◌≡◌, []};
 ghost use Rattle.d64spec.specs.Call.{check, format, read, store, scratch};
 ghost use Rattle.d64spec.specs.Host.{host_call_in};
@@ -118,7 +120,7 @@ fn give_entry(verdict: Verdict, filled: &[u8], entry: &mut [u8]) -> Verdict
             if entry.len() < filled.len() {
                 return Verdict::Refused(Fault::WrongBuffer);
             }
-            bytes::copy(filled, entry);
+            entry[..filled.len()].copy_from_slice(filled);
             Verdict::Fine
         }
     }

@@ -2,6 +2,8 @@
 // slot that repeats an earlier slot's name, and the sectors that it owns. Track 18 is the same in every layout, so that no function here takes one. The
 // check and the sleeve listing both start here.
 // Every public function takes any bytes.
+#![tactic(auto)]
+
 mod repeats;
 mod walk;
 

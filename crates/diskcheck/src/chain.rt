@@ -8,7 +8,7 @@ use answers::{Fault, Place};
 use geometry::{Address, Layout};
 
 // What a claim answers: the number of the chain's sectors and that of the last byte used in the last of them, or a fault.
-#[derive(Drop)]
+#[derive(Clone, Copy)]
 pub(crate) enum Claim {
     Ended(usize, u8),
     Refused(Fault),

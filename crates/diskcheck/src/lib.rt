@@ -1,6 +1,8 @@
 // The whole check of an image in a layout, for any bytes: document 01's four steps in its order (01, Order of the check; 02, §8).
 // The directory's sectors and the files' ends are handed back, so that the calls need no second check. On the way the owner table is filled, and beside
 // it the mask of each track's owned sectors, which step 4 compares with the map.
+#![tactic(auto)]
+
 mod chain;
 mod slots;
 

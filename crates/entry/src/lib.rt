@@ -2,6 +2,8 @@
 // A slot is lent as its bytes 02 to 1F, so byte i of document 01 is at i - 2; a byte past the end of a short slot reads as 0.
 // Every function takes any slice: what it gives is the definition's value there.
 // Not here: a slot's name (crate `names`), and its first link, which the walks of a chain read as two bytes.
+#![tactic(auto)]
+
 ghost use Rattle.std.specs.Prelude.{◌≡◌, ◌*◌, drop};
 ghost use Rattle.d64spec.specs.Lists.{part};
 ghost use Rattle.d64spec.specs.Directory.{entry_byte, is_empty, valid_type};

@@ -1,6 +1,8 @@
 // The slot of a file, by its name or by its position among the occupied slots, and the first empty slot.
 // `end` is a number of slots and `sectors` are the directory's on track 18: any bytes, any sectors and any numbers are taken.
 // A slot is lent as its bytes 02 to 1F, so byte i of document 01 is at i - 2: its type is at 0, its name from 3 on.
+#![tactic(auto)]
+
 ghost use Rattle.std.specs.Prelude.{◌≡◌};
 ghost use Rattle.finding.specs.FileSlots.{slot_named, slot_placed, slot_empty, WordsCompared};
 

@@ -1,4 +1,6 @@
 // Format (01, What the calls do): an image all zero except 18/0 and 18/1. It runs no check; only 1 and 9 refuse it.
+#![tactic(auto)]
+
 ghost use Rattle.std.specs.Prelude.{◌≡◌, [], ◌*◌, ◌≤◌, length};
 ghost use Rattle.geometry.specs.Layout.{geometry_of};
 ghost use Rattle.d64spec.specs.Lists.{zeros};

@@ -1,12 +1,14 @@
 // Tracks and sectors of a disk, in each of the three layouts (01, Tracks and sectors; 02, §8): how many there are, where the map has a track's entry,
 // a track and a sector's number. Every function is total.
 // The tables' rule, the running sum, is proved once over both tables: proofs/TableLaws.
+#![tactic(auto)]
+
 ghost use Rattle.std.specs.Prelude.{◌≡◌, ◌*◌};
 ghost use Rattle.d64spec.specs.Geometry.{tracks, total};
 ghost use Rattle.geometry.specs.Layout.{address_of, geometry_of, extra_of, IsCounts, entry_by, track_by, number_by};
 
 // A layout: 35 tracks, or 40 with the map entries of the last five where SpeedDOS or Dolphin has them.
-#[derive(Drop)]
+#[derive(Clone, Copy)]
 pub enum Layout {
     Tracks35,
     SpeedDos,
@@ -14,14 +16,14 @@ pub enum Layout {
 }
 
 // A sector by its track, from 1, and its place on the track, from 0.
-#[derive(Drop)]
+#[derive(Clone, Copy)]
 pub struct Address {
     pub track: u8,
     pub sector: u8,
 }
 
 // A track: its number, how many sectors it has, and the number of the first of them.
-#[derive(Drop)]
+#[derive(Clone, Copy)]
 pub struct Track {
     pub number: u8,
     pub sectors: u8,

@@ -1,4 +1,6 @@
 // The layout that a call names by its number, or a program by a digit (02, §8): the one place where a number becomes a layout.
+#![tactic(auto)]
+
 ghost use Rattle.std.specs.Prelude.{◌≡◌};
 ghost use Rattle.d64spec.specs.Layouts.{layout_numbered};
 ghost use Rattle.layouts.specs.Named.{named_by, layout_written};
@@ -6,7 +8,7 @@ ghost use Rattle.layouts.specs.Named.{named_by, layout_written};
 use geometry::Layout;
 
 // A layout, or none.
-#[derive(Drop)]
+#[derive(Clone, Copy)]
 pub enum Named {
     Known(Layout),
     Unknown,

@@ -1,6 +1,8 @@
 // One link of the directory, decoded from its two bytes (01, The directory): it ends the chain, goes on at a sector of track 18, or is bad.
 // It says the same in every layout whose track 18 has 19 sectors. Not here: a file's links; the loops along a chain keep the two bytes. Their laws:
 // proofs/LinkLaws.
+#![tactic(auto)]
+
 ghost use Rattle.std.specs.Prelude.{◌≡◌};
 ghost use Rattle.d64spec.specs.Geometry.{Geometry, sectors_on};
 ghost use Rattle.d64spec.specs.Chain.{decode_directory_link};
@@ -9,7 +11,7 @@ ghost use Rattle.links.specs.Links.{link_of};
 use geometry::Address;
 
 // What a link says.
-#[derive(Drop)]
+#[derive(Clone, Copy)]
 pub enum Link {
     Ends,
     To(Address),

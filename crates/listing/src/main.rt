@@ -1,5 +1,7 @@
 // Reads an image from standard input and prints its sleeve listing (01, Sleeve listing), in the layout that its first argument names (02, §8).
 // What it prints for the bytes that were read is `sleeve::program_output`'s to say; a read that fails counts as the end of the input.
+#![tactic(auto)]
+
 ghost use Rattle.io.specs.Counts.{IsPrefixLen};
 
 use geometry::Layout;

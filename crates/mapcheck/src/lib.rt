@@ -2,6 +2,8 @@
 // A track's owned sectors are one number, bit s for sector s, which was filled while the chains were walked (02, §4). It is compared at once with as
 // many bits of the entry's three bitmap bytes as the track has sectors: the bits past its last sector are ignored (02, §5). The lowest bit that
 // differs is the sector that a refusal names (02, §3).
+#![tactic(auto)]
+
 ghost use Rattle.std.specs.Prelude.{◌≡◌, ℕ, ◌≤◌, ◌<◌, [], get_or};
 ghost use Rattle.d64spec.specs.Lists.{byte};
 ghost use Rattle.d64spec.specs.Geometry.{tracks};
@@ -24,7 +26,7 @@ fn lowest_difference(a: u32, b: u32) -> u8
 }
 
 // Sectors of a track as numbers, bit s for sector s: those that its entry marks free, and those that have no owner.
-#[derive(Drop)]
+#[derive(Clone, Copy)]
 struct Sectors {
     marked: u32,
     free: u32,

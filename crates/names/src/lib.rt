@@ -1,6 +1,8 @@
 // Names: the field of a directory slot that holds one, and the name that a call asks for (01, The directory; Answer numbers, 9).
 // A slot is lent as its bytes 02 to 1F, so byte i of document 01 is at i - 2.
 // Every public function takes any slice: what it gives is the definition's value there.
+#![tactic(auto)]
+
 ghost use Rattle.std.specs.Prelude.{◌≡◌, ◌≤◌, length, take};
 ghost use Rattle.d64spec.specs.Directory.{name_field, padded, valid_name};
 ghost use Rattle.d64spec.specs.Reply.{valid_name_argument};
@@ -85,6 +87,7 @@ pub fn padded_name(name: &[u8]) -> [u8; 16]
     ensures { result ≡ take 16 (padded name.now) }
 {
     let mut field = PADDING;
-    bytes::copy(parts::clipped(name, 0, 16), &mut field);
+    let part = parts::clipped(name, 0, 16);
+    field[..part.len()].copy_from_slice(part);
     field
 }

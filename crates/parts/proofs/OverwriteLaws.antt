@@ -26,11 +26,8 @@ module _ (s : Bytes) (a n : ℕ) (c : Bytes) where
   abbrev width : ℕ
   width = a + n - a
 
-  pub copied-back : {p : Bytes} → length c ≡ n → p ≡ take (length c) c ++ drop (length c) (take width (drop a s)) → take a s ++ (p ++ drop width (drop a s)) ≡ splice s a c
-  copied-back {p} e is =
-      let none : drop (length c) (take width (drop a s)) ≡ [] = drop_of_length-le (take width (drop a s)) {i = length c} (omega (arith, length-take width (drop a s))) in
-      let all : p ≡ c = is ∙ ap₂ (λ (x y : Bytes). x ++ y) (take-length c) none ∙ append-nil c in
-      rw all (lent_back s a width c (omega arith))
+  pub copied-back : {p : Bytes} → length c ≡ n → p ≡ c → take a s ++ (p ++ drop width (drop a s)) ≡ splice s a c
+  copied-back {p = p} e all = rw all (lent_back s a width c (omega arith))
 
 -- ---- overwritten bytes
 

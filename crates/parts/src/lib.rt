@@ -1,5 +1,7 @@
 // Bytes of a slice, read and overwritten for any slice and any numbers: what the crates above share.
 // Nothing wraps and nothing is out of range: a byte past the end reads as 0, a part ends where the slice ends.
+#![tactic(auto)]
+
 ghost use Rattle.std.specs.Prelude.{◌≡◌, take, drop};
 ghost use Rattle.d64spec.specs.Lists.{byte};
 ghost use Rattle.parts.specs.Numbers.{IsFour, IsEight};
@@ -65,5 +67,5 @@ pub fn overwrite(target: &mut [u8], at: usize, content: &[u8])
     if target.len() - size < at {
         return;
     }
-    bytes::copy(content, &mut target[at..at + size]);
+    target[at..at + size].copy_from_slice(content);
 }

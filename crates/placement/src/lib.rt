@@ -1,5 +1,7 @@
 // Where a store puts a file, by the map's marks (01, Store): the first free sectors in the allocation order, document 01's house order; and the
 // lowest free sector of track 18, for the directory. A place is an address as one number of 16 bits: 256 times the track, and the sector.
+#![tactic(auto)]
+
 ghost use Rattle.std.specs.Prelude.{◌≡◌, ◌+◌, ◌<◌};
 ghost use Rattle.d64spec.specs.Geometry.{tracks};
 ghost use Rattle.geometry.specs.Layout.{geometry_of, IsCounts};

@@ -42,8 +42,7 @@ module _ (s out : Bytes) (size at : ℕ) (fits : DataFits s out size at) where
   abbrev lent : Bytes
   lent = take (2 + size - 2) (drop 2 s)
 
-  pub data-copied : {p : Bytes} → p ≡ take (length lent) lent ++ drop (length lent) (take (at + size - at) (drop at out))
-      → take at out ++ (p ++ drop (at + size - at) (drop at out)) ≡ splice out at (data_of s size)
+  pub data-copied : {p : Bytes} → p ≡ lent → take at out ++ (p ++ drop (at + size - at) (drop at out)) ≡ splice out at (data_of s size)
   data-copied e =
       let inside = fits.inside in
       let all : 2 + size - 2 ≡ size = omega arith in

@@ -12,7 +12,7 @@ fn copy_data(sector: &[u8], size: usize, out: &mut [u8], at: usize)
     requires { DataFits sector.now out.old size at }
     ensures { out.new ≡ splice out.old at (take size (drop 2 sector.now)) }
 {
-    bytes::copy(&sector[2..2 + size], &mut out[at..at + size]);
+    out[at..at + size].copy_from_slice(&sector[2..2 + size]);
 }
 
 // Copies the data of the chain that starts at `first` to the start of the output, which has room for them. Gives how many sectors it visited.

@@ -1,5 +1,7 @@
 // Read and tell (01, What the calls do): the whole check, then the file's bytes, or what its directory entry says of it.
 // They take any bytes and change none of the image.
+#![tactic(auto)]
+
 mod copying;
 
 ghost use Rattle.std.specs.Prelude.{◌≡◌, true, ◌*◌, ◌<◌, length};
@@ -20,7 +22,7 @@ use answers::{Fault, Report, Verdict};
 use geometry::{Address, Layout};
 
 // What tell gives of a file: its type byte, its 16 name bytes, its first sector, its count of sectors, its length in bytes.
-#[derive(Drop)]
+#[derive(Clone, Copy)]
 pub struct FileInformation {
     pub type_byte: u8,
     pub name: [u8; 16],
@@ -31,7 +33,7 @@ pub struct FileInformation {
 }
 
 // A verdict and the information, all zero if refused.
-#[derive(Drop)]
+#[derive(Clone, Copy)]
 pub struct Told {
     pub verdict: Verdict,
     pub information: FileInformation,
@@ -158,7 +160,7 @@ fn tell_slot(layout: Layout, img: &[u8], slot: &[u8], last: u8) -> FileInformati
 {
     let count = entry::sector_count(slot);
     let mut name = [0u8; 16];
-    bytes::copy(&slot[3..19], &mut name);
+    name.copy_from_slice(&slot[3..19]);
     FileInformation {
         type_byte: slot[0],
         name,

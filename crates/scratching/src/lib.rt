@@ -1,5 +1,7 @@
 // Scratch (01, What the calls do): the file's sectors and its slot zeroed, and its sectors free in the map. Every refusal is decided while the
 // image is only read; what is written then cannot fail.
+#![tactic(auto)]
+
 ghost use Rattle.std.specs.Prelude.{◌≡◌, true, [], ◌+◌, ◌*◌, ◌<◌, length};
 ghost use Rattle.d64spec.specs.Lists.{zeros};
 ghost use Rattle.d64spec.specs.Answers.{done};
@@ -20,7 +22,7 @@ use answers::{Fault, Report, Verdict};
 use geometry::{Address, Layout};
 
 // How many sectors were cleared, and the second byte that the last of them had.
-#[derive(Drop)]
+#[derive(Clone, Copy)]
 struct Cleared {
     count: usize,
     last: u8,

@@ -1,6 +1,8 @@
 // A sector of an image, lent on as a part of it, read and written (01, Tracks and sectors): for any image and any number.
 // A sector that the image does not have is empty, one that the image cuts off is shorter; bytes are written only where a whole sector has them.
 // `n` is held to the sectors that lie whole in the image before it is multiplied, so that nothing wraps.
+#![tactic(auto)]
+
 ghost use Rattle.std.specs.Prelude.{◌≡◌};
 ghost use Rattle.d64spec.specs.Format.{empty_directory_sector};
 ghost use Rattle.sectors.specs.Sectors.{IsSector, with_sector, overwritten_in};
@@ -27,7 +29,7 @@ pub fn write_sector(img: &mut [u8], n: usize, content: &[u8])
     if n < img.len() / 256 {
         if content.len() == 256 {
             let from = 256 * n;
-            bytes::copy(content, &mut img[from..from + 256]);
+            img[from..from + 256].copy_from_slice(content);
         }
     }
 }

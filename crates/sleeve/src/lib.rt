@@ -1,5 +1,7 @@
 // The sleeve listing (01, Sleeve listing): the library call on any bytes and any text buffer, and what the program prints.
 // Every refusal is made before the first byte of the text is written, and reports length 0 and 0 sectors.
+#![tactic(auto)]
+
 mod lines;
 mod slots;
 

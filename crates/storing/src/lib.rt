@@ -1,4 +1,6 @@
 // Store (01, What the calls do): every refusal is decided while the image is only read; what is written then cannot fail.
+#![tactic(auto)]
+
 mod room;
 mod writing;
 

@@ -6,7 +6,7 @@ ghost use Rattle.storing.specs.Decisions.{Needed, room_for, RoomAsked, RoomIs};
 use geometry::Layout;
 
 // Where the entry goes: slot `index` of 18/sector, which is new to the directory where it is `grown`.
-#[derive(Drop)]
+#[derive(Clone, Copy)]
 pub(crate) struct EntryPlace {
     pub sector: u8,
     pub index: u8,
@@ -14,7 +14,7 @@ pub(crate) struct EntryPlace {
 }
 
 // A place for the entry, or none: the directory is full.
-#[derive(Drop)]
+#[derive(Clone, Copy)]
 pub(crate) enum Room {
     At(EntryPlace),
     Full,

@@ -22,7 +22,7 @@ fn fill_linked(sector: &mut [u8], next: u16, content: &[u8])
 {
     sector[0] = (next / 256) as u8;
     sector[1] = (next % 256) as u8;
-    bytes::copy(content, &mut sector[2..]);
+    sector[2..].copy_from_slice(content);
 }
 
 // The last sector of a chain: 00, the number of its last used byte, at most 254 bytes, and zeros.
@@ -31,9 +31,9 @@ fn fill_last(sector: &mut [u8], content: &[u8])
     ensures { sector.new ≡ last_sector content.now }
 {
     let blank = [0u8; 256];
-    bytes::copy(&blank, sector);
+    sector.copy_from_slice(&blank);
     sector[1] = (content.len() + 1) as u8;
-    bytes::copy(content, &mut sector[2..]);
+    sector[2..2 + content.len()].copy_from_slice(content);
 }
 
 // Where the sector at a place starts in the image.
@@ -124,7 +124,7 @@ fn new_entry(name: &[u8], kind: u8, first: u16, count: usize) -> [u8; 30]
     entry[0] = 0x80 + kind;
     entry[1] = (first / 256) as u8;
     entry[2] = (first % 256) as u8;
-    bytes::copy(&names::padded_name(name), &mut entry[3..19]);
+    entry[3..19].copy_from_slice(&names::padded_name(name));
     entry[28] = (count % 256) as u8;
     entry[29] = (count / 256) as u8;
     entry
