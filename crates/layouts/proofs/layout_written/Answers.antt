@@ -3,15 +3,13 @@ use Prim.Native.Nat.{ℕ, ◌-◌, ◌≤◌, ◌<◌}
 use native.Mathlib.Omega.{arith}
 use mathlib.Core.Path.{◌≡◌, refl}
 use lib.ListN.{length}
-use borrow.Author.Rules.{rules}
 use borrow.Author.Tests.{eq-eqb, ne_eqb, le-leb, lt-leb}
 use Rattle.d64spec.specs.Lists.{Bytes, byte}
 use Rattle.d64spec.specs.Answers.{Result, refused, unknown_layout}
 use Rattle.d64spec.specs.Geometry.{Geometry}
 use Rattle.d64spec.specs.Layouts.{layout_numbered}
 use Rattle.layouts.specs.Named.{layout_written}
-use Rattle.layouts.proofs.layout_written.Statement.{statement}
-use Rattle.layouts.proofs.layout_written.Tie as tie
+use Rattle.layouts.proofs.layout_written.Goals as goal
 
 written-misfit : (a : Bytes) → (length a ≡ 1 → ⊥) → ◌≡◌ {A = Result Geometry} (refused unknown_layout) (layout_written a)
 unfolding layout_written
@@ -25,31 +23,11 @@ written-digit : (a : Bytes) → length a ≡ 1 → 48 ≤ byte a 0 → {x : Resu
 unfolding layout_written
 written-digit a one high named = rw (eq-eqb (length a) 1 one, le-leb 48 (byte a 0) high) named
 
-returns : tie.Need-returns
-returns c = written-misfit _ (λ one. omega arith)
+pub returns-then-argument-ne1 : goal.returns-then-argument-ne1
+returns-then-argument-ne1 c = written-misfit _ (λ one. omega arith)
 
-shared-slice-read-digit : tie.Need-shared-slice-read-digit
-shared-slice-read-digit c = search rules
+pub returns-then-digit-lt48 : goal.returns-then-digit-lt48
+returns-then-digit-lt48 c = written_low _ (omega arith) (omega arith)
 
-returns-2 : tie.Need-returns-2
-returns-2 c = written_low _ (omega arith) (omega arith)
-
-cast-layout-numbered : tie.Need-overflow-cast-layout-numbered
-cast-layout-numbered c = omega (arith, c.before.shared-slice-known2.given 0)
-
-layout-numbered-requires : tie.Need-layout-numbered-requires
-layout-numbered-requires c κs = search rules
-
-returns-3 : tie.Need-returns-3
-returns-3 c = written-digit _ (omega arith) (omega arith) c.layout-numbered.ensures
-
-pub layout-written-spec : {M : Type 1} → statement M
-layout-written-spec =
-    tie.close
-    (tie.spec
-    returns
-    shared-slice-read-digit
-    returns-2
-    cast-layout-numbered
-    layout-numbered-requires
-    returns-3)
+pub returns : goal.returns
+returns c = written-digit _ (omega arith) (omega arith) c.layout_numbered.ensures

@@ -5,8 +5,7 @@ use mathlib.Core.Path.{◌≡◌, refl, ◌∙◌}
 use Rattle.d64spec.specs.Answers.{Result, refused, done, unknown_layout}
 use Rattle.d64spec.specs.Geometry.{Geometry, layout35, speed_dos, dolphin}
 use Rattle.d64spec.specs.Layouts.{layout_numbered}
-use Rattle.layouts.proofs.layout_numbered.Statement.{statement}
-use Rattle.layouts.proofs.layout_numbered.Tie as tie
+use Rattle.layouts.proofs.layout_numbered.Goals as goal
 
 -- the four rows of the definition
 named-0 : (n : ℕ) → n ≡ 0 → done layout35 ≡ layout_numbered n
@@ -28,17 +27,14 @@ unnamed (suc zero) a b c = absurd (b refl)
 unnamed (suc (suc zero)) a b c = absurd (c refl)
 unnamed (suc (suc (suc n))) a b c = refl
 
-returns : tie.Need-returns
-returns c = named-0 _ (omega arith)
+pub returns-in-0 : goal.returns-in-0
+returns-in-0 c = named-0 _ (omega arith)
 
-returns-2 : tie.Need-returns-2
-returns-2 c = named-1 _ (omega arith)
+pub returns-in-1 : goal.returns-in-1
+returns-in-1 c = named-1 _ (omega arith)
 
-returns-3 : tie.Need-returns-3
-returns-3 c = named-2 _ (omega arith)
+pub returns-in-2 : goal.returns-in-2
+returns-in-2 c = named-2 _ (omega arith)
 
-returns-4 : tie.Need-returns-4
-returns-4 c = unnamed _ (λ e. omega arith) (λ e. omega arith) (λ e. omega arith)
-
-pub layout-numbered-spec : {M : Type 1} → statement M
-layout-numbered-spec = tie.close (tie.spec returns returns-2 returns-3 returns-4)
+pub returns-in_default : goal.returns-in_default
+returns-in_default c = unnamed _ (λ e. omega arith) (λ e. omega arith) (λ e. omega arith)

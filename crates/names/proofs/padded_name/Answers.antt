@@ -1,0 +1,7 @@
+-- `names::padded_name` meets its contract: the first 16 bytes of the name are copied over sixteen $A0.
+use native.Mathlib.Omega.{arith}
+use Rattle.names.proofs.NameLaws.{length_front, padded-copied}
+use Rattle.names.proofs.padded_name.Goals as goal
+
+pub returns : goal.returns
+returns c = padded-copied c.args.name.now c.clipped-part.ensures c.copy.ensures.1

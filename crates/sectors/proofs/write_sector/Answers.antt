@@ -1,0 +1,23 @@
+-- `sectors::write_sector` meets its contract: what comes back of the loan is the sector's place with the content in it, and else nothing is lent.
+use Prim.Native.Nat.{◌*◌}
+use native.Mathlib.Omega.{arith}
+use mathlib.Core.Path.{sym, ◌∙◌}
+use Rattle.parts.proofs.OverwriteLaws.{copied-back}
+use Rattle.sectors.proofs.SectorLaws.{with_sector-whole, with_sector-size, with_sector-cut}
+use Rattle.sectors.proofs.write_sector.Goals as goal
+
+pub returns-then-content-eq256 : goal.returns-then-content-eq256
+returns-then-content-eq256 c =
+    let a = c.args in
+    copied-back a.img.now (256 * a.n) 256 a.content.now (omega arith) c.copy.ensures.1
+    ∙ sym (with_sector-whole a.img.now a.n a.content.now (omega arith) (omega arith))
+
+pub returns-else-content-eq256 : goal.returns-else-content-eq256
+returns-else-content-eq256 c =
+    let a = c.args in
+    sym (with_sector-size a.img.now a.n a.content.now c.if-content-eq256.false)
+
+pub returns-else-n-img : goal.returns-else-n-img
+returns-else-n-img c =
+    let a = c.args in
+    sym (with_sector-cut a.img.now a.n a.content.now (omega arith))
