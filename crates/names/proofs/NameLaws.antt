@@ -114,13 +114,13 @@ module _ (name : Bytes) {m : Bytes} (front : m ≡ take 16 name) where
   pub length_front : length m ≤ 16
   length_front = omega (arith, ap length front, length-take 16 name)
 
-  copied-over : (w : ℕ) → length m ≤ w → take (length m) m ++ drop (length m) (replicate w 0xA0) ≡ take 16 name ++ replicate (w - length m) 0xA0
-  copied-over w h = ap₂ (λ (x y : Bytes). x ++ y) (take-length m ∙ front) (drop-replicate (length m) w 0xA0 h)
+  copied-over : (w : ℕ) → length m ≤ w → m ++ drop (length m) (replicate w 0xA0) ≡ take 16 name ++ replicate (w - length m) 0xA0
+  copied-over w h = ap₂ (λ (x y : Bytes). x ++ y) front (drop-replicate (length m) w 0xA0 h)
 
-  pub padded-copied : {p : Bytes} → p ≡ take (length m) m ++ drop (length m) (replicate 16 0xA0) → p ≡ take 16 (padded name)
+  pub padded-copied : {p : Bytes} → p ≡ m → p ++ drop (length m) (replicate 16 0xA0) ≡ take 16 (padded name)
   padded-copied e =
       let left : 16 - length m ≡ 16 - length name = omega (arith, ap length front, length-take 16 name) in
-      e ∙ copied-over 16 length_front ∙ ap (λ (n : ℕ). take 16 name ++ replicate n 0xA0) left ∙ sym (padded-front name)
+      ap (λ (x : Bytes). x ++ drop (length m) (replicate 16 0xA0)) e ∙ copied-over 16 length_front ∙ ap (λ (n : ℕ). take 16 name ++ replicate n 0xA0) left ∙ sym (padded-front name)
 
 -- ---- the name rule
 

@@ -37,8 +37,8 @@ loop-i-preserved c =
     let n = neighbours l.args.slot.now l.loop-i.i l.requires.whole (omega arith) in (
       omega arith,
       elim c.if-slot-i.branch [
-        | inl padding ↦ let e = padding.2.left in sym (padded_once-padding _ l.loop-i.i n.more (omega arith)) ∙ l.loop-i.invariant.1
-        | inr letter ↦ let e = letter.left in sym (padded_once-letter _ l.loop-i.i n.more (λ z. omega arith)) ∙ l.loop-i.invariant.1
+        | goal.then-slot-i+else-slot-i-2 w ↦ let e = w.if-slot-i-2.false in sym (padded_once-padding _ l.loop-i.i n.more (omega arith)) ∙ l.loop-i.invariant.1
+        | goal.else-slot-i w ↦ let e = w.if-slot-i.false in sym (padded_once-letter _ l.loop-i.i n.more (λ z. omega arith)) ∙ l.loop-i.invariant.1
       ],
     )
 

@@ -4,4 +4,4 @@ use Rattle.names.proofs.NameLaws.{length_front, padded-copied}
 use Rattle.names.proofs.padded_name.Goals as goal
 
 pub returns : goal.returns
-returns c = padded-copied c.args.name.now c.clipped-part.ensures c.copy.ensures.1
+returns c = padded-copied c.args.name.now c.clipped-part.ensures c.copy_from_slice.ensures.after

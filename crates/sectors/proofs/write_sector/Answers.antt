@@ -9,7 +9,7 @@ use Rattle.sectors.proofs.write_sector.Goals as goal
 pub returns-then-content-eq256 : goal.returns-then-content-eq256
 returns-then-content-eq256 c =
     let a = c.args in
-    copied-back a.img.now (256 * a.n) 256 a.content.now (omega arith) c.copy.ensures.1
+    copied-back a.img.now (256 * a.n) 256 a.content.now (omega arith) c.copy_from_slice.ensures.after
     ∙ sym (with_sector-whole a.img.now a.n a.content.now (omega arith) (omega arith))
 
 pub returns-else-content-eq256 : goal.returns-else-content-eq256
