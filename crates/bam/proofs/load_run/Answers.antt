@@ -1,0 +1,14 @@
+-- `bam::load_run`. The loop keeps `Loading`: with the entries that are left, the map becomes the one that the run makes. What falls is their number.
+-- Assumes nothing.
+use Prim.Native.Nat.{◌-◌}
+use native.Mathlib.Omega.{arith}
+use Rattle.bam.specs.MapSector.{four_bytes}
+use Rattle.bam.proofs.LoadLaws.{Loading, loading-start, loading-moved, loading-finished}
+use Rattle.bam.proofs.load_run.Goals as goal
+
+pub loop-i-preserved : goal.loop-i-preserved
+unfolding four_bytes
+loop-i-preserved c = loading-moved c.loop-i.invariant (omega arith) (omega arith)
+
+pub returns : goal.returns
+returns c = loading-finished c.loop-i.invariant (omega arith)

@@ -1,0 +1,16 @@
+-- `bam::store_run`. The loop keeps `Storing`: with the entries that are left, the sector becomes the one that the run makes. What falls is their number.
+-- Assumes nothing.
+use Prim.Native.Nat.{◌+◌, ◌-◌, ◌*◌}
+use native.Mathlib.Omega.{arith}
+use Rattle.bam.proofs.SaveLaws.{Storing, storing-start, storing-moved, storing-finished}
+use Rattle.bam.proofs.store_run.Goals as goal
+
+pub loop-i-preserved : goal.loop-i-preserved
+loop-i-preserved c =
+    let call = c in
+    let l = call in
+    let a = l.args in
+    storing-moved l.loop-i.invariant (omega arith) {a = a.at + 4 * (l.loop-i.i - a.first)} call.store_entry.ensures (omega arith) (omega arith)
+
+pub returns : goal.returns
+returns c = storing-finished c.loop-i.invariant (omega arith)
