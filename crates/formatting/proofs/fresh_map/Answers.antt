@@ -6,12 +6,8 @@ use Rattle.d64spec.specs.Map.{map_bit, expected_bit, bitmap_byte, expected_entry
 use Rattle.d64spec.specs.Format.{free_after_format}
 use Rattle.geometry.proofs.TableLaws.{known_of, fronts}
 use Rattle.formatting.proofs.MapSectorLaws.{wrong_tracks, fresh-entries}
-use Rattle.formatting.proofs.fresh_map.Statement.{statement}
-use Rattle.formatting.proofs.fresh_map.Tie as tie
+use Rattle.formatting.proofs.fresh_map.Goals as goal
 
-returns : tie.Need-returns
+pub returns : goal.returns
 unfolding wrong_tracks expected_entry expected_bit bitmap_byte binary map_bit bit_of free_after_format layout40 speed_dos sectors_on sector_number first_on
 returns c = fresh-entries _ (known_of c.args.layout) (fronts c.args.layout) _ refl refl
-
-pub fresh-map-spec : {M : Type 1} → statement M
-fresh-map-spec = tie.close (tie.spec returns)
