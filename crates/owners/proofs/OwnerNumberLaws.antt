@@ -62,16 +62,17 @@ module _ (g : Geometry) (n : ℕ) where
   -- a sector that one file alone claims has that file's number
   get_or-with_files-same : {f : File} (fs : List File) (own : List ℕ) → n < length own → count n (file_claims g fs) ≤ 1 → Memᴰ f fs → Among g n f.sectors
       → get_or (with_files g fs own) n 0 ≡ file_owner f.slot.number
-  get_or-with_files-same {f} (y ∷ fs) own b u (Memᴰ.head e) h =
+  get_or-with_files-same {f = f} [] own b u m h = elim m [ ]
+  get_or-with_files-same {f = f} (y ∷ fs) own b u (Memᴰ.head e) h =
       let s : List ℕ = map (sector_number g) y.sectors in
       let here : Among g n y.sectors = subst (λ (x : File). Among g n x.sectors) e h in
       get_or-with_files-other fs (with_owner (file_owner y.slot.number) s own) (omega (arith, count-file g n y fs))
       ∙ get_or-with_owner-same (file_owner y.slot.number) n s own b here
       ∙ ap (λ (x : File). file_owner x.slot.number) (sym e)
-  get_or-with_files-same (y ∷ fs) own b u (Memᴰ.tail m) h =
+  get_or-with_files-same {f = f} (y ∷ fs) own b u (Memᴰ.tail m) h =
       let s : List ℕ = map (sector_number g) y.sectors in
       let id : ℕ = file_owner y.slot.number in
-      get_or-with_files-same fs (with_owner id s own) (omega (arith, length-with_owner id s own)) (omega (arith, count-file g n y fs)) m h
+      get_or-with_files-same {f = f} fs (with_owner id s own) (omega (arith, length-with_owner id s own)) (omega (arith, count-file g n y fs)) m h
 
 get_or-zeros : (t n : ℕ) → get_or (zeros t) n 0 ≡ 0
 get_or-zeros zero n = refl

@@ -30,7 +30,8 @@ owned_at i zero (suc x ∷ own) =
 owned_at i (suc k) (zero ∷ own) = let e : i + suc k ≡ suc i + k = omega arith in rw e (owned_at (suc i) k own)
 owned_at i (suc k) (suc x ∷ own) =
     let e : i + suc k ≡ suc i + k = omega arith in
-    rw (ne_eqb (i + suc k) i (λ z. omega arith)) (rw e (simp zero-add (owned_at (suc i) k own)))
+    rw (ne_eqb (i + suc k) i (λ z. omega arith))
+    (simp zero-add (subst (λ (m : ℕ). count m (owned_from (suc i) own) ≡ indicator (not (eqb (get_or own k 0) 0))) (sym e) (owned_at (suc i) k own)))
 
 member-indicator : (b : Bool) → ltb 0 (indicator b) ≡ b
 member-indicator true = refl
