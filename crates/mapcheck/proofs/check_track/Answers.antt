@@ -1,0 +1,32 @@
+-- `mapcheck::check_track`: the marks of the track's sectors are compared with those that have no owner, then the count; a wrong entry is refused at the
+-- lowest bit that differs. Assumes nothing.
+use native.Mathlib.Omega.{arith}
+use mathlib.Core.Path.{refl}
+use mathlib.Core.Logic.{inl, inr}
+use borrow.Author.Tests.{eqb-false, eqb-true}
+use Rattle.answers.specs.Faults.{fault_of, verdict_of}
+use Rattle.geometry.proofs.TableLaws.{known_of}
+use Rattle.mapcheck.proofs.TrackLaws.{track-right, track-wrong}
+use Rattle.mapcheck.proofs.check_track.Goals as goal
+
+pub returns-then-entry-count_free : goal.returns-then-entry-count_free
+unfolding verdict_of
+returns-then-entry-count_free c =
+    let n = c in
+    let s = n in
+    let start = s in
+    track-right _ (known_of start.args.layout) start.args.entry start.args.used start.args.track start.requires.2
+    {n = n.count_free.result} (omega (arith, n.count_free.ensures)) s.sectors_of-sectors.ensures (omega (arith, n.if-sectors.true))
+    (omega (arith, eqb-true))
+
+pub returns : goal.returns
+unfolding verdict_of fault_of
+returns c =
+    let s = c in
+    let start = s in
+    track-wrong _ (known_of start.args.layout) start.args.entry start.args.used start.args.track start.requires.2 refl s.sectors_of-sectors.ensures
+    c.lowest_difference-sector.ensures (omega arith) (omega arith) (omega arith)
+    (elim c.else-sectors.branch [
+      | goal.else-sectors-via-then-sectors+else-entry-count_free w ↦ λ same counted. w.if-entry-count_free.false (omega (arith, counted, w.count_free.ensures))
+      | goal.else-sectors-via-else-sectors w ↦ λ same counted. w.if-sectors.false same
+    ])

@@ -1,0 +1,31 @@
+-- `mapcheck::none_wrong`. The loop keeps: where nothing differs so far, the tracks passed are correct (`Passing`), in any layout that has these counts.
+-- What falls is the number of entries left.
+-- Assumes nothing.
+use Prim.Native.Nat.{◌+◌, ◌-◌}
+use native.Mathlib.Omega.{arith}
+use mathlib.Core.Path.{◌≡◌}
+use borrow.Author.Tests.{eqb-true}
+use Rattle.d64spec.specs.Geometry.{Geometry}
+use Rattle.d64spec.specs.Layouts.{Known}
+use Rattle.geometry.specs.Layout.{IsCounts}
+use Rattle.geometry.proofs.TableLaws.{known_of}
+use Rattle.mapcheck.proofs.TrackLaws.{track-right, nothing-differs}
+use Rattle.mapcheck.proofs.StepLaws.{Passing, passing-start, passing-moved, passing-finished}
+use Rattle.mapcheck.proofs.none_wrong.Goals as goal
+
+pub loop-i-preserved : goal.loop-i-preserved
+loop-i-preserved c none g kn is =
+    let n = c in
+    let s = n in
+    let at = s in
+    let same = nothing-differs _ _ _ _ _ none in
+    passing-moved (at.loop-i.invariant same.0 g kn is)
+    (track-right g kn _ _ _ is n.count_free-count.ensures s.sectors_of-sectors.ensures same.1 same.2)
+    (omega arith) (omega arith) (omega arith)
+
+pub returns : goal.returns
+returns c =
+    let l = c in
+    let s = l in
+    let kn = known_of s.args.layout in
+    record { fine = λ right. passing-finished (l.loop-i.invariant (omega (arith, eqb-true)) _ kn s.requires.0) (omega (arith, kn.few)) }
