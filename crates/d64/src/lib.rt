@@ -29,8 +29,7 @@ fn refuse_layout(answer: &mut [u8]) -> u32
 }
 
 // Checks the image: the first fault of steps 1 to 4 with its place, or 0. It reports length 0 and 0 sectors.
-#[unsafe(no_mangle)]
-pub extern "C" fn d64_check(layout: u32, image: &[u8], answer: &mut [u8]) -> u32
+pub fn d64_check(layout: u32, image: &[u8], answer: &mut [u8]) -> u32
     ensures { HostServed (host_call_in layout image.now answer.old check) result image.now [] answer.new }
 {
     if answer.len() != BLOCK_BYTES {
@@ -50,8 +49,7 @@ pub extern "C" fn d64_check(layout: u32, image: &[u8], answer: &mut [u8]) -> u32
 
 // Reads the file of this name to the start of the output, the rest of it as it was; reports its length and the sectors visited.
 // Refused with 1, 9, 2 to 8, 13 or 16, in this order; a refusal leaves the output and reports 0 and 0.
-#[unsafe(no_mangle)]
-pub extern "C" fn d64_read(
+pub fn d64_read(
     layout: u32,
     image: &[u8],
     name: &[u8],
@@ -128,8 +126,7 @@ fn give_entry(verdict: Verdict, filled: &[u8], entry: &mut [u8]) -> Verdict
 
 // Tells about the file at a position, counted from 0 among the occupied slots: 25 bytes at the start of the entry, the rest of it as it
 // was. Refused with 1, 2 to 8, 13 or, for an entry of fewer than 25 bytes, 16, in this order; a refusal leaves the entry.
-#[unsafe(no_mangle)]
-pub extern "C" fn d64_tell(
+pub fn d64_tell(
     layout: u32,
     image: &[u8],
     position: usize,
@@ -159,8 +156,7 @@ pub extern "C" fn d64_tell(
 
 // Lists the 4,864 bytes of track 18 into the text, from its start, the rest of it as it was; reports the length of the listing.
 // Refused with 1, 2 to 6 or, for a text that is too short, 16; a refusal leaves the text and reports 0.
-#[unsafe(no_mangle)]
-pub extern "C" fn d64_listing(
+pub fn d64_listing(
     layout: u32,
     track18: &[u8],
     text: &mut [u8],
@@ -184,8 +180,7 @@ pub extern "C" fn d64_listing(
 
 // Formats the image: an empty disk of this name and these two id bytes, every other byte of it 0. It reports length 0 and 0 sectors.
 // Refused with 1 or 9, in this order; a refusal leaves the image and reports 0 and 0.
-#[unsafe(no_mangle)]
-pub extern "C" fn d64_format(
+pub fn d64_format(
     layout: u32,
     image: &mut [u8],
     name: &[u8],
@@ -211,8 +206,7 @@ pub extern "C" fn d64_format(
 
 // Stores a new file of this name, this kind and these bytes; reports its length and its number of sectors.
 // Refused with 1, 9, 10, 2 to 8, 11, 12, 14 or 15, in this order; a refusal leaves the image and reports 0 and 0.
-#[unsafe(no_mangle)]
-pub extern "C" fn d64_store(
+pub fn d64_store(
     layout: u32,
     image: &mut [u8],
     name: &[u8],
@@ -238,8 +232,7 @@ pub extern "C" fn d64_store(
 
 // Scratches the file of this name: its sectors and its slot zeroed, its sectors free; reports its length and its number of sectors.
 // Refused with 1, 9, 2 to 8, 11 or 13, in this order; a refusal leaves the image and reports 0 and 0.
-#[unsafe(no_mangle)]
-pub extern "C" fn d64_scratch(layout: u32, image: &mut [u8], name: &[u8], answer: &mut [u8]) -> u32
+pub fn d64_scratch(layout: u32, image: &mut [u8], name: &[u8], answer: &mut [u8]) -> u32
     ensures { HostServed (host_call_in layout image.old answer.old (scratch name.now))
         result image.new [] answer.new }
 {
