@@ -2,37 +2,55 @@
 // What it prints for the bytes that were read is `sleeve::program_output`'s to say; a read that fails counts as the end of the input.
 #![tactic(auto)]
 
+ghost use Rattle.std.specs.Prelude.{◌≤◌, length};
 ghost use Rattle.io.specs.Counts.{IsPrefixLen};
 
 use geometry::Layout;
 use layouts::Named;
+use std::env::{Env, FillError};
+use std::io;
+use std::io::{Read, Write};
 
 // The layout of the first argument: 0 if there is none. An argument that is longer than the room for it has length 0 here, and names none.
-fn asked() -> Named {
-    if os::arg_count() < 2 {
-        return Named::Known(Layout::Tracks35);
-    }
+fn asked(rt: &HostRuntime) -> Named {
     let mut argument = [0u8; 2];
-    let n = os::arg(1, &mut argument);
-    layouts::layout_written(&argument[..n])
+    match rt.arg(1, &mut argument) {
+        Ok(n) => layouts::layout_written(&argument[..n]),
+        Err(FillError::NotPresent) => Named::Known(Layout::Tracks35),
+        Err(FillError::TooLong) => layouts::layout_written(&argument[..0]),
+    }
+}
+
+// Reads until the buffer is full, the input ends or a read fails. Gives how many bytes it read.
+fn read_full<R: Read>(reader: &mut R, input: &mut [u8]) -> usize
+    ensures { IsPrefixLen result input.new }
+{
+    let mut n = 0;
+    while n < input.len() {
+        match reader.read(&mut input[n..]) {
+            Ok(0) => return n,
+            Ok(more) => n += more,
+            Err(_) => return n,
+        }
+    }
+    n
 }
 
 // Reads the input, unless no layout is asked for: then it is not looked at.
-fn read_input(asked: Named, input: &mut [u8]) -> usize
+fn read_input<R: Read>(reader: &mut R, asked: Named, input: &mut [u8]) -> usize
     ensures { IsPrefixLen result input.new }
 {
     match asked {
         Named::Unknown => 0,
-        Named::Known(_) => io::read_full(0, input),
+        Named::Known(_) => read_full(reader, input),
     }
 }
 
-fn main() {
-    let layout = asked();
+fn main(rt: HostRuntime) -> io::Result<()> {
+    let layout = asked(&rt);
     // one byte more than the longest image has, so that an input that is too long is seen
     let mut input = [0u8; 196609];
-    let n = read_input(layout, &mut input);
+    let n = read_input(&mut rt.stdin(), layout, &mut input);
     let printed = sleeve::program_output(layout, &input[..n]);
-    let text = printed.text;
-    io::write_all(1, parts::clipped(&text, 0, printed.length));
+    io::writer(&rt).write_all(parts::clipped(&printed.text, 0, printed.length))
 }
