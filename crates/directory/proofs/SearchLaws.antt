@@ -3,7 +3,7 @@
 use mathlib.Core.Path.{◌≡◌, refl, sym, ap, ap₂, ◌∙◌}
 use mathlib.Core.Bool.{Bool, true, false, ◌&&◌, ◌||◌, or-true, or-false}
 use mathlib.Core.List.{List, [], ◌∷◌}
-use Prim.Native.Nat.{ℕ, zero, suc, ◌+◌, ◌-◌, ◌≤◌, ◌<◌}
+use Prim.Native.Nat.{ℕ, zero, suc, ◌+◌, ◌-◌, ◌/◌, ◌≤◌, ◌<◌}
 use native.Mathlib.Omega.{arith}
 use native.Mathlib.Numerals.{add-one}
 use native.Mathlib.Decide.{ℕ_discrete}
@@ -16,7 +16,7 @@ use Rattle.d64spec.specs.Directory.{is_empty, name_field}
 use Rattle.d64spec.proofs.MapLaws.{and-true}
 use Rattle.parts.specs.Numbers.{eight_of, IsEight}
 use Rattle.parts.proofs.NumberLaws.{equal-sixteen}
-use Rattle.directory.specs.Directories.{slot_bytes, fields_below, repeats, first_repeated}
+use Rattle.directory.specs.Directories.{IsSlot, slot_bytes, fields_below, repeats, first_repeated}
 use Rattle.directory.specs.NameWords.{hash_of, holds_pair}
 use Rattle.directory.proofs.PairLaws.{holds-add}
 
@@ -39,6 +39,10 @@ pub sector-lt : (ss : List ℕ) → All (λ s. s < 19) ss → (i : ℕ) → get_
 sector-lt [] all i = omega arith
 sector-lt (s ∷ ss) all zero = all.0
 sector-lt (s ∷ ss) all (suc i) = sector-lt ss all.1 i
+
+-- what a slot of a whole track 18 has
+pub thirty : {b : Bytes} {ss : List ℕ} {k : ℕ} {s : Bytes} → IsSlot b ss k s → ((i : ℕ) → get_or s i 0 < 256) → length b ≡ 4864 → All (λ s. s < 19) ss → Thirty s
+thirty {b} {ss} {k} {s} slot small whole inside = record { long = slot.full whole (sector-lt ss inside (k / 8)); small = small }
 
 -- The first n pairs are the words of the name fields of the occupied slots below k; their hashes are seen, where the table has a place for them; and
 -- none of these slots repeats one.

@@ -1,7 +1,7 @@
 -- The directory of track 18's bytes, as the code holds it (01, The directory; Order of the check, step 2).
 -- In order: directory sectors; slots by number; the first slot that repeats a name; what reading the directory gives.
 -- Laws: proofs/SlotBytesLaws (one slot), SlotListLaws (the slots by number are d64spec's), RepeatLaws, Track18Laws (an image's track 18), ReadLaws.
-use Rattle.std.specs.Prelude.{ℕ, zero, suc, ◌+◌, ◌*◌, ◌-◌, ◌/◌, ◌%◌, ◌≤◌, ◌<◌, ◌≡◌, Bool, cond, not, ◌&&◌, List, [], ◌∷◌, ◌++◌, map, length, take, get_or, eqb, ltb}
+use Rattle.std.specs.Prelude.{ℕ, zero, suc, ◌*◌, ◌-◌, ◌/◌, ◌%◌, ◌≤◌, ◌<◌, ◌≡◌, Bool, cond, not, ◌&&◌, List, [], ◌∷◌, ◌++◌, map, length, take, get_or, eqb, ltb}
 use Rattle.d64spec.specs.Lists.{Bytes, All, filter, range, zeros, name_count}
 use Rattle.d64spec.specs.Answers.{Address, address, wrong_size, bad_type, bad_name, duplicate_name, Result, refused, done, ◌>>◌, need}
 use Rattle.d64spec.specs.Geometry.{Geometry, total, sectors_on, first_on}
