@@ -67,13 +67,14 @@ module _ (g : Geometry) (img : Bytes) (n x : ℕ) where
   -- a file's entry is its end
   pub get_or-with_ends-same : {f : File} (l : List File) (es : List ℕ) → n < length es → EndsAt l → Memᴰ f l → f.slot.number ≡ n
       → get_or (with_ends g img l es) n 0 ≡ x
-  get_or-with_ends-same {f} (h ∷ l) es b same (Memᴰ.head e) here =
+  get_or-with_ends-same {f = f} [] es b same m here = elim m [ ]
+  get_or-with_ends-same {f = f} (h ∷ l) es b same (Memᴰ.head e) here =
       let k : ℕ = h.slot.number in
       let y : ℕ = end_of g img h.sectors in
       let at : k ≡ n = ap (λ (z : File). z.slot.number) (sym e) ∙ here in
       get_or-with_ends-kept l (set es k y) (omega (arith, length-set es k y)) (λ z m. same z (Memᴰ.tail m))
       (get_or-noted es k y b at ∙ same h (Memᴰ.head refl) at)
-  get_or-with_ends-same (h ∷ l) es b same (Memᴰ.tail m) here =
+  get_or-with_ends-same {f = f} (h ∷ l) es b same (Memᴰ.tail m) here =
       let k : ℕ = h.slot.number in
       let y : ℕ = end_of g img h.sectors in
-      get_or-with_ends-same l (set es k y) (omega (arith, length-set es k y)) (λ z q. same z (Memᴰ.tail q)) m here
+      get_or-with_ends-same {f = f} l (set es k y) (omega (arith, length-set es k y)) (λ z q. same z (Memᴰ.tail q)) m here

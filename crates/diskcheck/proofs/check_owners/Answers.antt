@@ -1,0 +1,25 @@
+-- `diskcheck::check_owners` meets its contract: with the directory's sectors claimed, and their bits in track 18's mask, `check_rest` has the rest.
+use mathlib.Core.Path.{refl, ap, ◌∙◌}
+use Rattle.geometry.specs.Layout.{geometry_of}
+use Rattle.geometry.proofs.TableLaws.{known_of}
+use Rattle.diskcheck.specs.SlotChecks.{Tables}
+use Rattle.diskcheck.specs.ImageChecks.{rest_step}
+use Rattle.diskcheck.proofs.ImageLaws.{owners-ready, masks-ready, owners-before}
+use Rattle.diskcheck.proofs.check_owners.Goals as goal
+
+pub check_rest-requires : goal.check_rest-requires
+check_rest-requires c =
+    let d = c in
+    let z = d in
+    let k = known_of z.args.layout in
+    (owners-ready _ k z.requires d.claim_directory.ensures refl, masks-ready _ k z.requires d.claim_directory.ensures refl)
+
+pub returns : goal.returns
+returns c =
+    let r = c in
+    let d = r in
+    let z = d in
+    let a = z.args in
+    r.check_rest.ensures
+    ∙ ap (λ (t : Tables). rest_step (geometry_of a.layout) a.img.now t a.sectors.now a.count)
+    (owners-before _ (known_of a.layout) z.requires d.claim_directory.ensures refl)

@@ -1,0 +1,9 @@
+-- `diskcheck::slots::check_slots` meets its contract: the tables that it lends are the layout's.
+use Rattle.geometry.proofs.LentTableLaws.{firsts-of}
+use Rattle.diskcheck.proofs.slots.check_slots.Goals as goal
+
+pub check_all-requires : goal.check_all-requires
+check_all-requires c =
+    let k = c in
+    let z = k in
+    (z.requires.0, k.counts_of-counts.ensures, firsts-of z.args.layout, z.requires.1)
