@@ -1,6 +1,6 @@
 -- The map's count bytes added, but for track 18's (01, Sleeve listing): they stand in two runs of 17 entries and, where the layout has 40 tracks, in a
 -- third of 5. In order: sums; a run under way; runs of a layout's tracks; all tracks. Assumes nothing.
-use Prim.Native.Nat.{ℕ, zero, suc, ◌+◌, ◌*◌, ◌-◌, ◌≤◌, ◌<◌}
+use Prim.Native.Nat.{ℕ, zero, suc, ◌+◌, ◌*◌, ◌≤◌, ◌<◌}
 use native.Mathlib.Omega.{arith}
 use native.Mathlib.Numerals.{add-one}
 use mathlib.Core.Path.{◌≡◌, refl, sym, ap, ap₂, ◌∙◌}
