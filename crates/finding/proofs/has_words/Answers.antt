@@ -1,0 +1,21 @@
+-- `finding::has_words` meets its contract: a slot that is cut off or empty has no name; else its two words decide. Assumes nothing.
+use Prim.Native.Nat.{ℕ, ◌<◌}
+use native.Mathlib.Omega.{arith}
+use mathlib.Core.Path.{refl}
+use Rattle.d64spec.specs.Lists.{byte}
+use Rattle.finding.proofs.WordLaws.{compared-short, compared-empty, compared-first, compared-second}
+use Rattle.finding.proofs.has_words.Goals as goal
+
+pub returns-then-slot-lt19 : goal.returns-then-slot-lt19
+returns-then-slot-lt19 c = compared-short c.args.slot.now (omega arith)
+
+pub returns-then-eight_at-x : goal.returns-then-eight_at-x
+returns-then-eight_at-x c =
+    let k = c in
+    compared-first k.args.slot.now (omega arith) (λ i. omega (arith, k.type_inv.slot i)) (λ e. omega arith) c.eight_at.ensures refl (λ e. omega arith)
+
+pub returns : goal.returns
+returns c =
+    let k = c in
+    compared-second k.args.slot.now (omega arith) (λ i. omega (arith, k.type_inv.slot i)) (λ e. omega arith)
+    c.eight_at.ensures c.eight_at-2.ensures refl refl (omega arith) refl
