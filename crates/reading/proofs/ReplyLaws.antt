@@ -51,12 +51,6 @@ module _ (g : Geometry) (img out : Bytes) (r : Address) where
 -- ---- the telling of an entry
 
 module _ (b : Bytes) where
-  -- the 16 name bytes copied over zeros
-  pub name-copied : {n : Bytes} → length b ≡ 30 → n ≡ take (length (name_field b)) (name_field b) ++ drop (length (name_field b)) (zeros 16) → n ≡ name_field b
-  name-copied {n} full e =
-      let long : length (name_field b) ≡ 16 = simp (length-take, length-drop) (omega arith) in
-      e ∙ ap₂ (λ (x y : Bytes). x ++ y) (take-length (name_field b)) (ap (λ (m : ℕ). drop m (zeros 16)) long) ∙ append-nil (name_field b)
-
   pub told_of_lem : (g : Geometry) (img : Bytes) {n : Bytes} {count size : ℕ} → n ≡ name_field b → count ≡ count_of b → size ≡ length (data_from g img (first_of b))
       → information_of (record { type_byte = byte b 0; name = n; track = byte b 1; sector = byte b 2; count = count; length = size }) ≡ told_of g img b
   unfolding told_of
