@@ -40,13 +40,11 @@ entry-tail p x y h =
 
 -- the name copied over the 16 bytes lent for it
 pub entry-made : (name : Bytes) (kind first k : ℕ) {f p : Bytes} → length name ≤ 16 → f ≡ take 16 (padded name)
-    → p ≡ take (length f) f ++ drop (length f) (zeros 16)
+    → p ≡ f
     → (0x80 + kind) ∷ first / 256 ∷ first % 256 ∷ set (set (p ++ zeros 11) 25 (k % 256)) 26 (k / 256) ≡ new_entry name kind (unpacked first) k
 unfolding new_entry
-entry-made name kind first k {f} {p} h e c =
-    let whole : f ≡ padded name = e ∙ take_all 16 (padded name) (omega (arith, padded-length name h)) in
-    let long : length f ≡ 16 = ap length whole ∙ padded-length name h in
-    let is : p ≡ padded name = c ∙ ap₂ (λ (x y : Bytes). x ++ y) (take-length f) (ap (λ (n : ℕ). drop n (zeros 16)) long) ∙ append-nil f ∙ whole in
+entry-made name kind first k {f = f} {p = p} h e c =
+    let is : p ≡ padded name = c ∙ e ∙ take_all 16 (padded name) (omega (arith, padded-length name h)) in
     ap (λ (l : Bytes). (0x80 + kind) ∷ first / 256 ∷ first % 256 ∷ l)
     (ap (λ (l : Bytes). set (set (l ++ zeros 11) 25 (k % 256)) 26 (k / 256)) is ∙ entry-tail (padded name) (k % 256) (k / 256) (padded-length name h))
 

@@ -17,18 +17,14 @@ use Rattle.sectors.specs.Sectors.{Inside, with_sector}
 use Rattle.sectors.proofs.SectorLaws.{length-with_sector, disk-with_sector, sector-back}
 use Rattle.bam.specs.MapEntry.{Entries}
 use Rattle.bam.specs.Bam.{moved_mark}
+use Rattle.parts.proofs.OverwriteLaws.{lent_back}
 use Rattle.parts.proofs.PartLaws.{drop-replicate}
 use Rattle.storing.specs.Writes.{last_sector, StartsAt, SectorReady, SectorWritten}
 
--- what comes back of a loan of the bytes of t from a on when c is copied over the first of them
-module _ (t c : Bytes) (a : ℕ) (fits : a + length c ≤ length t) where
-  pub rest-copied : {p : Bytes} → p ≡ take (length c) c ++ drop (length c) (take (length t - a) (drop a t)) → take a t ++ (p ++ drop (length t - a) (drop a t)) ≡ splice t a c
-  rest-copied {p} e =
-      let all : take (length t - a) (drop a t) ≡ drop a t = take_all (length t - a) (drop a t) (omega (arith, length-drop a t)) in
-      let none : drop (length t - a) (drop a t) ≡ [] = drop_of_length-le (drop a t) {i = length t - a} (omega (arith, length-drop a t)) in
-      let is : p ≡ c ++ drop (a + length c) t
-      = e ∙ ap₂ (λ (x y : Bytes). x ++ y) (take-length c) (ap (drop (length c)) all ∙ drop-drop (length c) a t) in
-      ap₂ (λ (x y : Bytes). take a t ++ (x ++ y)) is none ∙ ap (λ (x : Bytes). take a t ++ x) (append-nil (c ++ drop (a + length c) t))
+-- what comes back of a loan of the bytes of t from a on when c is copied over all of them
+module _ (t c : Bytes) (a : ℕ) (fits : a + length c ≡ length t) where
+  pub rest-copied : {p : Bytes} → p ≡ c → take a t ++ (p ++ drop (length t - a) (drop a t)) ≡ splice t a c
+  rest-copied {p = p} e = rw e (lent_back t a (length t - a) c (omega arith))
 
 -- ---- the two kinds of sector
 
@@ -39,10 +35,6 @@ linked-filled (a ∷ []) c x y h k = absurd (omega arith)
 linked-filled (a ∷ b ∷ s) c x y h k =
     let none : drop (2 + length c) (x ∷ y ∷ s) ≡ [] = drop_of_length-le (x ∷ y ∷ s) {i = 2 + length c} (omega arith) in
     ap (λ (z : Bytes). x ∷ y ∷ (c ++ z)) none ∙ ap (λ (z : Bytes). x ∷ y ∷ z) (append-nil c)
-
--- zeros over a whole sector
-pub cleared : (s : Bytes) {p : Bytes} → length s ≡ 256 → p ≡ take 256 (zeros 256) ++ drop 256 s → p ≡ zeros 256
-cleared s h e = e ∙ ap (λ (z : Bytes). zeros 256 ++ z) (drop_of_length-le s {i = 256} (omega arith)) ∙ append-nil (zeros 256)
 
 -- 00 and the last used byte, and at most 254 bytes behind them
 pub last-filled : (t c : Bytes) → t ≡ zeros 256 → length c ≤ 254 → splice (set t 1 (length c + 1)) 2 c ≡ last_sector c

@@ -1,0 +1,17 @@
+-- `storing::writing::fill_linked` meets its contract: two bytes are set, and what comes back of the loan behind them is the content. Assumes nothing.
+use Prim.Native.Nat.{◌/◌, ◌%◌}
+use native.Mathlib.Omega.{arith}
+use mathlib.Core.Path.{◌≡◌, ap, ◌∙◌}
+use lib.ListN.{length, set, length-set, length-take, length-drop}
+use Rattle.d64spec.specs.Lists.{Bytes}
+use Rattle.storing.proofs.SectorWriteLaws.{rest-copied, linked-filled}
+use Rattle.storing.proofs.writing.fill_linked.Goals as goal
+
+pub returns : goal.returns
+returns c =
+    let b = c in
+    let a = b.args in
+    let t : Bytes = set (set a.sector.now 0 (a.next / 256)) 1 (a.next % 256) in
+    let long : length t ≡ 256 = simp length-set b.requires.0 in
+    rest-copied t a.content.now 2 (omega arith) c.copy_from_slice.ensures.after
+    ∙ linked-filled a.sector.now a.content.now (a.next / 256) (a.next % 256) b.requires.0 b.requires.1

@@ -1,0 +1,12 @@
+-- `storing::writing::grow_directory` meets its contract: the new sector is written whole, and two bytes of the last one are overwritten. Assumes nothing.
+use native.Mathlib.Omega.{arith}
+use Rattle.geometry.proofs.TableLaws.{known_of}
+use Rattle.storing.proofs.EntryWriteLaws.{directory-grown}
+use Rattle.storing.proofs.writing.grow_directory.Goals as goal
+
+pub returns : goal.returns
+returns c =
+    let b = c in
+    directory-grown _ (known_of b.args.layout) b.requires
+    c.empty_directory_sector.ensures
+    c.write_sector.ensures c.overwrite_in.ensures (omega arith) (omega arith)

@@ -1,0 +1,20 @@
+-- `storing::writing::write_chain` meets its contract: the loop's invariant says what is written from place i on, whatever image the last sector was written on (proofs/ChainWriteLaws). Assumes nothing.
+use Rattle.geometry.specs.Layout.{geometry_of}
+use lib.ListN.{length-take, length-drop}
+use Prim.Native.Nat.{◌-◌}
+use native.Mathlib.Omega.{arith}
+use mathlib.Core.Path.{refl, ◌∙◌}
+use Rattle.storing.proofs.ChainWriteLaws.{Advancing, place-ready, length-last_bytes, writing-last, chain-written, advancing-start, advancing-more}
+use Rattle.storing.proofs.writing.write_chain.Goals as goal
+
+pub loop-i-preserved : goal.loop-i-preserved
+loop-i-preserved c =
+    let l = c.loop-i in
+    advancing-more _ l.invariant (l.i - 1) (omega arith) c.write_linked.ensures refl
+
+pub returns : goal.returns
+returns c =
+    let b = c in
+    let w = c.write_last.ensures in
+    let l = c.loop-i in
+    chain-written _ (l.invariant.writing _ _ (writing-last _ (omega (arith, b.requires.some)) w)) (omega arith)

@@ -1,0 +1,14 @@
+-- `storing::writing::write_chain` meets its contract: the loop's invariant says what is written from place i on, whatever image the last sector was written on (proofs/ChainWriteLaws). Assumes nothing.
+use Rattle.geometry.specs.Layout.{geometry_of}
+use lib.ListN.{length-take, length-drop}
+use Prim.Native.Nat.{◌-◌}
+use native.Mathlib.Omega.{arith}
+use mathlib.Core.Path.{refl, ◌∙◌}
+use Rattle.storing.proofs.ChainWriteLaws.{Advancing, place-ready, length-last_bytes, writing-last, chain-written, advancing-start, advancing-more}
+use Rattle.storing.proofs.writing.write_chain.Given as goal
+
+abbrev pub invariant-loop-i : goal.invariant-loop-i
+invariant-loop-i l = Advancing (geometry_of l.layout) l.places l.content l.initial.i l.initial.img l.initial.map l.i l.img l.map
+
+abbrev pub decreases-loop-i : goal.decreases-loop-i
+decreases-loop-i l = l.i

@@ -1,0 +1,13 @@
+-- `storing::writing::write_last` meets its contract: what comes back of the loan of the sector is the sector written, and its mark is moved. Assumes nothing.
+use Rattle.geometry.proofs.TableLaws.{known_of}
+use native.Mathlib.Omega.{arith}
+use mathlib.Core.Path.{refl}
+use Rattle.storing.proofs.SectorWriteLaws.{sector-written, length-last_sector}
+use Rattle.storing.proofs.writing.write_last.Goals as goal
+
+pub returns : goal.returns
+returns c =
+    let b = c in
+    let a = b.args in
+    sector-written _ b.requires.0 c.start_of-start.ensures
+    c.fill_last.ensures (length-last_sector a.content.now b.requires.1) c.move_mark.ensures refl
