@@ -1,0 +1,15 @@
+-- `scratching::scratch_checked` meets its contract: the DOS version decides whether the image may be written.
+use mathlib.Core.Path.{sym, ◌∙◌}
+use borrow.Author.Tests.{not-true, not-false}
+use Rattle.answers.specs.declared.Fault.TheVariants.{WriteForbidden}
+use Rattle.answers.specs.Faults.{fault_of}
+use Rattle.scratching.proofs.ReplyLaws.{scratch-refused}
+use Rattle.scratching.proofs.FoundLaws.{forbidden}
+use Rattle.scratching.proofs.scratch_checked.Goals as goal
+
+pub returns-then-not-may_write : goal.returns-then-not-may_write
+unfolding fault_of
+returns-then-not-may_write c =
+    let s = c in
+    scratch-refused _ s.args.img.now s.args.name.now WriteForbidden c.refuse.ensures
+    (forbidden _ s.requires.0 s.args.name.now s.requires.1 (sym c.may_write.ensures ∙ c.if-not-may_write.true))

@@ -1,0 +1,10 @@
+-- `scratching::unlink` meets its contract: the link is read before the zeros are written over the whole sector. Assumes nothing.
+use mathlib.Core.Path.{refl}
+use native.Mathlib.Omega.{arith}
+use Rattle.scratching.proofs.ClearingLaws.{unlinked}
+use Rattle.scratching.proofs.unlink.Goals as goal
+
+pub returns : goal.returns
+returns c =
+    let s = c in
+    unlinked s.args.sector.now s.requires c.overwrite.ensures refl refl refl
