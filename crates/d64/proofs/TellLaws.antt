@@ -62,13 +62,13 @@ unfolding verdict_of fault_of entry_after
 given-short bs entry is short = record { verdict = rw (is, lt-leb (length bs) (length entry) short); filled = refl }
 
 -- the bytes copied to the start of the entry
-pub given-filled : {v : Verdict} (bs entry entry' : Bytes) → v ≡ Fine → length bs ≤ length entry → entry' ≡ take (length bs) bs ++ drop (length bs) entry
-    → EntryGiven v bs entry Fine entry'
+pub given-filled : {v : Verdict} (bs entry front : Bytes) → v ≡ Fine → length bs ≤ length entry → front ≡ bs
+    → EntryGiven v bs entry Fine (front ++ drop (length bs) entry)
 unfolding verdict_of entry_after
-given-filled bs entry entry' is fits copied =
+given-filled bs entry front is fits copied =
     record {
       verdict = rw (is, le-leb (length bs) (length entry) fits);
-      filled = copied ∙ rw (take-length bs, zero-add);
+      filled = ap (λ (x : Bytes). x ++ drop (length bs) entry) copied ∙ rw zero-add;
     }
 
 -- ---- the reply

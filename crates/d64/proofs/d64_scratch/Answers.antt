@@ -1,0 +1,30 @@
+-- `d64::d64_scratch` meets its contract: the block first, then the layout, then the report of the scratch. Assumes nothing.
+use native.Mathlib.Omega.{arith}
+use Rattle.d64spec.specs.Call.{scratch, output_buffer}
+use Rattle.d64.proofs.HostLaws.{call-misfit, call-unknown, call_known}
+use Rattle.d64.proofs.d64_scratch.Goals as goal
+
+pub returns-then-answer-ne-BLOCK_BYTES : goal.returns-then-answer-ne-BLOCK_BYTES
+unfolding output_buffer
+returns-then-answer-ne-BLOCK_BYTES c = let p = c.args in call-misfit _ _ _ (scratch p.name.now) (λ nine. omega arith)
+
+pub returns-in-Unknown : goal.returns-in-Unknown
+unfolding output_buffer
+returns-in-Unknown c =
+    let p = c.args in
+    let e = c in
+    let n = c in
+    let u = c in
+    call-unknown p.layout p.image.now p.answer.now (scratch p.name.now) n.layout_numbered-named.ensures _ _ (omega arith)
+    e.in-Unknown.is u.refuse_layout.ensures
+
+pub returns-in-Known : goal.returns-in-Known
+unfolding output_buffer
+returns-in-Known c =
+    let p = c.args in
+    let n = c in
+    let v = c in
+    let k = c in
+    let g = c in
+    call_known p.layout p.image.now p.answer.now (scratch p.name.now) n.layout_numbered-named.ensures _ _ (omega arith) _
+    v.in-Known.is _ _ _ k.scratch_file-report.ensures g.give_answer.ensures
