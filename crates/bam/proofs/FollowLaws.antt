@@ -1,6 +1,6 @@
 -- "The map follows" (01, Store and Scratch), for callers: a map by value says which sectors are free (`Expects`). In order: a map loaded; a mark asked
 -- for; what is free said otherwise; one mark moved; several; the map stored is the rewritten map. Assumes nothing.
-use Prim.Native.Nat.{ℕ, ◌-◌, ◌/◌, ◌%◌, ◌^◌, ◌≤◌, ◌<◌}
+use Prim.Native.Nat.{ℕ, ◌-◌, ◌≤◌, ◌<◌}
 use native.Mathlib.Omega.{arith}
 use native.Mathlib.Decide.{ℕ_discrete, dec_le}
 use mathlib.Core.Path.{◌≡◌, refl, sym, ap, ◌∙◌}

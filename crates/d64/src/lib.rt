@@ -49,13 +49,7 @@ pub fn d64_check(layout: u32, image: &[u8], answer: &mut [u8]) -> u32
 
 // Reads the file of this name to the start of the output, the rest of it as it was; reports its length and the sectors visited.
 // Refused with 1, 9, 2 to 8, 13 or 16, in this order; a refusal leaves the output and reports 0 and 0.
-pub fn d64_read(
-    layout: u32,
-    image: &[u8],
-    name: &[u8],
-    out: &mut [u8],
-    answer: &mut [u8],
-) -> u32
+pub fn d64_read(layout: u32, image: &[u8], name: &[u8], out: &mut [u8], answer: &mut [u8]) -> u32
     ensures { HostServed (host_call_in layout image.now answer.old (read name.now out.old))
         result image.now out.new answer.new }
 {
@@ -156,12 +150,7 @@ pub fn d64_tell(
 
 // Lists the 4,864 bytes of track 18 into the text, from its start, the rest of it as it was; reports the length of the listing.
 // Refused with 1, 2 to 6 or, for a text that is too short, 16; a refusal leaves the text and reports 0.
-pub fn d64_listing(
-    layout: u32,
-    track18: &[u8],
-    text: &mut [u8],
-    answer: &mut [u8],
-) -> u32
+pub fn d64_listing(layout: u32, track18: &[u8], text: &mut [u8], answer: &mut [u8]) -> u32
     ensures { HostServed (host_listing_in layout track18.now answer.old text.old)
         result track18.now text.new answer.new }
 {

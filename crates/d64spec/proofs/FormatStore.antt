@@ -14,7 +14,6 @@ use Rattle.d64spec.specs.Image.{disk}
 use Rattle.d64spec.specs.Directory.{File, files, plain_entry_of, plain_list}
 use Rattle.d64spec.specs.Rules.{IsStorableKind, IsName}
 use Rattle.d64spec.specs.Owner.{free_for_files}
-use Rattle.d64spec.specs.Reply.{writable}
 use Rattle.d64spec.specs.Format.{call_format}
 use Rattle.d64spec.specs.Store.{sectors_needed}
 use Rattle.d64spec.specs.Call.{attempt, format, output_buffer, perform, store}

@@ -1,5 +1,4 @@
 -- The rows of specs/LayoutRows and specs/TwoLayouts hold (02, §8): a layout that is wrong in one place, or numbered otherwise, is refused.
-use Prim.Native.Nat.{ℕ}
 use mathlib.Core.Path.{◌≡◌, refl}
 use mathlib.Core.Bool.{false}
 use mathlib.Core.List.{[], ◌∷◌, ◌++◌, map}

@@ -1,6 +1,6 @@
 -- The bytes of the map's sector: those in no track's entry, and those in the entry of a track whose sectors keep their owners, are as they were.
 -- In order: entries are bytes; bytes outside them; the entry that a byte is in; a disk whose map is written, byte by byte.
-use Prim.Native.Nat.{ℕ, zero, suc, ◌+◌, ◌*◌, ◌-◌, ◌^◌, ◌≤◌, ◌<◌}
+use Prim.Native.Nat.{ℕ, zero, suc, ◌+◌, ◌*◌, ◌-◌, ◌≤◌, ◌<◌}
 use native.Mathlib.Omega.{arith}
 use native.Mathlib.Decide.{dec_le}
 use mathlib.Core.Path.{◌≡◌, refl, sym, ap, ◌∙◌, subst}

@@ -3,7 +3,7 @@ use Prim.Native.Nat.{ℕ, zero, suc}
 use native.Mathlib.Omega.{arith}
 use mathlib.Core.Path.{◌≡◌, refl, ap}
 use mathlib.Core.Bool.{Bool, true, false, not}
-use mathlib.Core.Logic.{◌↔◌, ⊎_elim, ∥∥₁_elim, ∥∥₁_map}
+use mathlib.Core.Logic.{⊎_elim, ∥∥₁_elim, ∥∥₁_map}
 use mathlib.Core.List.Perm
 use mathlib.Core.List.{List, [], ◌∷◌, Perm, Mem, mem-cons_of_mem, mem_of_ne_of_mem, not-mem-nil}
 use Rattle.d64spec.specs.Lists.{Bytes, equal}

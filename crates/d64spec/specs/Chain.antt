@@ -2,7 +2,7 @@
 -- The directory and the files are both chains, with a decoder each; all else is said once, over the decoder.
 -- In order: links; the two decoders; a chain, with no order and no bound; the sectors met; the walk of the check; the data.
 -- Laws: proofs/ChainLaws, WalkLaws, LengthLaws.
-use Rattle.std.specs.Prelude.{ℕ, zero, suc, ◌+◌, ◌≡◌, true, false, cond, ◌&&◌, List, [], ◌∷◌, ◌++◌, eqb, ltb}
+use Rattle.std.specs.Prelude.{ℕ, zero, suc, ◌≡◌, true, false, cond, ◌&&◌, List, [], ◌∷◌, ◌++◌, eqb, ltb}
 use Rattle.d64spec.specs.Lists.{Bytes, byte, part, member}
 use Rattle.d64spec.specs.Answers.{Address, address, bad_link, already_owned, Result, refused, done, ◌>>=◌}
 use Rattle.d64spec.specs.Geometry.{Geometry, total, sector_number, on_disk}

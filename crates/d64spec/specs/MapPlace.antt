@@ -1,7 +1,7 @@
 -- Answer 8's place (02, §3): the track; the lowest of its sectors whose bit is wrong, and 255 only if all bits of the track are right; 255 for the slot.
 -- What the sector is: specs/Order, `NamesWrong`. In order: what an answer 8 says of the disk (the statements: proofs/MapPlaceTheorem); which sector is named
 -- in an entry of each zone (computed: proofs/EdgeTables). Every call's answer 8 on a small disk: specs/TwoFaults.
-use Rattle.std.specs.Prelude.{ℕ, ◌+◌, ◌*◌, ◌-◌, ◌/◌, ◌%◌, ◌^◌, ◌≤◌, ◌<◌, ◌≡◌, Bool, true, not, List, [], ◌∷◌, ◌++◌, map, replicate, eqb}
+use Rattle.std.specs.Prelude.{ℕ, ◌-◌, ◌/◌, ◌%◌, ◌^◌, ◌≤◌, ◌<◌, ◌≡◌, Bool, true, not, List, [], ◌∷◌, ◌++◌, map, replicate, eqb}
 use Rattle.d64spec.specs.Lists.{Bytes, filter, join, range}
 use Rattle.d64spec.specs.Answers.{Answer}
 use Rattle.d64spec.specs.Geometry.{Geometry, layout35, tracks}

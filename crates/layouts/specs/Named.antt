@@ -1,5 +1,5 @@
 -- What the code's named layout means (02, §8): a layout, or the refusal 17.
-use Rattle.std.specs.Prelude.{ℕ, ◌-◌, length, eqb, leb}
+use Rattle.std.specs.Prelude.{◌-◌, length, eqb, leb}
 use Rattle.d64spec.specs.Lists.{Bytes, byte}
 use Rattle.d64spec.specs.Answers.{Result, refused, done, unknown_layout, ◌>>◌, need}
 use Rattle.d64spec.specs.Layouts.{layout_numbered}

@@ -2,11 +2,11 @@
 -- In order: what comes back of a loan; bytes overwritten where they fit, and where not; what is then on the disk.
 use Prim.Native.Nat.{ℕ, ◌+◌, ◌-◌, ◌*◌, ◌≤◌, ◌<◌}
 use native.Mathlib.Omega.{arith}
-use mathlib.Core.Path.{◌≡◌, refl, sym, ap, ap₂, ◌∙◌}
+use mathlib.Core.Path.{◌≡◌, refl, sym, ap, ◌∙◌}
 use mathlib.Core.Bool.{Bool, true, false, cond}
-use mathlib.Core.List.{[], ◌++◌, append-nil}
-use lib.ListN.{length, take, drop, length-take, drop_of_length-le}
-use lib.Seq.{take-length, drop-drop}
+use mathlib.Core.List.{◌++◌}
+use lib.ListN.{length, take, drop}
+use lib.Seq.{drop-drop}
 use lib.Dec.{leb}
 use borrow.Author.Tests.{leb-true, le-leb, lt-leb}
 use Rattle.d64spec.specs.Lists.{Bytes, splice}

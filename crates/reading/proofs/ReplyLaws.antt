@@ -1,14 +1,11 @@
 -- Replies (01, Answer numbers; Read; Tell): what each call of the definitions answers, refusal by refusal, and that the code's report says the same.
 -- In order: the reading of a chain; read; tell. What all calls share: answers RefusedLaws.
 use Prim.Native.Nat.{ℕ, ◌*◌, ◌≤◌, ◌<◌}
-use native.Mathlib.Omega.{arith}
-use mathlib.Core.Path.{◌≡◌, refl, sym, ap, ap₂, ◌∙◌}
+use mathlib.Core.Path.{◌≡◌, refl, sym, ap, ◌∙◌}
 use mathlib.Core.Bool.{Bool, true, false}
-use mathlib.Core.List.{◌++◌, append-nil}
-use lib.ListN.{length, take, drop, length-take, length-drop}
-use lib.Seq.{take-length}
+use lib.ListN.{length, drop}
 use borrow.Author.Tests.{le-leb, lt-leb}
-use Rattle.d64spec.specs.Lists.{Bytes, byte, zeros}
+use Rattle.d64spec.specs.Lists.{Bytes, byte}
 use Rattle.d64spec.specs.Answers.{Address, Fault, refused, done, wrong_size, bad_name_argument, not_found, wrong_buffer, unplaced, ◌>>◌, need, first}
 use Rattle.d64spec.specs.Geometry.{Geometry, total}
 use Rattle.d64spec.specs.Image.{disk}

@@ -1,13 +1,13 @@
 -- The entry, and its place in the directory (01, Store).
 -- In order: the entry's bytes; the directory grown by a sector; the entry at its place; the place of the definitions.
-use Prim.Native.Nat.{ℕ, ◌+◌, ◌-◌, ◌*◌, ◌/◌, ◌%◌, ◌≤◌}
+use Prim.Native.Nat.{ℕ, ◌+◌, ◌*◌, ◌/◌, ◌%◌, ◌≤◌}
 use native.Mathlib.Omega.{arith}
 use mathlib.Core.Path.{◌≡◌, sym, ap, ap₂, ◌∙◌}
 use mathlib.Core.Bool.{Bool, true, false, cond}
 use mathlib.Core.Logic.{◌⊎◌, inl, inr}
-use mathlib.Core.List.{[], ◌∷◌, ◌++◌, append_assoc, append-nil}
-use lib.ListN.{length, take, drop, set, length-append, length-replicate}
-use lib.Seq.{take_all, take-length, set_at}
+use mathlib.Core.List.{[], ◌∷◌, ◌++◌, append_assoc}
+use lib.ListN.{length, take, set, length-append, length-replicate}
+use lib.Seq.{take_all, set_at}
 use Rattle.d64spec.specs.Lists.{Bytes, splice, zeros}
 use Rattle.d64spec.specs.Answers.{Address, address}
 use Rattle.d64spec.specs.Geometry.{Geometry, sector_number, directory_start}

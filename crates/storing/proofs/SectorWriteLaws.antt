@@ -6,8 +6,7 @@ use native.Mathlib.Numerals.{add-one}
 use mathlib.Core.Path.{◌≡◌, ap, ap₂, ◌∙◌}
 use mathlib.Core.Bool.{Bool, true, false}
 use mathlib.Core.List.{List, [], ◌∷◌, ◌++◌, append-nil}
-use lib.ListN.{length, take, drop, set, length-append, length-drop, length-replicate, drop_of_length-le}
-use lib.Seq.{take_all, take-length, drop-drop}
+use lib.ListN.{length, take, drop, set, length-append, length-replicate, drop_of_length-le}
 use Rattle.d64spec.specs.Lists.{Bytes, splice, zeros}
 use Rattle.d64spec.specs.Geometry.{Geometry, total, on_disk, sector_number}
 use Rattle.d64spec.specs.Image.{disk}

@@ -1,6 +1,6 @@
 -- What a store whose every refusal is decided may rely on (01, Store): its sectors, the chain along them, and the place of its entry.
 -- In order: lists; the sectors taken, and the chain along them; the place of the entry, and the entry there.
-use Prim.Native.Nat.{ℕ, zero, suc, ◌+◌, ◌-◌, ◌*◌, ◌≤◌, ◌<◌}
+use Prim.Native.Nat.{ℕ, zero, suc, ◌+◌, ◌*◌, ◌≤◌, ◌<◌}
 use native.Mathlib.Omega.{arith}
 use mathlib.Core.Path.{◌≡◌, refl, sym, ap, ◌∙◌, subst}
 use mathlib.Core.Bool.{true, false}

@@ -3,7 +3,7 @@ use Prim.Native.Nat.{◌≤◌}
 use native.Mathlib.Omega.{arith}
 use Rattle.d64spec.proofs.BitLaws.{power_le, shifted-some}
 use Rattle.bam.specs.MapEntry.{own_bits}
-use Rattle.bam.proofs.ShapeLaws.{EntryShape, entry-shaped}
+use Rattle.bam.proofs.ShapeLaws.{entry-shaped}
 use Rattle.bam.proofs.OnesLaws.{ones-own}
 use Rattle.bam.proofs.count_free.Goals as goal
 

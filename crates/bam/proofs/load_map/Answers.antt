@@ -1,5 +1,4 @@
 -- `bam::load_map`: a whole sector as it is, and any other slice copied into one. Assumes nothing.
-use native.Mathlib.Omega.{arith}
 use mathlib.Core.Path.{◌∙◌}
 use Rattle.geometry.proofs.TableLaws.{known_of}
 use Rattle.bam.proofs.LoadLaws.{loaded-copied}

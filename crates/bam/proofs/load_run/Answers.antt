@@ -1,9 +1,8 @@
 -- `bam::load_run`. The loop keeps `Loading`: with the entries that are left, the map becomes the one that the run makes. What falls is their number.
 -- Assumes nothing.
-use Prim.Native.Nat.{◌-◌}
 use native.Mathlib.Omega.{arith}
 use Rattle.bam.specs.MapSector.{four_bytes}
-use Rattle.bam.proofs.LoadLaws.{Loading, loading-start, loading-moved, loading-finished}
+use Rattle.bam.proofs.LoadLaws.{loading-moved, loading-finished}
 use Rattle.bam.proofs.load_run.Goals as goal
 
 pub loop-i-preserved : goal.loop-i-preserved

@@ -1,9 +1,7 @@
 -- `bam::load_run`. The loop keeps `Loading`: with the entries that are left, the map becomes the one that the run makes. What falls is their number.
 -- Assumes nothing.
 use Prim.Native.Nat.{◌-◌}
-use native.Mathlib.Omega.{arith}
-use Rattle.bam.specs.MapSector.{four_bytes}
-use Rattle.bam.proofs.LoadLaws.{Loading, loading-start, loading-moved, loading-finished}
+use Rattle.bam.proofs.LoadLaws.{Loading}
 use Rattle.bam.proofs.load_run.Given as goal
 
 abbrev pub invariant-loop-i : goal.invariant-loop-i

@@ -1,6 +1,5 @@
 -- `bam::load_whole`: one run of entries, and a second where the layout has one. Assumes nothing.
 use native.Mathlib.Omega.{arith}
-use Rattle.geometry.proofs.MapPlaceLaws.{extra-small}
 use Rattle.bam.proofs.LoadLaws.{loaded-front, loaded-both}
 use Rattle.bam.proofs.load_whole.Goals as goal
 

@@ -3,7 +3,7 @@
 use native.Mathlib.Omega.{arith}
 use Rattle.d64spec.proofs.BitLaws.{power_le, shifted}
 use Rattle.bam.proofs.BitmapLaws.{bitmap-lt}
-use Rattle.bam.proofs.ShapeLaws.{EntryShape, entry-shaped}
+use Rattle.bam.proofs.ShapeLaws.{entry-shaped}
 use Rattle.bam.proofs.MoveLaws.{moved-past, moved-free, moved-used}
 use Rattle.bam.proofs.moved_entry.Goals as goal
 

@@ -1,7 +1,6 @@
 -- `bam::store_entry`: four stores behind one another replace four bytes.
 -- Assumes nothing.
 use native.Mathlib.Omega.{arith}
-use lib.ListN.{length-set}
 use Rattle.bam.proofs.FourLaws.{stored-four}
 use Rattle.bam.proofs.ShapeLaws.{entry-shaped}
 use Rattle.bam.proofs.store_entry.Goals as goal

@@ -1,7 +1,6 @@
 -- `bam::store_map`: one run of entries, and a second where the layout has one; a slice that is not a sector is left. Assumes nothing.
 use native.Mathlib.Omega.{arith}
 use mathlib.Core.Path.{sym}
-use Rattle.geometry.proofs.MapPlaceLaws.{extra-small}
 use Rattle.bam.proofs.SaveLaws.{stored_other, stored-front, stored-both}
 use Rattle.bam.proofs.store_map.Goals as goal
 

@@ -2,7 +2,7 @@
 -- Assumes nothing.
 use Prim.Native.Nat.{◌+◌, ◌-◌, ◌*◌}
 use native.Mathlib.Omega.{arith}
-use Rattle.bam.proofs.SaveLaws.{Storing, storing-start, storing-moved, storing-finished}
+use Rattle.bam.proofs.SaveLaws.{storing-moved, storing-finished}
 use Rattle.bam.proofs.store_run.Goals as goal
 
 pub loop-i-preserved : goal.loop-i-preserved

@@ -1,8 +1,7 @@
 -- `bam::store_run`. The loop keeps `Storing`: with the entries that are left, the sector becomes the one that the run makes. What falls is their number.
 -- Assumes nothing.
-use Prim.Native.Nat.{◌+◌, ◌-◌, ◌*◌}
-use native.Mathlib.Omega.{arith}
-use Rattle.bam.proofs.SaveLaws.{Storing, storing-start, storing-moved, storing-finished}
+use Prim.Native.Nat.{◌-◌}
+use Rattle.bam.proofs.SaveLaws.{Storing}
 use Rattle.bam.proofs.store_run.Given as goal
 
 abbrev pub invariant-loop-i : goal.invariant-loop-i

@@ -1,12 +1,8 @@
 -- `diskcheck::claim_directory` meets its contract. The loop keeps: the first i sectors of the directory are claimed in the table that it began with.
 -- What falls is the number of sectors that are left. The code does not look at the layout, and 18/0 has the same number in all.
-use Prim.Native.Nat.{◌-◌, ◌≤◌, ◌<◌}
-use native.Mathlib.Omega.{arith}
-use mathlib.Core.Path.{◌≡◌, refl, ap, ◌∙◌}
-use lib.ListN.{length, get_or, length-set}
-use Rattle.geometry.proofs.TableLaws.{known_of}
-use Rattle.directory.proofs.SearchLaws.{sector-lt}
-use Rattle.diskcheck.proofs.MaskLaws.{directory_claimed, length-claimed, claimed-more, bare-long, claimed-all}
+use Prim.Native.Nat.{◌-◌, ◌≤◌}
+use mathlib.Core.Path.{◌≡◌}
+use Rattle.diskcheck.proofs.MaskLaws.{directory_claimed}
 use Rattle.diskcheck.proofs.claim_directory.Given as goal
 
 abbrev pub invariant-loop-i : goal.invariant-loop-i

@@ -1,11 +1,9 @@
 -- `entry::slot` meets its contract: nothing past the sector's end, else 30 bytes from the slot's byte 02 on. Assumes nothing.
 use mathlib.Core.Path.{◌≡◌, sym, ap, ◌∙◌}
 use Prim.Native.Nat.{ℕ, ◌+◌, ◌*◌}
-use native.Mathlib.Omega.{arith}
 use lib.ListN.{take, drop}
 use lib.Seq.{drop-drop}
 use Rattle.d64spec.specs.Lists.{Bytes, part}
-use Rattle.parts.proofs.PartLaws.{part-past}
 use Rattle.entry.proofs.slot.Goals as goal
 
 -- bytes 02 to 1F of slot j are 30 from 32 * j + 2 on

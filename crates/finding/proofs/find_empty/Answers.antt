@@ -1,9 +1,6 @@
 -- `finding::find_empty` meets its contract. The loop keeps that the slots before k are occupied. The slots that are left fall.
-use Prim.Native.Nat.{◌-◌}
 use native.Mathlib.Omega.{arith}
-use mathlib.Core.Path.{sym, ◌∙◌}
-use Rattle.finding.specs.FileSlots.{slot_empty}
-use Rattle.finding.proofs.FindLaws.{Searching, searching-start, searching-next, searching-end, empty-next, empty-first}
+use Rattle.finding.proofs.FindLaws.{searching-next, empty-next}
 use Rattle.finding.proofs.find_empty.Goals as goal
 
 pub loop-k-preserved : goal.loop-k-preserved

@@ -1,9 +1,7 @@
 -- `finding::find_empty` meets its contract. The loop keeps that the slots before k are occupied. The slots that are left fall.
 use Prim.Native.Nat.{◌-◌}
-use native.Mathlib.Omega.{arith}
-use mathlib.Core.Path.{sym, ◌∙◌}
 use Rattle.finding.specs.FileSlots.{slot_empty}
-use Rattle.finding.proofs.FindLaws.{Searching, searching-start, searching-next, searching-end, empty-next, empty-first}
+use Rattle.finding.proofs.FindLaws.{Searching}
 use Rattle.finding.proofs.find_empty.Given as goal
 
 abbrev pub invariant-loop-k : goal.invariant-loop-k

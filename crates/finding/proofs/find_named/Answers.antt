@@ -1,11 +1,10 @@
 -- `finding::find_named` meets its contract: a name of more than 16 bytes is in no slot; else the loop keeps that the slots before k do not hold the name.
 -- The slots that are left fall.
-use Prim.Native.Nat.{◌-◌}
 use native.Mathlib.Omega.{arith}
 use mathlib.Core.Path.{◌≡◌, refl, sym, ◌∙◌}
-use Rattle.finding.specs.FileSlots.{holds_name, slot_named, IsWords}
+use Rattle.finding.specs.FileSlots.{holds_name, slot_named}
 use Rattle.finding.proofs.WordLaws.{name-words}
-use Rattle.finding.proofs.FindLaws.{Searching, searching-start, searching-next, searching-end, named-long, named_other, named_here}
+use Rattle.finding.proofs.FindLaws.{searching-start, searching-next, named-long, named_other, named_here}
 use Rattle.finding.proofs.find_named.Goals as goal
 
 pub returns-then-name-gt16 : goal.returns-then-name-gt16

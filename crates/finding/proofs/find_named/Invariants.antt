@@ -1,11 +1,8 @@
 -- `finding::find_named` meets its contract: a name of more than 16 bytes is in no slot; else the loop keeps that the slots before k do not hold the name.
 -- The slots that are left fall.
 use Prim.Native.Nat.{◌-◌}
-use native.Mathlib.Omega.{arith}
-use mathlib.Core.Path.{◌≡◌, refl, sym, ◌∙◌}
-use Rattle.finding.specs.FileSlots.{holds_name, slot_named, IsWords}
-use Rattle.finding.proofs.WordLaws.{name-words}
-use Rattle.finding.proofs.FindLaws.{Searching, searching-start, searching-next, searching-end, named-long, named_other, named_here}
+use Rattle.finding.specs.FileSlots.{slot_named, IsWords}
+use Rattle.finding.proofs.FindLaws.{Searching}
 use Rattle.finding.proofs.find_named.Given as goal
 
 -- the slots before k do not hold the name, whose words are x and y

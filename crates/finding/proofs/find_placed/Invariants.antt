@@ -1,12 +1,8 @@
 -- `finding::find_placed` meets its contract. The loop keeps that the slot asked for is the one at position `left` among those from k on.
 -- The slots that are left fall.
 use Prim.Native.Nat.{◌-◌}
-use native.Mathlib.Omega.{arith}
-use mathlib.Core.Path.{sym, ◌∙◌}
-use mathlib.Core.Logic.{⊎_elim}
-use borrow.Author.Tests.{not-true, not-false}
 use Rattle.finding.specs.FileSlots.{slot_placed}
-use Rattle.finding.proofs.FindLaws.{Searching, searching-start, searching-next, searching-end, placed-empty, placed-next, placed-here}
+use Rattle.finding.proofs.FindLaws.{Searching}
 use Rattle.finding.proofs.find_placed.Given as goal
 
 abbrev pub invariant-loop-k : goal.invariant-loop-k

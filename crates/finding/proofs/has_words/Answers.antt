@@ -1,9 +1,7 @@
 -- `finding::has_words` meets its contract: a slot that is cut off or empty has no name; else its two words decide. Assumes nothing.
-use Prim.Native.Nat.{ℕ, ◌<◌}
 use native.Mathlib.Omega.{arith}
 use mathlib.Core.Path.{refl}
-use Rattle.d64spec.specs.Lists.{byte}
-use Rattle.finding.proofs.WordLaws.{compared-short, compared-empty, compared-first, compared-second}
+use Rattle.finding.proofs.WordLaws.{compared-short, compared-first, compared-second}
 use Rattle.finding.proofs.has_words.Goals as goal
 
 pub returns-then-slot-lt19 : goal.returns-then-slot-lt19

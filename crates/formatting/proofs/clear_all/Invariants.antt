@@ -1,8 +1,7 @@
 -- `formatting::clear_all` meets its contract: the bytes passed are 0.
-use native.Mathlib.Omega.{arith}
 use Prim.Native.Nat.{◌-◌}
-use lib.ListN.{length, length-set}
-use Rattle.formatting.proofs.ClearLaws.{Clearing, clearing-start, clearing-moved, clearing-finished}
+use lib.ListN.{length}
+use Rattle.formatting.proofs.ClearLaws.{Clearing}
 use Rattle.formatting.proofs.clear_all.Given as goal
 
 abbrev pub invariant-loop-i : goal.invariant-loop-i

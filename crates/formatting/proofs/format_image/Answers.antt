@@ -1,9 +1,6 @@
 -- `formatting::format_image` meets its contract. In order: the size; the name asked for; the image of a fresh disk.
 use native.Mathlib.Omega.{arith}
-use mathlib.Core.Path.{◌≡◌, sym, ◌∙◌}
-use mathlib.Core.Bool.{true}
-use borrow.Author.Tests.{not-true, not-false}
-use Rattle.d64spec.specs.Reply.{valid_name_argument}
+use mathlib.Core.Path.{sym, ◌∙◌}
 use Rattle.d64spec.proofs.FormatLaws.{name-short}
 use Rattle.answers.specs.declared.Fault.TheVariants.{WrongSize, BadNameArgument}
 use Rattle.answers.specs.Faults.{fault_of}

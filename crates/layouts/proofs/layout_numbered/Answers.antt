@@ -1,7 +1,7 @@
 -- `layouts::layout_numbered`: arm by arm. Assumes nothing.
 use Prim.Native.Nat.{ℕ, zero, suc}
 use native.Mathlib.Omega.{arith}
-use mathlib.Core.Path.{◌≡◌, refl, ◌∙◌}
+use mathlib.Core.Path.{◌≡◌, refl}
 use Rattle.d64spec.specs.Answers.{Result, refused, done, unknown_layout}
 use Rattle.d64spec.specs.Geometry.{Geometry, layout35, speed_dos, dolphin}
 use Rattle.d64spec.specs.Layouts.{layout_numbered}

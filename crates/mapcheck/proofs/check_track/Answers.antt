@@ -2,8 +2,7 @@
 -- lowest bit that differs. Assumes nothing.
 use native.Mathlib.Omega.{arith}
 use mathlib.Core.Path.{refl}
-use mathlib.Core.Logic.{inl, inr}
-use borrow.Author.Tests.{eqb-false, eqb-true}
+use borrow.Author.Tests.{eqb-true}
 use Rattle.answers.specs.Faults.{fault_of, verdict_of}
 use Rattle.geometry.proofs.TableLaws.{known_of}
 use Rattle.mapcheck.proofs.TrackLaws.{track-right, track-wrong}

@@ -1,12 +1,12 @@
 -- `mapcheck::check_tracks`. The loop keeps `Checking`: the tracks passed are correct, so that the rest decides. What falls is the number of tracks left.
 -- Assumes nothing.
-use Prim.Native.Nat.{◌+◌, ◌-◌, ◌≤◌}
+use Prim.Native.Nat.{◌≤◌}
 use native.Mathlib.Omega.{arith}
 use Rattle.d64spec.specs.Geometry.{tracks}
 use Rattle.geometry.specs.Layout.{geometry_of}
 use Rattle.geometry.proofs.TableLaws.{known_of}
 use Rattle.answers.specs.Faults.{verdict_of}
-use Rattle.mapcheck.proofs.StepLaws.{Checking, checking-start, checking-moved, checking-wrong, checking-finished}
+use Rattle.mapcheck.proofs.StepLaws.{checking-start, checking-moved, checking-wrong, checking-finished}
 use Rattle.mapcheck.proofs.check_tracks.Goals as goal
 
 pub loop-track-init : goal.loop-track-init

@@ -1,8 +1,7 @@
 -- `mapcheck::lowest_difference`: equal numbers differ in no bit; else the zeros of their exclusive or are counted. Assumes nothing.
 use native.Mathlib.Omega.{arith}
 use mathlib.Core.Path.{refl}
-use lib.Count.{trailing_le}
-use Rattle.mapcheck.proofs.DifferenceLaws.{byte-of-bit, difference-none, difference-some}
+use Rattle.mapcheck.proofs.DifferenceLaws.{difference-none, difference-some}
 use Rattle.mapcheck.proofs.lowest_difference.Goals as goal
 
 pub returns-then-a-b : goal.returns-then-a-b

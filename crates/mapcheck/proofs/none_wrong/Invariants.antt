@@ -1,16 +1,12 @@
 -- `mapcheck::none_wrong`. The loop keeps: where nothing differs so far, the tracks passed are correct (`Passing`), in any layout that has these counts.
 -- What falls is the number of entries left.
 -- Assumes nothing.
-use Prim.Native.Nat.{◌+◌, ◌-◌}
-use native.Mathlib.Omega.{arith}
+use Prim.Native.Nat.{◌-◌}
 use mathlib.Core.Path.{◌≡◌}
-use borrow.Author.Tests.{eqb-true}
 use Rattle.d64spec.specs.Geometry.{Geometry}
 use Rattle.d64spec.specs.Layouts.{Known}
 use Rattle.geometry.specs.Layout.{IsCounts}
-use Rattle.geometry.proofs.TableLaws.{known_of}
-use Rattle.mapcheck.proofs.TrackLaws.{track-right, nothing-differs}
-use Rattle.mapcheck.proofs.StepLaws.{Passing, passing-start, passing-moved, passing-finished}
+use Rattle.mapcheck.proofs.StepLaws.{Passing}
 use Rattle.mapcheck.proofs.none_wrong.Given as goal
 
 abbrev pub invariant-loop-i : goal.invariant-loop-i

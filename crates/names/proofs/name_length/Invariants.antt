@@ -2,10 +2,8 @@
 -- What falls is the number of bytes left. Assumes nothing.
 use mathlib.Core.Path.{◌≡◌}
 use Prim.Native.Nat.{◌+◌, ◌-◌, ◌≤◌}
-use native.Mathlib.Omega.{arith}
 use lib.ListN.{length, drop}
 use Rattle.names.specs.Names.{name_length}
-use Rattle.names.proofs.PaddingLaws.{name_length-drop-padding, name_length-drop-letter, name_length-drop-end}
 use Rattle.names.proofs.name_length.Given as goal
 
 abbrev pub invariant-loop-i : goal.invariant-loop-i

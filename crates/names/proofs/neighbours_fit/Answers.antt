@@ -1,13 +1,11 @@
 -- `names::neighbours_fit` meets its contract. The loop keeps: no other byte stands behind a $A0 up to here, so that the neighbours from here on decide.
 -- What falls is the number of neighbours left to ask. Assumes nothing.
-use mathlib.Core.Path.{◌≡◌, refl, sym, ◌∙◌}
-use mathlib.Core.Logic.{inl, inr}
-use Prim.Native.Nat.{ℕ, ◌+◌, ◌-◌, ◌≤◌, ◌<◌}
+use mathlib.Core.Path.{◌≡◌, sym, ◌∙◌}
+use Prim.Native.Nat.{ℕ, ◌+◌, ◌≤◌, ◌<◌}
 use native.Mathlib.Omega.{arith}
-use lib.ListN.{length, drop}
+use lib.ListN.{length}
 use Rattle.d64spec.specs.Lists.{Bytes, byte}
 use Rattle.d64spec.specs.Directory.{name_field}
-use Rattle.names.specs.Names.{padded_once}
 use Rattle.names.proofs.PaddingLaws.{padded_once-letter, padded_once-padding, padded_once-broken}
 use Rattle.names.proofs.NameLaws.{length-name_field, byte-name_field}
 use Rattle.names.proofs.neighbours_fit.Goals as goal

@@ -1,6 +1,5 @@
 -- `names::padded_name` meets its contract: the first 16 bytes of the name are copied over sixteen $A0.
-use native.Mathlib.Omega.{arith}
-use Rattle.names.proofs.NameLaws.{length_front, padded-copied}
+use Rattle.names.proofs.NameLaws.{padded-copied}
 use Rattle.names.proofs.padded_name.Goals as goal
 
 pub returns : goal.returns

@@ -1,6 +1,6 @@
 -- `names::padded_once` meets its contract: the neighbours that are not asked need not be, so that those asked decide. Assumes nothing.
 use native.Mathlib.Omega.{arith}
-use Rattle.names.proofs.NameLaws.{fits_last, fits-padding}
+use Rattle.names.proofs.NameLaws.{fits-padding}
 use Rattle.names.proofs.padded_once.Goals as goal
 
 pub neighbours_fit-requires : goal.neighbours_fit-requires

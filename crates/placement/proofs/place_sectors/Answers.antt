@@ -1,15 +1,10 @@
 -- `placement::place_sectors`. The loop keeps `Placing`: what the tracks not yet passed still put makes the whole. What falls is their number.
 -- Assumes nothing.
-use Prim.Native.Nat.{◌+◌, ◌-◌, ◌<◌, min}
 use native.Mathlib.Omega.{arith}
-use mathlib.Core.Path.{◌≡◌, refl}
-use mathlib.Core.Logic.{⊎_elim}
-use lib.ListN.{length}
-use Rattle.d64spec.specs.Geometry.{tracks}
-use Rattle.geometry.specs.Layout.{geometry_of}
+use mathlib.Core.Path.{refl}
 use Rattle.geometry.proofs.TableLaws.{known_of}
 use Rattle.bam.specs.Bam.{entry_of}
-use Rattle.placement.proofs.OrderLaws.{Placing, placing-start, placing-moved, placing-full, placing-finished}
+use Rattle.placement.proofs.OrderLaws.{placing-start, placing-moved, placing-full, placing-finished}
 use Rattle.placement.proofs.place_sectors.Goals as goal
 
 pub overflow_sub-end : goal.overflow_sub-end

@@ -1,16 +1,10 @@
 -- `placement::take_track`. The loop keeps `Taking`: the bitmap halved for each sector passed, and what the rest still puts makes the whole, as far as the
 -- count says, in any layout that has these counts. What falls is the number of sectors not yet passed. Assumes nothing.
-use Prim.Native.Nat.{◌+◌, ◌-◌, min}
 use native.Mathlib.Omega.{arith}
 use mathlib.Core.Path.{refl}
-use mathlib.Core.Path.{◌≡◌}
-use mathlib.Core.Logic.{⊎_elim}
-use Rattle.d64spec.specs.Geometry.{Geometry}
-use Rattle.d64spec.specs.Layouts.{Known}
-use Rattle.geometry.specs.Layout.{geometry_of, entry_by, IsCounts}
 use Rattle.geometry.proofs.TableLaws.{known_of}
-use Rattle.bam.proofs.ShapeLaws.{EntryShape, entry-shaped}
-use Rattle.placement.proofs.TrackLaws.{Taking, Coming, taking-start, taking-coming, taking-free, taking-used, taking-finished}
+use Rattle.bam.proofs.ShapeLaws.{entry-shaped}
+use Rattle.placement.proofs.TrackLaws.{taking-start, taking-coming, taking-free, taking-used, taking-finished}
 use Rattle.placement.proofs.take_track.Goals as goal
 
 pub loop-n-init : goal.loop-n-init

@@ -2,7 +2,6 @@
 use native.Mathlib.Omega.{arith}
 use mathlib.Core.Path.{◌≡◌, sym, ◌∙◌}
 use mathlib.Core.Bool.{true}
-use borrow.Author.Tests.{not-true, not-false}
 use Rattle.d64spec.specs.Reply.{valid_name_argument}
 use Rattle.answers.specs.declared.Fault.TheVariants.{WrongSize, BadNameArgument}
 use Rattle.answers.specs.Faults.{fault_of}

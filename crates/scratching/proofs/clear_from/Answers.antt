@@ -1,15 +1,14 @@
 -- `scratching::clear_from` meets its contract. The loop keeps that the sectors passed are zeroed and free in the map, and that the others of the chain are as
 -- they were, in every layout in which it may start, since it asks for none. A chain has at most 769 sectors: those of them that are left fall.
-use Prim.Native.Nat.{ℕ, ◌-◌, ◌<◌}
+use Prim.Native.Nat.{ℕ, ◌<◌}
 use native.Mathlib.Omega.{arith}
 use mathlib.Core.Path.{◌≡◌, refl, ap}
-use mathlib.Core.Bool.{true}
 use mathlib.Core.List.{List}
 use lib.ListN.{length}
 use Rattle.d64spec.specs.Answers.{Address}
 use Rattle.d64spec.specs.Geometry.{Geometry}
 use Rattle.d64spec.specs.Layouts.{Known}
-use Rattle.geometry.specs.Layout.{geometry_of, number_by}
+use Rattle.geometry.specs.Layout.{number_by}
 use Rattle.geometry.proofs.TableLaws.{known_of}
 use Rattle.bam.specs.MapEntry.{Entries}
 use Rattle.reading.proofs.ChainStepLaws.{sectors_from-le, sectors-first, Visited, visited}

@@ -1,19 +1,11 @@
 -- `scratching::clear_from` meets its contract. The loop keeps that the sectors passed are zeroed and free in the map, and that the others of the chain are as
 -- they were, in every layout in which it may start, since it asks for none. A chain has at most 769 sectors: those of them that are left fall.
-use Prim.Native.Nat.{◌-◌, ◌<◌}
-use native.Mathlib.Omega.{arith}
-use mathlib.Core.Path.{◌≡◌, refl, ap}
-use mathlib.Core.Bool.{true}
-use lib.ListN.{length}
+use Prim.Native.Nat.{◌-◌}
 use Rattle.d64spec.specs.Answers.{address}
 use Rattle.d64spec.specs.Geometry.{Geometry}
 use Rattle.d64spec.specs.Layouts.{Known}
-use Rattle.geometry.specs.Layout.{geometry_of}
-use Rattle.geometry.proofs.TableLaws.{known_of}
-use Rattle.bam.specs.Bam.{moved_mark}
-use Rattle.reading.proofs.ChainStepLaws.{sectors_from-le, sectors-first, Visited, visited}
 use Rattle.scratching.specs.Scratches.{ClearReady}
-use Rattle.scratching.proofs.ClearingLaws.{Clearing, clearing-start, marked-free, inside', next, alone, clearing-moved, clearing-finished}
+use Rattle.scratching.proofs.ClearingLaws.{Clearing}
 use Rattle.scratching.proofs.clear_from.Given as goal
 
 abbrev pub invariant-loop-track : goal.invariant-loop-track

@@ -1,6 +1,5 @@
 -- `scratching::scratch_checked` meets its contract: the DOS version decides whether the image may be written.
 use mathlib.Core.Path.{sym, ◌∙◌}
-use borrow.Author.Tests.{not-true, not-false}
 use Rattle.answers.specs.declared.Fault.TheVariants.{WriteForbidden}
 use Rattle.answers.specs.Faults.{fault_of}
 use Rattle.scratching.proofs.ReplyLaws.{scratch-refused}

@@ -1,15 +1,8 @@
 -- `scratching::scratch_slot` meets its contract: the chain that the slot's entry starts is cleared with the slot, and reported by its sectors and last byte.
-use Prim.Native.Nat.{ℕ, ◌<◌}
 use native.Mathlib.Omega.{arith}
 use borrow.Author.Rules.{rules}
-use lib.ListN.{length}
-use Rattle.d64spec.specs.Lists.{byte}
-use Rattle.geometry.specs.Layout.{geometry_of}
 use Rattle.geometry.proofs.TableLaws.{known_of}
-use Rattle.d64spec.specs.Image.{disk}
-use Rattle.d64spec.specs.Chain.{chain_data}
-use Rattle.scratching.specs.Scratches.{file_on}
-use Rattle.scratching.proofs.WrittenLaws.{entry-owned, LengthTold, told, scratch-replied}
+use Rattle.scratching.proofs.WrittenLaws.{entry-owned, told, scratch-replied}
 use Rattle.scratching.proofs.scratch_slot.Goals as goal
 
 pub clear_file-cleared-requires : goal.clear_file-cleared-requires

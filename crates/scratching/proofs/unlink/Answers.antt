@@ -1,6 +1,5 @@
 -- `scratching::unlink` meets its contract: the link is read before the zeros are written over the whole sector. Assumes nothing.
 use mathlib.Core.Path.{refl}
-use native.Mathlib.Omega.{arith}
 use Rattle.scratching.proofs.ClearingLaws.{unlinked}
 use Rattle.scratching.proofs.unlink.Goals as goal
 

@@ -2,11 +2,10 @@
 use Rattle.geometry.proofs.TableLaws.{known_of}
 use mathlib.Core.Path.{◌≡◌, sym, ◌∙◌}
 use mathlib.Core.Bool.{true}
-use borrow.Author.Tests.{not-true, not-false}
 use Rattle.geometry.specs.Layout.{geometry_of}
 use Rattle.d64spec.specs.Image.{disk}
 use Rattle.d64spec.specs.Reply.{writable}
-use Rattle.storing.proofs.DecisionLaws.{forbidden-reply, exists-reply, new-store}
+use Rattle.storing.proofs.DecisionLaws.{forbidden-reply, exists-reply}
 use Rattle.storing.proofs.store_checked.Goals as goal
 
 pub returns-then-not-may_write : goal.returns-then-not-may_write

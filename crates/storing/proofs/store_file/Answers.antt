@@ -4,7 +4,6 @@ use native.Mathlib.Omega.{arith}
 use borrow.Author.Rules.{rules}
 use mathlib.Core.Path.{◌≡◌, sym, ◌∙◌}
 use mathlib.Core.Bool.{true}
-use borrow.Author.Tests.{not-true, not-false}
 use Rattle.d64spec.specs.Reply.{valid_name_argument, storable_kind}
 use Rattle.d64spec.proofs.EntryLaws.{kind-small}
 use Rattle.answers.specs.declared.Fault.TheVariants.{WrongSize, BadNameArgument, BadKindArgument}

@@ -1,7 +1,5 @@
 -- `storing::store_new` meets its contract. In order: the map; room for the entry; the rest.
 use Rattle.geometry.proofs.TableLaws.{known_of}
-use native.Mathlib.Omega.{arith}
-use Rattle.storing.proofs.RoomLaws.{count-some}
 use Rattle.storing.proofs.DecisionLaws.{full-reply, placed-store}
 use Rattle.storing.proofs.store_new.Goals as goal
 

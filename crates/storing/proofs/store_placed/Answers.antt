@@ -1,7 +1,6 @@
 -- `storing::store_placed` meets its contract. In order: content that no disk holds; the sectors needed; the free ones; what is written.
 use Rattle.geometry.proofs.TableLaws.{known_of}
 use native.Mathlib.Omega.{arith}
-use lib.ListN.{length-take}
 use Rattle.storing.proofs.DecisionLaws.{long-reply, few-reply, write-ready, done-reply}
 use Rattle.storing.proofs.store_placed.Goals as goal
 

@@ -7,20 +7,18 @@ use mathlib.Core.Path.{◌≡◌, refl, sym, ap, ◌∙◌}
 use mathlib.Core.List.{List}
 use lib.ListN.{length, set, take, drop, get_or}
 use Rattle.d64spec.specs.Answers.{Result}
-use Rattle.d64spec.specs.Geometry.{Geometry}
 use Rattle.d64spec.proofs.BitLaws.{shifted}
 use Rattle.geometry.specs.declared.Address.{Address}
 use Rattle.geometry.specs.declared.Layout.{Layout}
 use Rattle.geometry.specs.declared.Track.{Track}
 use Rattle.geometry.specs.Layout.{geometry_of, track_by, IsCounts, IsFirsts}
 use Rattle.geometry.proofs.TableLaws.{known_of}
-use Rattle.geometry.proofs.LentTableLaws.{tracks-of-on_disk, IsTrack, track-known}
+use Rattle.geometry.proofs.LentTableLaws.{tracks-of-on_disk, track-known}
 use Rattle.sectors.proofs.SectorLaws.{sector-lent}
-use Rattle.owners.specs.Masks.{Masks}
 use Rattle.owners.proofs.TableLaws.{free_count}
 use Rattle.owners.proofs.MaskLaws.{Gathering, gathering-start}
-use Rattle.diskcheck.specs.Chains.{Claimed, Ready}
-use Rattle.diskcheck.proofs.ChainLaws.{Claims, chain_claim, Named, named, Moved, claims-start, claims-off, claims-owned, claims-moved, claims-at}
+use Rattle.diskcheck.specs.Chains.{Claimed}
+use Rattle.diskcheck.proofs.ChainLaws.{chain_claim, Named, named, Moved, claims-start, claims-off, claims-owned, claims-moved, claims-at}
 use Rattle.diskcheck.proofs.ChainLaws.{mask-room, track-left, bit-gathered}
 use Rattle.diskcheck.proofs.chain.claim_chain.Invariants.{Begun, Kept}
 use Rattle.diskcheck.proofs.chain.claim_chain.Goals as goal
@@ -103,7 +101,7 @@ returns-then-own-n-ne0 c =
     let a = c.args in
     let i = c.loop-on.invariant a.layout c.requires in (
       claims-owned _ i.0 (here a.layout _ _ _ _ _ _ _ _ _ _ _ _ _ _ _ c.requires i c.if-on-sector.false) c.place_of.ensures c.if-own-n-ne0.true
-      ∙ first-link a.layout _ _ _ _ _ _ _ _ _ c.requires.1 c.requires.2 c.track_by-on.ensures,
+          ∙ first-link a.layout _ _ _ _ _ _ _ _ _ c.requires.1 c.requires.2 c.track_by-on.ensures,
       track-left _ (known_of a.layout) i.2 c.add_mask-then-own-n-ne0.ensures,
     )
 
@@ -143,7 +141,7 @@ loop-on-preserved-then-track-on c layout b =
       claims-at _ (moved layout _ _ _ _ _ _ _ _ _ _ _ _ _ _ _ b i c.if-on-sector.false c.if-own-n-ne0.false).next k.0,
       k.1,
       gathering-start _ _ (track-left _ (known_of layout) (gathered layout _ _ _ _ _ _ _ _ _ _ _ _ _ _ _ b i c.if-on-sector.false c.if-own-n-ne0.false refl)
-      c.add_mask-then-track-on.ensures) refl,
+          c.add_mask-then-track-on.ensures) refl,
     )
 
 pub loop-on-smaller : goal.loop-on-smaller

@@ -1,27 +1,20 @@
 -- `diskcheck::chain::claim_chain` meets its contract. The loop keeps `Claims`: the rest of the definition's walk, from the link to `sector` on the
 -- track `on` that `holder` holds, gives the outcome; and `Gathering`: with the bits in `mask` the masks are the table's. What falls is the number of
 -- sectors that have no owner. The code does not look at the layout: what the loop keeps holds in whatever layout it began.
-use Prim.Native.Nat.{ℕ, ◌+◌, ◌*◌, ◌-◌, ◌%◌, ◌^◌, ◌≤◌, ◌<◌}
-use native.Mathlib.Omega.{arith}
-use mathlib.Core.Path.{◌≡◌, refl, ap, ◌∙◌}
+use Prim.Native.Nat.{ℕ}
 use mathlib.Core.List.{List}
-use lib.ListN.{length, set, take, drop}
 use Rattle.d64spec.specs.Answers.{Result}
 use Rattle.d64spec.specs.Geometry.{Geometry}
-use Rattle.d64spec.proofs.BitLaws.{shifted}
 use Rattle.geometry.specs.declared.Address.{Address}
 use Rattle.geometry.specs.declared.Layout.{Layout}
 use Rattle.geometry.specs.declared.Track.{Track}
 use Rattle.geometry.specs.Layout.{geometry_of, IsCounts, IsFirsts}
-use Rattle.geometry.proofs.TableLaws.{known_of}
-use Rattle.geometry.proofs.LentTableLaws.{tracks-of-on_disk, IsTrack, track-known}
-use Rattle.sectors.proofs.SectorLaws.{sector-lent}
+use Rattle.geometry.proofs.LentTableLaws.{IsTrack}
 use Rattle.owners.specs.Masks.{Masks}
 use Rattle.owners.proofs.TableLaws.{free_count}
-use Rattle.owners.proofs.MaskLaws.{Gathering, gathering-start}
+use Rattle.owners.proofs.MaskLaws.{Gathering}
 use Rattle.diskcheck.specs.Chains.{Claimed, Ready}
-use Rattle.diskcheck.proofs.ChainLaws.{Claims, chain_claim, Named, named, Moved, claims-start, claims-off, claims-owned, claims-moved, claims-at}
-use Rattle.diskcheck.proofs.ChainLaws.{mask-room, track-left, bit-gathered}
+use Rattle.diskcheck.proofs.ChainLaws.{Claims, chain_claim}
 use Rattle.diskcheck.proofs.chain.claim_chain.Given as goal
 
 -- what a claim begins with in a layout

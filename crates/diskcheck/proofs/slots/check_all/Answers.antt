@@ -1,11 +1,7 @@
 -- `diskcheck::slots::check_all` meets its contract. The loop keeps `Checking`: the slots from k on, with the tables as they are, give what all slots gave at
 -- the start; and the masks go with the table. What falls is the number of slots that are left.
-use Prim.Native.Nat.{◌*◌, ◌-◌}
 use native.Mathlib.Omega.{arith}
-use Rattle.geometry.specs.Layout.{geometry_of}
-use Rattle.owners.specs.Masks.{Masks}
-use Rattle.diskcheck.specs.SlotChecks.{tables}
-use Rattle.diskcheck.proofs.SlotsLaws.{Checking, checking-start, checking-slot, checking-next, checking-refused, checking-end}
+use Rattle.diskcheck.proofs.SlotsLaws.{checking-slot, checking-next, checking-refused, checking-end}
 use Rattle.diskcheck.proofs.slots.check_all.Goals as goal
 
 pub check_slot-verdict-requires : goal.check_slot-verdict-requires

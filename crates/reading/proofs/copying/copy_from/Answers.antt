@@ -12,13 +12,12 @@ use Rattle.d64spec.specs.Answers.{Address}
 use Rattle.d64spec.specs.Layouts.{Known}
 use Rattle.d64spec.specs.Geometry.{Geometry, sector_number}
 use Rattle.d64spec.specs.Image.{disk}
-use Rattle.sectors.specs.Sectors.{Inside}
-use Rattle.geometry.specs.Layout.{geometry_of, address_of, number_by}
+use Rattle.geometry.specs.Layout.{geometry_of, number_by}
 use Rattle.geometry.proofs.TableLaws.{known_of}
 use Rattle.reading.specs.ChainReads.{CopyReady}
 use Rattle.reading.proofs.ChainStepLaws.{sectors_from-le, Visited, visited, visited-lent, sectors-first, last-used}
-use Rattle.reading.proofs.CopyLaws.{Copying, copying-start, length-output, room-more, copying-moved, end-last}
-use Rattle.reading.proofs.CopyLaws.{copying-finished, length-copied}
+use Rattle.reading.proofs.CopyLaws.{Copying, length-output, room-more, copying-moved, end-last}
+use Rattle.reading.proofs.CopyLaws.{copying-finished}
 use Rattle.reading.proofs.copying.copy_from.Goals as goal
 
 -- one turn of the loop, in a layout in which it may start

@@ -1,20 +1,11 @@
 -- `reading::copying::copy_from` meets its contract. The loop keeps that the output is the data of the sectors passed, put at the start of the
 -- output as it was, and that the rest of the data is that of the chain from `at` on. It does so in every layout in which it may start, since it asks
 -- for none. A chain has at most 769 sectors: those of them that are left fall.
-use Prim.Native.Nat.{◌≤◌, ◌<◌, ◌+◌, ◌-◌, ◌*◌}
-use native.Mathlib.Omega.{arith}
-use mathlib.Core.Path.{◌≡◌, ap}
-use lib.ListN.{length, take, drop}
-use Rattle.d64spec.specs.Lists.{byte}
-use Rattle.d64spec.specs.Geometry.{Geometry, sector_number}
-use Rattle.d64spec.specs.Image.{disk}
-use Rattle.sectors.specs.Sectors.{Inside}
-use Rattle.geometry.specs.Layout.{geometry_of, address_of}
-use Rattle.geometry.proofs.TableLaws.{known_of}
+use Prim.Native.Nat.{◌-◌, ◌*◌}
+use Rattle.d64spec.specs.Geometry.{Geometry}
+use Rattle.geometry.specs.Layout.{address_of}
 use Rattle.reading.specs.ChainReads.{CopyReady}
-use Rattle.reading.proofs.ChainStepLaws.{sectors_from-le, Visited, visited, visited-lent, sectors-first, last-used}
-use Rattle.reading.proofs.CopyLaws.{Copying, copying-start, length-output, room-more, copying-moved, end-last}
-use Rattle.reading.proofs.CopyLaws.{copying-finished, length-copied}
+use Rattle.reading.proofs.CopyLaws.{Copying}
 use Rattle.reading.proofs.copying.copy_from.Given as goal
 
 abbrev pub invariant-loop-out : goal.invariant-loop-out

@@ -1,10 +1,8 @@
 -- `storing::writing::fill_last` meets its contract: the sector is cleared, its second byte is set, and what comes back of the loan behind it is the
 -- content and the zeros that are left. Assumes nothing.
 use Prim.Native.Nat.{◌+◌}
-use native.Mathlib.Omega.{arith}
 use mathlib.Core.Path.{refl, ◌∙◌}
-use lib.ListN.{length, set, length-set, length-take, length-drop}
-use Rattle.d64spec.specs.Lists.{Bytes}
+use lib.ListN.{length, set}
 use Rattle.parts.proofs.OverwriteLaws.{copied-back}
 use Rattle.storing.proofs.SectorWriteLaws.{last-filled}
 use Rattle.storing.proofs.writing.fill_last.Goals as goal

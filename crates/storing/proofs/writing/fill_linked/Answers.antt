@@ -1,8 +1,8 @@
 -- `storing::writing::fill_linked` meets its contract: two bytes are set, and what comes back of the loan behind them is the content. Assumes nothing.
 use Prim.Native.Nat.{◌/◌, ◌%◌}
 use native.Mathlib.Omega.{arith}
-use mathlib.Core.Path.{◌≡◌, ap, ◌∙◌}
-use lib.ListN.{length, set, length-set, length-take, length-drop}
+use mathlib.Core.Path.{◌≡◌, ◌∙◌}
+use lib.ListN.{length, set, length-set}
 use Rattle.d64spec.specs.Lists.{Bytes}
 use Rattle.storing.proofs.SectorWriteLaws.{rest-copied, linked-filled}
 use Rattle.storing.proofs.writing.fill_linked.Goals as goal

@@ -1,5 +1,4 @@
 -- `storing::writing::new_entry` meets its contract: the name is copied over its 16 bytes, and the bytes set before and behind it stay. Assumes nothing.
-use native.Mathlib.Omega.{arith}
 use Rattle.storing.proofs.EntryWriteLaws.{entry-made}
 use Rattle.storing.proofs.writing.new_entry.Goals as goal
 

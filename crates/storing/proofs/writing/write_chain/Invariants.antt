@@ -1,10 +1,6 @@
 -- `storing::writing::write_chain` meets its contract: the loop's invariant says what is written from place i on, whatever image the last sector was written on (proofs/ChainWriteLaws). Assumes nothing.
 use Rattle.geometry.specs.Layout.{geometry_of}
-use lib.ListN.{length-take, length-drop}
-use Prim.Native.Nat.{◌-◌}
-use native.Mathlib.Omega.{arith}
-use mathlib.Core.Path.{refl, ◌∙◌}
-use Rattle.storing.proofs.ChainWriteLaws.{Advancing, place-ready, length-last_bytes, writing-last, chain-written, advancing-start, advancing-more}
+use Rattle.storing.proofs.ChainWriteLaws.{Advancing}
 use Rattle.storing.proofs.writing.write_chain.Given as goal
 
 abbrev pub invariant-loop-i : goal.invariant-loop-i

@@ -2,7 +2,7 @@
 use native.Mathlib.Omega.{arith}
 use Rattle.geometry.proofs.TableLaws.{known_of}
 use Rattle.storing.proofs.EntryWriteLaws.{entry-laid}
-use mathlib.Core.Logic.{inl, inr, ⊎_elim}
+use mathlib.Core.Logic.{inl, inr}
 use Rattle.storing.proofs.writing.write_entry.Goals as goal
 
 pub returns : goal.returns

@@ -2,7 +2,7 @@
 use Rattle.geometry.proofs.TableLaws.{known_of}
 use native.Mathlib.Omega.{arith}
 use mathlib.Core.Path.{refl, ap, ◌∙◌}
-use mathlib.Core.Logic.{inl, inr, ⊎_elim}
+use mathlib.Core.Logic.{inl, inr}
 use lib.ListN.{length}
 use Rattle.d64spec.proofs.EntryLaws.{kind-small, entry_length}
 use Rattle.d64spec.proofs.FormatLaws.{name-short}

@@ -1,6 +1,4 @@
 -- `storing::writing::write_last` meets its contract: what comes back of the loan of the sector is the sector written, and its mark is moved. Assumes nothing.
-use Rattle.geometry.proofs.TableLaws.{known_of}
-use native.Mathlib.Omega.{arith}
 use mathlib.Core.Path.{refl}
 use Rattle.storing.proofs.SectorWriteLaws.{sector-written, length-last_sector}
 use Rattle.storing.proofs.writing.write_last.Goals as goal

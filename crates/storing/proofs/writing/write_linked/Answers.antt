@@ -1,5 +1,4 @@
 -- `storing::writing::write_linked` meets its contract: what comes back of the loan of the sector is the sector written, and its mark is moved. Assumes nothing.
-use Rattle.geometry.proofs.TableLaws.{known_of}
 use native.Mathlib.Omega.{arith}
 use mathlib.Core.Path.{refl}
 use Rattle.storing.proofs.SectorWriteLaws.{sector-written}
