@@ -2,11 +2,11 @@
 -- In order: what comes back of a loan; bytes overwritten where they fit, and where not; what is then on the disk.
 use Prim.Native.Nat.{ℕ, ◌+◌, ◌-◌, ◌*◌, ◌≤◌, ◌<◌}
 use native.Mathlib.Omega.{arith}
-use mathlib.Core.Path.{◌≡◌, refl, sym, ap, ◌∙◌}
+use mathlib.Core.Path.{◌≡◌, refl, sym, ap, ap₂, ◌∙◌}
 use mathlib.Core.Bool.{Bool, true, false, cond}
-use mathlib.Core.List.{◌++◌}
-use lib.ListN.{length, take, drop}
-use lib.Seq.{drop-drop}
+use mathlib.Core.List.{[], ◌++◌, append-nil}
+use lib.ListN.{length, take, drop, length-take, drop_of_length-le}
+use lib.Seq.{take-length, drop-drop}
 use lib.Dec.{leb}
 use borrow.Author.Tests.{leb-true, le-leb, lt-leb}
 use Rattle.d64spec.specs.Lists.{Bytes, splice}
@@ -26,8 +26,14 @@ module _ (s : Bytes) (a n : ℕ) (c : Bytes) where
   abbrev width : ℕ
   width = a + n - a
 
-  pub copied-back : {p : Bytes} → length c ≡ n → p ≡ c → take a s ++ (p ++ drop width (drop a s)) ≡ splice s a c
-  copied-back {p = p} e all = rw all (lent_back s a width c (omega arith))
+  pub copied_whole-back : {p : Bytes} → length c ≡ n → p ≡ c → take a s ++ (p ++ drop width (drop a s)) ≡ splice s a c
+  copied_whole-back {p = p} e all = rw all (lent_back s a width c (omega arith))
+
+  -- the same where the loan was as it was behind the copy
+  pub copied-back : {p : Bytes} → length c ≡ n → p ≡ take (length c) c ++ drop (length c) (take width (drop a s)) → take a s ++ (p ++ drop width (drop a s)) ≡ splice s a c
+  copied-back {p = p} e is =
+      let none : drop (length c) (take width (drop a s)) ≡ [] = drop_of_length-le (take width (drop a s)) {i = length c} (omega (arith, length-take width (drop a s))) in
+      copied_whole-back e (is ∙ ap₂ (λ (x y : Bytes). x ++ y) (take-length c) none ∙ append-nil c)
 
 -- ---- overwritten bytes
 

@@ -12,7 +12,7 @@ use Rattle.d64spec.specs.Answers.{Address}
 use Rattle.d64spec.specs.Geometry.{Geometry, sector_number}
 use Rattle.d64spec.specs.Image.{disk}
 use Rattle.d64spec.proofs.SpliceLaws.{length-splice}
-use Rattle.parts.proofs.OverwriteLaws.{copied-back}
+use Rattle.parts.proofs.OverwriteLaws.{copied_whole-back}
 use Rattle.reading.specs.ChainReads.{link_of, sectors_from, data_from, ChainFrom, CopyFits, DataFits, ChainCopied}
 use Rattle.reading.proofs.ChainStepLaws.{Follows, sectors-first, sector-full, last-alone, follows}
 
@@ -47,7 +47,7 @@ module _ (s out : Bytes) (size at : ℕ) (fits : DataFits s out size at) where
       let inside = fits.inside in
       let all : 2 + size - 2 ≡ size = omega arith in
       let long : length lent ≡ size = simp (length-take, length-drop) (omega arith) in
-      copied-back out at size lent long e ∙ ap (λ (n : ℕ). splice out at (data_of s n)) all
+      copied_whole-back out at size lent long e ∙ ap (λ (n : ℕ). splice out at (data_of s n)) all
 
 -- ---- the copy
 

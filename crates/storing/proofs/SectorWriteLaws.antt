@@ -6,7 +6,8 @@ use native.Mathlib.Numerals.{add-one}
 use mathlib.Core.Path.{◌≡◌, ap, ap₂, ◌∙◌}
 use mathlib.Core.Bool.{Bool, true, false}
 use mathlib.Core.List.{List, [], ◌∷◌, ◌++◌, append-nil}
-use lib.ListN.{length, take, drop, set, length-append, length-replicate, drop_of_length-le}
+use lib.ListN.{length, take, drop, set, length-append, length-drop, length-replicate, drop_of_length-le}
+use lib.Seq.{take_all, take-length, drop-drop}
 use Rattle.d64spec.specs.Lists.{Bytes, splice, zeros}
 use Rattle.d64spec.specs.Geometry.{Geometry, total, on_disk, sector_number}
 use Rattle.d64spec.specs.Image.{disk}
@@ -20,10 +21,18 @@ use Rattle.parts.proofs.OverwriteLaws.{lent_back}
 use Rattle.parts.proofs.PartLaws.{drop-replicate}
 use Rattle.storing.specs.Writes.{last_sector, StartsAt, SectorReady, SectorWritten}
 
--- what comes back of a loan of the bytes of t from a on when c is copied over all of them
-module _ (t c : Bytes) (a : ℕ) (fits : a + length c ≡ length t) where
-  pub rest-copied : {p : Bytes} → p ≡ c → take a t ++ (p ++ drop (length t - a) (drop a t)) ≡ splice t a c
-  rest-copied {p = p} e = rw e (lent_back t a (length t - a) c (omega arith))
+-- what comes back of a loan of the bytes of t from a on when c is copied over the first of them, and when it is copied over all of them
+module _ (t c : Bytes) (a : ℕ) where
+  pub rest-copied : a + length c ≤ length t → {p : Bytes} → p ≡ take (length c) c ++ drop (length c) (take (length t - a) (drop a t)) → take a t ++ (p ++ drop (length t - a) (drop a t)) ≡ splice t a c
+  rest-copied fits {p} e =
+      let all : take (length t - a) (drop a t) ≡ drop a t = take_all (length t - a) (drop a t) (omega (arith, length-drop a t)) in
+      let none : drop (length t - a) (drop a t) ≡ [] = drop_of_length-le (drop a t) {i = length t - a} (omega (arith, length-drop a t)) in
+      let is : p ≡ c ++ drop (a + length c) t
+      = e ∙ ap₂ (λ (x y : Bytes). x ++ y) (take-length c) (ap (drop (length c)) all ∙ drop-drop (length c) a t) in
+      ap₂ (λ (x y : Bytes). take a t ++ (x ++ y)) is none ∙ ap (λ (x : Bytes). take a t ++ x) (append-nil (c ++ drop (a + length c) t))
+
+  pub rest_filled : a + length c ≡ length t → {p : Bytes} → p ≡ c → take a t ++ (p ++ drop (length t - a) (drop a t)) ≡ splice t a c
+  rest_filled fits {p} e = rw e (lent_back t a (length t - a) c (omega arith))
 
 -- ---- the two kinds of sector
 

@@ -2,7 +2,7 @@
 use native.Mathlib.Omega.{arith}
 use mathlib.Core.Path.{refl, sym, ◌∙◌}
 use lib.ListN.{length}
-use Rattle.parts.proofs.OverwriteLaws.{copied-back, overwritten-inside, overwritten-past}
+use Rattle.parts.proofs.OverwriteLaws.{copied_whole-back, overwritten-inside, overwritten-past}
 use Rattle.parts.proofs.overwrite.Goals as goal
 
 pub returns-then-target-size : goal.returns-then-target-size
@@ -14,5 +14,5 @@ returns-then-target-size-2 c = let a = c.args in sym (overwritten-past a.target.
 pub returns : goal.returns
 returns c =
     let a = c.args in
-    copied-back a.target.now a.at (length a.content.now) a.content.now refl c.copy_from_slice.ensures.after
+    copied_whole-back a.target.now a.at (length a.content.now) a.content.now refl c.copy_from_slice.ensures.after
     ∙ sym (overwritten-inside a.target.now a.at a.content.now (omega arith))

@@ -2,14 +2,14 @@
 use Prim.Native.Nat.{◌*◌}
 use native.Mathlib.Omega.{arith}
 use mathlib.Core.Path.{sym, ◌∙◌}
-use Rattle.parts.proofs.OverwriteLaws.{copied-back}
+use Rattle.parts.proofs.OverwriteLaws.{copied_whole-back}
 use Rattle.sectors.proofs.SectorLaws.{with_sector-whole, with_sector-size, with_sector-cut}
 use Rattle.sectors.proofs.write_sector.Goals as goal
 
 pub returns-then-content-eq256 : goal.returns-then-content-eq256
 returns-then-content-eq256 c =
     let a = c.args in
-    copied-back a.img.now (256 * a.n) 256 a.content.now (omega arith) c.copy_from_slice.ensures.after
+    copied_whole-back a.img.now (256 * a.n) 256 a.content.now (omega arith) c.copy_from_slice.ensures.after
     ∙ sym (with_sector-whole a.img.now a.n a.content.now (omega arith) (omega arith))
 
 pub returns-else-content-eq256 : goal.returns-else-content-eq256

@@ -3,7 +3,7 @@
 use Prim.Native.Nat.{◌+◌}
 use mathlib.Core.Path.{refl, ◌∙◌}
 use lib.ListN.{length, set}
-use Rattle.parts.proofs.OverwriteLaws.{copied-back}
+use Rattle.parts.proofs.OverwriteLaws.{copied_whole-back}
 use Rattle.storing.proofs.SectorWriteLaws.{last-filled}
 use Rattle.storing.proofs.writing.fill_last.Goals as goal
 
@@ -11,5 +11,5 @@ pub returns : goal.returns
 returns c =
     let a = c.args in
     let blank = c.copy_from_slice.new.self in
-    copied-back (set blank 1 (length a.content.now + 1)) 2 (length a.content.now) a.content.now refl c.copy_from_slice-2.ensures.after
+    copied_whole-back (set blank 1 (length a.content.now + 1)) 2 (length a.content.now) a.content.now refl c.copy_from_slice-2.ensures.after
     ∙ last-filled blank a.content.now c.copy_from_slice.ensures.after c.requires.1

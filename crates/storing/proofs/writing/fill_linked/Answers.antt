@@ -4,7 +4,7 @@ use native.Mathlib.Omega.{arith}
 use mathlib.Core.Path.{◌≡◌, ◌∙◌}
 use lib.ListN.{length, set, length-set}
 use Rattle.d64spec.specs.Lists.{Bytes}
-use Rattle.storing.proofs.SectorWriteLaws.{rest-copied, linked-filled}
+use Rattle.storing.proofs.SectorWriteLaws.{rest_filled, linked-filled}
 use Rattle.storing.proofs.writing.fill_linked.Goals as goal
 
 pub returns : goal.returns
@@ -13,5 +13,5 @@ returns c =
     let a = b.args in
     let t : Bytes = set (set a.sector.now 0 (a.next / 256)) 1 (a.next % 256) in
     let long : length t ≡ 256 = simp length-set b.requires.0 in
-    rest-copied t a.content.now 2 (omega arith) c.copy_from_slice.ensures.after
+    rest_filled t a.content.now 2 (omega arith) c.copy_from_slice.ensures.after
     ∙ linked-filled a.sector.now a.content.now (a.next / 256) (a.next % 256) b.requires.0 b.requires.1
