@@ -7,7 +7,7 @@
 #   make install PREFIX=..  header, archive, pkg-config file, man page, tool
 #   make bench, make peers, make fuzz FUZZ_SECONDS=..
 
-VERSION = 2.0.0
+VERSION = 2.0.1
 PREFIX ?= /usr/local
 BUILD ?= build
 ARCHIVE ?= $(BUILD)/libd64.a
@@ -27,7 +27,7 @@ all: $(BUILD)/d64 $(BUILD)/d64.pc
 $(BUILD)/libd64.a: $(RATTLE)
 	@command -v rt >/dev/null || { echo 'rt, the command of the Rattle kit, is not on the PATH'; exit 1; }
 	@mkdir -p $(BUILD)
-	@echo 'proving the library: some ten minutes or more if nothing of it is proved yet'
+	@echo 'proving the library: some minutes, many if nothing of it is proved yet'
 	@{ (cd crates/d64_c && rt lib) 2>&1; echo $$? >$(BUILD)/proof.status; } | tee $(BUILD)/proof.log | grep --line-buffered '^rt: ' || true
 	@status=$$(cat $(BUILD)/proof.status); [ "$$status" -eq 0 ] || { tail -n 20 $(BUILD)/proof.log; exit "$$status"; }
 	@echo "functions proved just now: $$(grep -c '^fn .*: proved' $(BUILD)/proof.log)"
