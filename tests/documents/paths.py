@@ -27,7 +27,7 @@ def quoted(text):
         word = quote.split()[0]
         looks = "/" in word or ENDING.search(word)
         # 18/0 and the like are sectors, and a word that begins with a slash is no relative path
-        if looks and PATH.fullmatch(word) and not re.match(r"\d+/", word) and not re.match(r"build/|(?:crates/\w+/)?out/", word):
+        if looks and PATH.fullmatch(word) and not re.match(r"\d+/", word) and not re.match(r"build/|(?:crates/[\w*]+/)?out/", word):
             yield word
 
 
