@@ -1,4 +1,4 @@
-# For tools/check-over and tools/check-times, which source it at the top of the repository: what `rattle check` is called with.
+# For tools/check-over, tools/check-times and .ci/tests, which source it at the top of the repository: what the kit's `rattle` is called with.
 # shellcheck shell=sh disable=SC2034,SC2046,SC2086
 kit=$(dirname "$(dirname "$(realpath "$(command -v rt)")")")
 [ -x "$kit/bin/rattle" ] || kit=$(dirname "$(rt doc)")
@@ -22,14 +22,13 @@ below() { # CRATE
     echo $reached
 }
 
-# Checks a crate over the libraries given by the words, keeping its work in a folder.
-checked() { # CRATE FOLDER WORDS..
-    crate=$1 kept=$2
+# Has the kit check or build a crate over the libraries given by the words.
+kit_does() { # check|build CRATE WORDS..
+    verb=$1 crate=$2 root=src/lib.rt
     shift 2
-    root=src/lib.rt
     [ -f "crates/$crate/$root" ] || root=src/main.rt
     set -- "$@" --extern "std=$kit/rlibs/std.rlib" -L "dependency=$kit/rlibs" --links "$crate=" --antt-project "$kit/rattle/logic/antt-project.json" \
-        --logic-built "$kit/logic_built" --incremental "$kept"
+        --logic-built "$kit/logic_built"
     ! grep -q "^$crate staticlib" crates.txt || set -- "$@" --crate-type staticlib
-    (cd "crates/$crate" && exec "$kit/bin/rattle" check --crate-name "$crate" "$root" "$@")
+    (cd "crates/$crate" && exec "$kit/bin/rattle" "$verb" --crate-name "$crate" "$root" "$@")
 }
