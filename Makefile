@@ -1,16 +1,16 @@
 # Cherrymarl: the proved archive, and the command line d64 over it. Needs the Rattle kit (rt) and a C compiler;
 # the tests and the benchmark need cargo too.
 #
-#   make                    prove and build everything: target/staticlib/libd64.a, build/d64
+#   make                    prove and build everything: build/libd64.a, build/d64
 #   make demo               master a disk, step by step
 #   make test               the gate
 #   make install PREFIX=..  header, archive, pkg-config file, man page, tool
 #   make bench, make peers, make fuzz FUZZ_SECONDS=..
 
-VERSION = 2.0.0
+VERSION = 2.0.1
 PREFIX ?= /usr/local
 BUILD ?= build
-ARCHIVE ?= target/staticlib/libd64.a
+ARCHIVE ?= $(BUILD)/libd64.a
 FUZZ_SECONDS ?= 1800
 CFLAGS ?= -O2 -g
 
@@ -18,19 +18,20 @@ TOOL_CFLAGS = -std=c11 -Wall -Wextra -Wconversion -Wshadow -Wformat=2 -Iinclude 
 TOOL_SOURCES = $(wildcard tool/*.c)
 TOOL_HEADERS = $(wildcard tool/*.h) include/d64.h
 SANITIZERS = -O1 -g -fsanitize=address,undefined -fno-sanitize-recover=all
-RATTLE = crates.txt $(shell find crates -name '*.rt' -o -name '*.antt')
+RATTLE = crates.txt $(shell find crates -name out -prune -o '(' -name '*.rt' -o -name '*.antt' ')' -print)
 
 all: $(BUILD)/d64 $(BUILD)/d64.pc
 
-# rt proves every function that the archive holds before it makes it; its lines on each crate are shown as they come.
-target/staticlib/libd64.a: $(RATTLE)
+# rt proves every function that the archive holds before it makes it; its lines on each crate are shown as they come. The archive of crate d64_c is
+# libd64.a for C.
+$(BUILD)/libd64.a: $(RATTLE)
 	@command -v rt >/dev/null || { echo 'rt, the command of the Rattle kit, is not on the PATH'; exit 1; }
 	@mkdir -p $(BUILD)
-	@echo 'proving the library: about four minutes if nothing of it is proved yet'
-	@{ rt staticlib d64 2>&1; echo $$? >$(BUILD)/proof.status; } | tee $(BUILD)/proof.log | grep --line-buffered '^rt: ' || true
+	@echo 'proving the library: some minutes, many if nothing of it is proved yet'
+	@{ (cd crates/d64_c && rt lib) 2>&1; echo $$? >$(BUILD)/proof.status; } | tee $(BUILD)/proof.log | grep --line-buffered '^rt: ' || true
 	@status=$$(cat $(BUILD)/proof.status); [ "$$status" -eq 0 ] || { tail -n 20 $(BUILD)/proof.log; exit "$$status"; }
 	@echo "functions proved just now: $$(grep -c '^fn .*: proved' $(BUILD)/proof.log)"
-	@touch $@
+	@cp crates/d64_c/out/libd64_c.a $@
 
 $(BUILD)/d64: $(TOOL_SOURCES) $(TOOL_HEADERS) $(ARCHIVE) Makefile
 	@mkdir -p $(BUILD)

@@ -11,8 +11,9 @@ class Tree:
         for line in crates_txt.splitlines():
             line = line.split("#")[0].strip()
             if line:
+                # NAME or, of a static library, NAME staticlib
                 name, _, others = line.partition(":")
-                self.relies[name.strip()] = others.split()
+                self.relies[name.split()[0]] = others.split()
         self.crates = set(self.relies)
         self.uses = {name: {other for other in self.crates - {name} if re.search(rf"\b{other}::", code.get(name, ""))} for name in self.crates}
         self.has_code = {name for name in self.crates if re.search(r"\bfn ", code.get(name, ""))}

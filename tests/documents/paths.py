@@ -2,7 +2,7 @@
 
 In backticks, the first word is a path if it has a slash inside or at its end, or a file's usual ending. It is looked for from the root, from the document's own folder and
 in every crate (`specs/Order`, `src/lib.rt`), with .antt behind it where that is left out. A word in capitals stands for any name. What a build makes,
-below target/ or build/, is not looked for."""
+below build/ or a crate's out/, is not looked for."""
 import glob
 import os
 import re
@@ -27,7 +27,7 @@ def quoted(text):
         word = quote.split()[0]
         looks = "/" in word or ENDING.search(word)
         # 18/0 and the like are sectors, and a word that begins with a slash is no relative path
-        if looks and PATH.fullmatch(word) and not re.match(r"\d+/", word) and not word.startswith(("target/", "build/")):
+        if looks and PATH.fullmatch(word) and not re.match(r"\d+/", word) and not re.match(r"build/|(?:crates/[\w*]+/)?out/", word):
             yield word
 
 

@@ -4,7 +4,7 @@ import excerpts
 import paths
 import program
 
-CRATES = "spec:\nleaf: spec\nother: spec\ntop: spec leaf other\n"
+CRATES = "spec:\nleaf: spec\nother: spec\ntop staticlib: spec leaf other\n"
 CODE = {"leaf": "pub fn a() {}", "other": "pub fn b() {}", "top": "fn c() { leaf::a(); }"}
 MAP = """```text
   [top]
@@ -43,7 +43,7 @@ WRONG_EXCERPTS = {
     "no excerpt at all": ("```\none", "```sh\none"),
 }
 
-PATHS = ("`include/d64.h`, `crates/CRATE/src`, `crates/*/must-fail`, `specs/Order`, `tests/documents/run DIR`, `18/0`, `target/staticlib/libd64.a`, `docs/`, `MAP.md`\n"
+PATHS = ("`include/d64.h`, `crates/CRATE/src`, `crates/*/must-fail`, `specs/Order`, `tests/documents/run DIR`, `18/0`, `build/libd64.a`, `crates/CRATE/out/rlib`, `docs/`, `MAP.md`\n"
          "[the map](MAP.md#x), [far](https://example.org/x), [Order][Order]\n\n[Order]: ../crates/d64spec/specs/Order.antt\n\n```\n`gone/there`\n```\n")
 WRONG_PATHS = {
     "a file that is not there": ("`include/d64.h`", "`include/d65.h`"),

@@ -77,7 +77,7 @@ fn write_crate(dir: &Path, rows: &[Row]) -> std::io::Result<()> {
     }
     fs::write(
         dir.join("src/lib.rt"),
-        "// Cases of the independent program.\n",
+        "// Cases of the independent program.\n#![tactic(auto)]\n",
     )?;
     fs::write(dir.join("specs/Rows.antt"), rows::DEFINITIONS)?;
     fs::write(dir.join("specs/Lib.antt"), "pub mod Rows\n")?;
