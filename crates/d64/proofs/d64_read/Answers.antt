@@ -22,9 +22,6 @@ pub returns-in-Known : goal.returns-in-Known
 unfolding output_buffer
 returns-in-Known c =
     let p = c.args in
-    let n = c in
-    let v = c in
-    let k = c in
-    let g = c in
-    call_known p.layout p.image.now p.answer.now (read p.name.now p.out.now) n.layout_numbered-named.ensures _ _ (omega arith) _
-    v.in-Known.is _ _ _ k.read_file-report.ensures g.give_answer.ensures
+    let replied = c.read_file-report.ensures in
+    call_known p.layout p.image.now p.answer.now (read p.name.now p.out.now) c.layout_numbered-named.ensures _ _ (omega arith) _
+    c.in-Known.is c.read_file-report.result p.image.now c.read_file-report.new.out (assumption replied) c.give_answer.ensures

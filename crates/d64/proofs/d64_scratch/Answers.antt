@@ -1,5 +1,6 @@
 -- `d64::d64_scratch` meets its contract: the block first, then the layout, then the report of the scratch. Assumes nothing.
 use native.Mathlib.Omega.{arith}
+use mathlib.Core.List.{[]}
 use Rattle.d64spec.specs.Call.{scratch, output_buffer}
 use Rattle.d64.proofs.HostLaws.{call-misfit, call-unknown, call_known}
 use Rattle.d64.proofs.d64_scratch.Goals as goal
@@ -22,9 +23,6 @@ pub returns-in-Known : goal.returns-in-Known
 unfolding output_buffer
 returns-in-Known c =
     let p = c.args in
-    let n = c in
-    let v = c in
-    let k = c in
-    let g = c in
-    call_known p.layout p.image.now p.answer.now (scratch p.name.now) n.layout_numbered-named.ensures _ _ (omega arith) _
-    v.in-Known.is _ _ _ k.scratch_file-report.ensures g.give_answer.ensures
+    let replied = c.scratch_file-report.ensures in
+    call_known p.layout p.image.now p.answer.now (scratch p.name.now) c.layout_numbered-named.ensures _ _ (omega arith) _
+    c.in-Known.is c.scratch_file-report.result c.scratch_file-report.new.image [] (assumption replied) c.give_answer.ensures
