@@ -25,4 +25,4 @@ returns-in-Known c =
     let p = c.args in
     let replied = c.scratch_file-report.ensures in
     call_known p.layout p.image.now p.answer.now (scratch p.name.now) c.layout_numbered-named.ensures _ _ (omega arith) _
-    c.in-Known.is c.scratch_file-report.result c.scratch_file-report.new.image [] (assumption replied) c.give_answer.ensures
+    c.in-Known.is c.scratch_file-report.result c.scratch_file-report.new.img [] (assumption replied) c.give_answer.ensures
