@@ -7,7 +7,7 @@
 #   make install PREFIX=..  header, archive, pkg-config file, man page, tool
 #   make bench, make peers, make fuzz FUZZ_SECONDS=..
 
-VERSION = 2.0.1
+VERSION = 2.0.0
 PREFIX ?= /usr/local
 BUILD ?= build
 ARCHIVE ?= $(BUILD)/libd64.a

@@ -1,6 +1,5 @@
 # For tests/fuzz/run and tests/fuzz/wrong-libraries, which source it in this folder: finds or installs libFuzzer and builds the harness. They set
 # 'archive' and 'work', a folder for this run. It sets 'built', where the programs are, and fills work/seeds; without libFuzzer it ends the run.
-# With FUZZ_INSTALL=no nothing is installed.
 # shellcheck shell=sh
 CARGO_TARGET_DIR=${CARGO_TARGET_DIR:-$PWD/target}
 ASAN_OPTIONS=quarantine_size_mb=16:detect_leaks=0
@@ -25,14 +24,14 @@ packages() { # COMMAND WORDS..
 }
 
 install_libfuzzer() {
-    [ "${FUZZ_INSTALL:-yes}" = yes ] && [ "$(id -u)" -eq 0 ] && command -v apt-get >/dev/null || return 0
+    [ "$(id -u)" -eq 0 ] && command -v apt-get >/dev/null || return 0
     packages install -y --no-install-recommends clang-14 libclang-rt-14-dev ||
         { packages update && packages install -y --no-install-recommends clang-14 libclang-rt-14-dev; } || return 0
 }
 
 clang=$(fuzzing_clang)
 [ -n "$clang" ] || { install_libfuzzer; clang=$(fuzzing_clang); }
-[ -n "$clang" ] || { echo "fuzz: skipped, libFuzzer is not installed, and was not or could not be installed"; exit 0; }
+[ -n "$clang" ] || { echo "fuzz: skipped, libFuzzer is not installed and cannot be installed"; exit 0; }
 
 # The oracle has the counters that guide the fuzzer; the archive comes out of its own compiler and has none. A target is named so that the passes are
 # not for the programs that cargo itself runs.

@@ -2,7 +2,6 @@
 // What it prints for the bytes that were read is `sleeve::program_output`'s to say; a read that fails counts as the end of the input.
 #![tactic(auto)]
 
-ghost use Rattle.std.specs.Prelude.{◌≤◌, length};
 ghost use Rattle.io.specs.Counts.{IsPrefixLen};
 
 use geometry::Layout;

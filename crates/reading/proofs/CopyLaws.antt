@@ -12,8 +12,7 @@ use Rattle.d64spec.specs.Answers.{Address}
 use Rattle.d64spec.specs.Geometry.{Geometry, sector_number}
 use Rattle.d64spec.specs.Image.{disk}
 use Rattle.d64spec.proofs.SpliceLaws.{length-splice}
-use Rattle.parts.proofs.OverwriteLaws.{copied_whole-back}
-use Rattle.reading.specs.ChainReads.{link_of, sectors_from, data_from, ChainFrom, CopyFits, DataFits, ChainCopied}
+use Rattle.reading.specs.ChainReads.{link_of, sectors_from, data_from, ChainFrom, CopyFits, ChainCopied}
 use Rattle.reading.proofs.ChainStepLaws.{Follows, sectors-first, sector-full, last-alone, follows}
 
 -- ---- the data of one sector
@@ -35,19 +34,6 @@ module _ {g : Geometry} {img : Bytes} {r : Address} (c : ChainFrom g img r) {s :
   data-more : {q : Address} → Follows g img r q → data_from g img r ≡ data_of s 254 ++ data_from g img q
   unfolding data_from
   data-more f = rw (f.sectors, (sectors-first f.rest).1, ← is)
-
--- what comes back of a loan of `size` bytes of the output when the data of a sector are copied over them
-module _ (s out : Bytes) (size at : ℕ) (fits : DataFits s out size at) where
-  -- the data as the code lends them
-  abbrev lent : Bytes
-  lent = take (2 + size - 2) (drop 2 s)
-
-  pub data-copied : {p : Bytes} → p ≡ lent → take at out ++ (p ++ drop (at + size - at) (drop at out)) ≡ splice out at (data_of s size)
-  data-copied e =
-      let inside = fits.inside in
-      let all : 2 + size - 2 ≡ size = omega arith in
-      let long : length lent ≡ size = simp (length-take, length-drop) (omega arith) in
-      copied_whole-back out at size lent long e ∙ ap (λ (n : ℕ). splice out at (data_of s n)) all
 
 -- ---- the copy
 
