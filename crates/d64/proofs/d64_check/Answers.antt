@@ -12,21 +12,13 @@ pub returns-in-Unknown : goal.returns-in-Unknown
 unfolding output_buffer
 returns-in-Unknown c =
     let p = c.args in
-    let e = c in
-    let n = c in
-    let u = c in
-    call-unknown p.layout p.image.now p.answer.now check n.layout_numbered-named.ensures _ _ (omega arith) e.in-Unknown.is
-    u.refuse_layout.ensures
+    call-unknown p.layout p.image.now p.answer.now check c.layout_numbered-named.ensures _ _ (omega arith) c.in-Unknown.is
+    c.refuse_layout.ensures
 
 pub returns-in-Known : goal.returns-in-Known
 unfolding output_buffer
 returns-in-Known c =
     let p = c.args in
-    let n = c in
-    let v = c in
-    let k = c in
-    let g = c in
-    let t = c in
-    let replied = check-replied _ p.image.now k.check_image-checked.result _ k.check_image-checked.ensures t.report_of-report.ensures in
-    call_known p.layout p.image.now p.answer.now check n.layout_numbered-named.ensures _ _ (omega arith) _ v.in-Known.is _ _ _ replied
-    g.give_answer.ensures
+    let replied = check-replied _ p.image.now c.check_image-checked.result _ c.check_image-checked.ensures c.report_of-report.ensures in
+    call_known p.layout p.image.now p.answer.now check c.layout_numbered-named.ensures _ _ (omega arith) _ c.in-Known.is _ _ _ replied
+    c.give_answer.ensures

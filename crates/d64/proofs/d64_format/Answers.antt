@@ -12,19 +12,12 @@ pub returns-in-Unknown : goal.returns-in-Unknown
 unfolding output_buffer
 returns-in-Unknown c =
     let p = c.args in
-    let e = c in
-    let n = c in
-    let u = c in
-    call-unknown p.layout p.image.now p.answer.now (format p.name.now p.id1 p.id2) n.layout_numbered-named.ensures _ _ (omega arith)
-    e.in-Unknown.is u.refuse_layout.ensures
+    call-unknown p.layout p.image.now p.answer.now (format p.name.now p.id1 p.id2) c.layout_numbered-named.ensures _ _ (omega arith)
+    c.in-Unknown.is c.refuse_layout.ensures
 
 pub returns-in-Known : goal.returns-in-Known
 unfolding output_buffer
 returns-in-Known c =
     let p = c.args in
-    let n = c in
-    let v = c in
-    let k = c in
-    let g = c in
-    call_known p.layout p.image.now p.answer.now (format p.name.now p.id1 p.id2) n.layout_numbered-named.ensures _ _ (omega arith) _
-    v.in-Known.is _ _ _ k.format_image-report.ensures g.give_answer.ensures
+    call_known p.layout p.image.now p.answer.now (format p.name.now p.id1 p.id2) c.layout_numbered-named.ensures _ _ (omega arith) _
+    c.in-Known.is _ _ _ c.format_image-report.ensures c.give_answer.ensures

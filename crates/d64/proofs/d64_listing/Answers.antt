@@ -12,20 +12,14 @@ pub returns-in-Unknown : goal.returns-in-Unknown
 unfolding host_listing_in
 returns-in-Unknown c =
     let p = c.args in
-    let e = c in
-    let n = c in
-    let u = c in
     served-unknown p.layout p.track18.now p.text.now p.answer.now (λ g. list_into g p.track18.now p.text.now)
-    n.layout_numbered-named.ensures _ _ (omega arith) e.in-Unknown.is u.refuse_layout.ensures
+    c.layout_numbered-named.ensures _ _ (omega arith) c.in-Unknown.is c.refuse_layout.ensures
 
 pub returns-in-Known : goal.returns-in-Known
 unfolding host_listing_in
 returns-in-Known c =
     let p = c.args in
-    let n = c in
-    let v = c in
-    let k = c in
     let g = c in
-    let replied = listing-replied _ p.track18.now p.text.now _ _ k.list_track18-report.ensures in
+    let replied = listing-replied _ p.track18.now p.text.now _ _ c.list_track18-report.ensures in
     served-known p.layout p.track18.now p.text.now p.answer.now (λ g. list_into g p.track18.now p.text.now)
-    n.layout_numbered-named.ensures _ _ (omega arith) _ v.in-Known.is _ _ _ replied g.give_answer.ensures
+    c.layout_numbered-named.ensures _ _ (omega arith) _ c.in-Known.is _ _ _ replied g.give_answer.ensures

@@ -13,11 +13,8 @@ pub returns-in-Unknown : goal.returns-in-Unknown
 unfolding output_buffer
 returns-in-Unknown c =
     let p = c.args in
-    let e = c in
-    let n = c in
-    let u = c in
-    call-unknown p.layout p.image.now p.answer.now (scratch p.name.now) n.layout_numbered-named.ensures _ _ (omega arith)
-    e.in-Unknown.is u.refuse_layout.ensures
+    call-unknown p.layout p.image.now p.answer.now (scratch p.name.now) c.layout_numbered-named.ensures _ _ (omega arith)
+    c.in-Unknown.is c.refuse_layout.ensures
 
 pub returns-in-Known : goal.returns-in-Known
 unfolding output_buffer

@@ -13,19 +13,12 @@ pub returns-in-Unknown : goal.returns-in-Unknown
 unfolding output_buffer
 returns-in-Unknown c =
     let p = c.args in
-    let e = c in
-    let n = c in
-    let u = c in
-    call-unknown p.layout p.image.now p.answer.now (store p.name.now p.kind p.content.now) n.layout_numbered-named.ensures _ _
-    (omega arith) e.in-Unknown.is u.refuse_layout.ensures
+    call-unknown p.layout p.image.now p.answer.now (store p.name.now p.kind p.content.now) c.layout_numbered-named.ensures _ _
+    (omega arith) c.in-Unknown.is c.refuse_layout.ensures
 
 pub returns-in-Known : goal.returns-in-Known
 unfolding output_buffer
 returns-in-Known c =
     let p = c.args in
-    let n = c in
-    let v = c in
-    let k = c in
-    let g = c in
-    call_known p.layout p.image.now p.answer.now (store p.name.now p.kind p.content.now) n.layout_numbered-named.ensures _ _
-    (omega arith) _ v.in-Known.is _ _ _ k.store_file-report.ensures g.give_answer.ensures
+    call_known p.layout p.image.now p.answer.now (store p.name.now p.kind p.content.now) c.layout_numbered-named.ensures _ _
+    (omega arith) _ c.in-Known.is _ _ _ c.store_file-report.ensures c.give_answer.ensures

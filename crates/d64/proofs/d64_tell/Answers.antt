@@ -14,24 +14,15 @@ pub returns-in-Unknown : goal.returns-in-Unknown
 unfolding host_tell_in
 returns-in-Unknown c =
     let p = c.args in
-    let e = c in
-    let n = c in
-    let u = c in
     served-unknown p.layout p.image.now p.entry.now p.answer.now (λ g. tell_into g p.image.now p.position p.entry.now)
-    n.layout_numbered-named.ensures _ _ (omega arith) e.in-Unknown.is u.refuse_layout.ensures
+    c.layout_numbered-named.ensures _ _ (omega arith) c.in-Unknown.is c.refuse_layout.ensures
 
 pub returns-in-Known : goal.returns-in-Known
 unfolding host_tell_in
 returns-in-Known c =
-    let k = c in
-    let v = k in
-    let n = k in
-    let p = k.args in
+    let p = c.args in
     let g = c in
-    let b = c in
-    let e = c in
-    let t = c in
-    let replied = tell-replied p.image.now p.entry.now _ p.position k.tell_file-told.result _ _ _ _ k.tell_file-told.ensures (search rules)
-    b.entry_bytes-filled.ensures e.give_entry-given.ensures t.report_of-report.ensures in
+    let replied = tell-replied p.image.now p.entry.now _ p.position c.tell_file-told.result _ _ _ _ c.tell_file-told.ensures (search rules)
+    c.entry_bytes-filled.ensures c.give_entry-given.ensures c.report_of-report.ensures in
     served-known p.layout p.image.now p.entry.now p.answer.now (λ g. tell_into g p.image.now p.position p.entry.now)
-    n.layout_numbered-named.ensures _ _ (omega arith) _ v.in-Known.is _ _ _ replied g.give_answer.ensures
+    c.layout_numbered-named.ensures _ _ (omega arith) _ c.in-Known.is _ _ _ replied g.give_answer.ensures

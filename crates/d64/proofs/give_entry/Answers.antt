@@ -11,7 +11,5 @@ returns-in-Refused c = given-refused _ _ c.in-Refused.is
 
 pub returns-else-entry-filled : goal.returns-else-entry-filled
 returns-else-entry-filled c =
-    let k = c in
-    let e = k in
-    let p = e.args in
-    given-filled p.filled.now p.entry.now _ e.in-Fine.is (omega arith) k.copy_from_slice.ensures.after
+    let p = c.args in
+    given-filled p.filled.now p.entry.now _ c.in-Fine.is (omega arith) c.copy_from_slice.ensures.after

@@ -6,9 +6,8 @@ use Rattle.diskcheck.proofs.ImageLaws.{map-checked}
 use Rattle.diskcheck.proofs.check_marks.Goals as goal
 
 pub slice_bounds-check_map-end : goal.slice_bounds-check_map-end
-slice_bounds-check_map-end c = let z = c in omega (arith, (known_of z.args.layout).past18, z.requires)
+slice_bounds-check_map-end c = omega (arith, (known_of c.args.layout).past18, c.requires)
 
 pub returns : goal.returns
 returns c =
-    let z = c in
-    map-checked _ (known_of z.args.layout) z.args.img.now z.args.used.now c.check_map.ensures refl
+    map-checked _ (known_of c.args.layout) c.args.img.now c.args.used.now c.check_map.ensures refl

@@ -9,17 +9,12 @@ use Rattle.diskcheck.proofs.check_owners.Goals as goal
 
 pub check_rest-requires : goal.check_rest-requires
 check_rest-requires c =
-    let d = c in
-    let z = d in
-    let k = known_of z.args.layout in
-    (owners-ready _ k z.requires d.claim_directory.ensures refl, masks-ready _ k z.requires d.claim_directory.ensures refl)
+    let k = known_of c.args.layout in
+    (owners-ready _ k c.requires c.claim_directory.ensures refl, masks-ready _ k c.requires c.claim_directory.ensures refl)
 
 pub returns : goal.returns
 returns c =
-    let r = c in
-    let d = r in
-    let z = d in
-    let a = z.args in
-    r.check_rest.ensures
+    let a = c.args in
+    c.check_rest.ensures
     ∙ ap (λ (t : Tables). rest_step (geometry_of a.layout) a.img.now t a.sectors.now a.count)
-    (owners-before _ (known_of a.layout) z.requires d.claim_directory.ensures refl)
+    (owners-before _ (known_of a.layout) c.requires c.claim_directory.ensures refl)

@@ -5,14 +5,9 @@ use Rattle.diskcheck.proofs.check_rest.Goals as goal
 
 pub returns-in-Refused : goal.returns-in-Refused
 returns-in-Refused c =
-    let s = c in
-    let z = s in
-    slots-refused _ (known_of z.args.layout) _ _ _ _ _ _ (rw c.in-Refused.is at s.check_slots-verdict.ensures.0)
+    slots-refused _ (known_of c.args.layout) _ _ _ _ _ _ (rw c.in-Refused.is at c.check_slots-verdict.ensures.0)
 
 pub returns-in-Fine : goal.returns-in-Fine
 returns-in-Fine c =
-    let t = c in
-    let s = t in
-    let z = s in
-    let e = s.check_slots-verdict.ensures in
-    slots-fine _ (known_of z.args.layout) _ _ _ _ _ _ _ (rw t.in-Fine.is at e.0) e.1 c.check_marks.ensures
+    let e = c.check_slots-verdict.ensures in
+    slots-fine _ (known_of c.args.layout) _ _ _ _ _ _ _ (rw c.in-Fine.is at e.0) e.1 c.check_marks.ensures

@@ -6,10 +6,9 @@ use Rattle.diskcheck.proofs.TrackLaws.{track18-lent}
 use Rattle.diskcheck.proofs.read_track18.Goals as goal
 
 pub slice_bounds-read_directory-end : goal.slice_bounds-read_directory-end
-slice_bounds-read_directory-end c = let z = c in omega (arith, (known_of z.args.layout).past18, z.requires)
+slice_bounds-read_directory-end c = omega (arith, (known_of c.args.layout).past18, c.requires)
 
 pub returns : goal.returns
 returns c =
-    let z = c in
-    let k = known_of z.args.layout in
-    rw (track18-lent _ k z.args.img.now) at (c.read_directory.ensures (geometry_of z.args.layout) k.on18)
+    let k = known_of c.args.layout in
+    rw (track18-lent _ k c.args.img.now) at (c.read_directory.ensures (geometry_of c.args.layout) k.on18)

@@ -6,6 +6,5 @@ use Rattle.finding.proofs.find_empty.Goals as goal
 pub loop-k-preserved : goal.loop-k-preserved
 loop-k-preserved c =
     let a = c.args in
-    let e = c in
-    searching-next e.loop-k.invariant (omega arith)
-    (empty-next a.track18.now a.sectors.now (omega arith) e.slot_at-slot.ensures e.is_empty.ensures c.if-is_empty.false)
+    searching-next c.loop-k.invariant (omega arith)
+    (empty-next a.track18.now a.sectors.now (omega arith) c.slot_at-slot.ensures c.is_empty.ensures c.if-is_empty.false)

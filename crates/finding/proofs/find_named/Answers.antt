@@ -22,19 +22,17 @@ loop-k-init c =
 
 pub returns-then-has_words : goal.returns-then-has_words
 returns-then-has_words c =
-    let l = c in
-    let a = l.args in
+    let a = c.args in
     let asked : c.has_words.result ≡ holds_name c.slot_at-slot.result.now a.name.now = c.has_words.ensures.answer _ c.loop-k.invariant.1 in
     sym (named_here a.track18.now a.sectors.now (omega arith) c.slot_at-slot.ensures a.name.now asked c.if-has_words.true)
-    ∙ l.loop-k.invariant.0.same
+    ∙ c.loop-k.invariant.0.same
 
 pub loop-k-preserved : goal.loop-k-preserved
 loop-k-preserved c =
-    let l = c in
-    let a = l.args in
+    let a = c.args in
     let asked : c.has_words.result ≡ holds_name c.slot_at-slot.result.now a.name.now = c.has_words.ensures.answer _ c.loop-k.invariant.1 in (
-      searching-next l.loop-k.invariant.0 (omega arith)
+      searching-next c.loop-k.invariant.0 (omega arith)
           (named_other a.track18.now a.sectors.now (omega arith) c.slot_at-slot.ensures a.name.now asked
           c.if-has_words.false),
-      l.loop-k.invariant.1,
+      c.loop-k.invariant.1,
     )

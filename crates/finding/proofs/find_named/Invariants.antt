@@ -7,7 +7,9 @@ use Rattle.finding.proofs.find_named.Given as goal
 
 -- the slots before k do not hold the name, whose words are x and y
 abbrev pub invariant-loop-k : goal.invariant-loop-k
-invariant-loop-k l = Searching l.end l.k (slot_named l.track18 l.sectors l.name l.k (l.end - l.k)) (slot_named l.track18 l.sectors l.name 0 l.end) × IsWords l.name l.x l.y
+invariant-loop-k l =
+    Searching l.end l.k (slot_named l.track18 l.sectors l.name l.k (l.end - l.k)) (slot_named l.track18 l.sectors l.name 0 l.end)
+    × IsWords l.name l.x l.y
 
 abbrev pub decreases-loop-k : goal.decreases-loop-k
 decreases-loop-k l = l.end - l.k

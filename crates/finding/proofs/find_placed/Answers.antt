@@ -12,6 +12,7 @@ loop-k-preserved c =
     let empty = c.is_empty.ensures in
     searching-next l.invariant (omega arith)
     (elim c.if-not-is_empty.branch [
-      | goal.then-not-is_empty+else-left-eq0 w ↦ rw w.left-is (placed-next a.track18.now a.sectors.now (omega arith) slot empty l.left w.if-not-is_empty.true (omega arith))
+      | goal.then-not-is_empty+else-left-eq0 w ↦
+          rw w.left-is (placed-next a.track18.now a.sectors.now (omega arith) slot empty l.left w.if-not-is_empty.true (omega arith))
       | goal.else-not-is_empty w ↦ rw w.left-is (placed-empty a.track18.now a.sectors.now (omega arith) slot empty l.left w.if-not-is_empty.false)
     ])

@@ -9,11 +9,9 @@ returns-then-slot-lt19 c = compared-short c.args.slot.now (omega arith)
 
 pub returns-then-eight_at-x : goal.returns-then-eight_at-x
 returns-then-eight_at-x c =
-    let k = c in
-    compared-first k.args.slot.now (omega arith) (λ i. omega (arith, k.type_inv.slot i)) (λ e. omega arith) c.eight_at.ensures refl (λ e. omega arith)
+    compared-first c.args.slot.now (omega arith) (λ i. omega (arith, c.type_inv.slot i)) (λ e. omega arith) c.eight_at.ensures refl (λ e. omega arith)
 
 pub returns : goal.returns
 returns c =
-    let k = c in
-    compared-second k.args.slot.now (omega arith) (λ i. omega (arith, k.type_inv.slot i)) (λ e. omega arith)
+    compared-second c.args.slot.now (omega arith) (λ i. omega (arith, c.type_inv.slot i)) (λ e. omega arith)
     c.eight_at.ensures c.eight_at-2.ensures refl refl (omega arith) refl

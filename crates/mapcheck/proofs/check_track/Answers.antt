@@ -11,19 +11,14 @@ use Rattle.mapcheck.proofs.check_track.Goals as goal
 pub returns-then-entry-count_free : goal.returns-then-entry-count_free
 unfolding verdict_of
 returns-then-entry-count_free c =
-    let n = c in
-    let s = n in
-    let start = s in
-    track-right _ (known_of start.args.layout) start.args.entry start.args.used start.args.track start.requires.2
-    {n = n.count_free.result} (omega (arith, n.count_free.ensures)) s.sectors_of-sectors.ensures (omega (arith, n.if-sectors.true))
+    track-right _ (known_of c.args.layout) c.args.entry c.args.used c.args.track c.requires.2
+    {n = c.count_free.result} (omega (arith, c.count_free.ensures)) c.sectors_of-sectors.ensures (omega (arith, c.if-sectors.true))
     (omega (arith, eqb-true))
 
 pub returns : goal.returns
 unfolding verdict_of fault_of
 returns c =
-    let s = c in
-    let start = s in
-    track-wrong _ (known_of start.args.layout) start.args.entry start.args.used start.args.track start.requires.2 refl s.sectors_of-sectors.ensures
+    track-wrong _ (known_of c.args.layout) c.args.entry c.args.used c.args.track c.requires.2 refl c.sectors_of-sectors.ensures
     c.lowest_difference-sector.ensures (omega arith) (omega arith) (omega arith)
     (elim c.else-sectors.branch [
       | goal.else-sectors-via-then-sectors+else-entry-count_free w ↦ λ same counted. w.if-entry-count_free.false (omega (arith, counted, w.count_free.ensures))

@@ -10,17 +10,12 @@ use Rattle.mapcheck.proofs.none_wrong.Goals as goal
 
 pub loop-i-preserved : goal.loop-i-preserved
 loop-i-preserved c none g kn is =
-    let n = c in
-    let s = n in
-    let at = s in
     let same = nothing-differs _ _ _ _ _ none in
-    passing-moved (at.loop-i.invariant same.0 g kn is)
-    (track-right g kn _ _ _ is n.count_free-count.ensures s.sectors_of-sectors.ensures same.1 same.2)
+    passing-moved (c.loop-i.invariant same.0 g kn is)
+    (track-right g kn _ _ _ is c.count_free-count.ensures c.sectors_of-sectors.ensures same.1 same.2)
     (omega arith) (omega arith) (omega arith)
 
 pub returns : goal.returns
 returns c =
-    let l = c in
-    let s = l in
-    let kn = known_of s.args.layout in
-    record { fine = λ right. passing-finished (l.loop-i.invariant (omega (arith, eqb-true)) _ kn s.requires.0) (omega (arith, kn.few)) }
+    let kn = known_of c.args.layout in
+    record { fine = λ right. passing-finished (c.loop-i.invariant (omega (arith, eqb-true)) _ kn c.requires.0) (omega (arith, kn.few)) }

@@ -11,6 +11,5 @@ returns-then-out-length c =
 
 pub returns : goal.returns
 returns c =
-    let k = c in
-    let a = k.args in
-    whole-reply _ a.img.now a.out.now (first_of a.slot.now) (omega arith) k.copy_chain-sectors.ensures (omega arith)
+    let a = c.args in
+    whole-reply _ a.img.now a.out.now (first_of a.slot.now) (omega arith) c.copy_chain-sectors.ensures (omega arith)

@@ -7,13 +7,10 @@ use Rattle.reading.proofs.tell_file.Goals as goal
 
 pub tell_found-requires : goal.tell_found-requires
 tell_found-requires c =
-    let e = c in
-    let k = e in
-    checked-files _ (known_of k.args.layout) k.check_image-checked.ensures e.in-Fine.is
+    checked-files _ (known_of c.args.layout) c.check_image-checked.ensures c.in-Fine.is
 
 pub returns-in-Refused : goal.returns-in-Refused
 returns-in-Refused c =
     let a = c.args in
-    let v = c in
     tell-refused _ a.img.now a.position _ c.tell_nothing.ensures
-    (tell-fault _ a.img.now a.position (refused-image _ (known_of a.layout) v.check_image-checked.ensures _ v.in-Refused.is))
+    (tell-fault _ a.img.now a.position (refused-image _ (known_of a.layout) c.check_image-checked.ensures _ c.in-Refused.is))

@@ -5,5 +5,4 @@ use Rattle.scratching.proofs.clear_linked.Goals as goal
 
 pub returns : goal.returns
 returns c =
-    let s = c in
-    sector-cleared s.args.img.now s.args.n refl s.requires c.unlink.ensures
+    sector-cleared c.args.img.now c.args.n refl c.requires c.unlink.ensures

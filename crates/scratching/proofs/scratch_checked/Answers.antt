@@ -9,6 +9,5 @@ use Rattle.scratching.proofs.scratch_checked.Goals as goal
 pub returns-then-not-may_write : goal.returns-then-not-may_write
 unfolding fault_of
 returns-then-not-may_write c =
-    let s = c in
-    scratch-refused _ s.args.img.now s.args.name.now WriteForbidden c.refuse.ensures
-    (forbidden _ s.requires.0 s.args.name.now s.requires.1 (sym c.may_write.ensures ∙ c.if-not-may_write.true))
+    scratch-refused _ c.args.img.now c.args.name.now WriteForbidden c.refuse.ensures
+    (forbidden _ c.requires.0 c.args.name.now c.requires.1 (sym c.may_write.ensures ∙ c.if-not-may_write.true))

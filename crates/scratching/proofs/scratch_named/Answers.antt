@@ -10,23 +10,18 @@ use Rattle.scratching.proofs.scratch_named.Goals as goal
 pub returns-then-k-end : goal.returns-then-k-end
 unfolding fault_of
 returns-then-k-end c =
-    let s = c in
-    scratch-refused _ s.args.img.now s.args.name.now NotFound c.refuse.ensures
-    (none_named _ (known_of s.args.layout) s.requires c.slot_named-k.ensures c.if-k-end.true)
+    scratch-refused _ c.args.img.now c.args.name.now NotFound c.refuse.ensures
+    (none_named _ (known_of c.args.layout) c.requires c.slot_named-k.ensures c.if-k-end.true)
 
 pub bounds-sectors-i : goal.bounds-sectors-i
 bounds-sectors-i c =
-    let s = c in
-    omega (arith, slot-below _ (known_of s.args.layout) s.requires c.slot_named-k.ensures c.if-k-end.false)
+    omega (arith, slot-below _ (known_of c.args.layout) c.requires c.slot_named-k.ensures c.if-k-end.false)
 
 pub scratch_slot-requires : goal.scratch_slot-requires
 scratch_slot-requires c =
-    let s = c in
-    file-there _ (known_of s.args.layout) s.requires c.slot_named-k.ensures c.if-k-end.false
+    file-there _ (known_of c.args.layout) c.requires c.slot_named-k.ensures c.if-k-end.false
 
 pub returns : goal.returns
 returns c =
-    let s = c in
-    let i = c in
-    scratch-done _ s.args.img.now s.args.name.now _
-    (some-named _ (known_of s.args.layout) s.requires i.slot_named-k.ensures i.if-k-end.false) c.scratch_slot.ensures
+    scratch-done _ c.args.img.now c.args.name.now _
+    (some-named _ (known_of c.args.layout) c.requires c.slot_named-k.ensures c.if-k-end.false) c.scratch_slot.ensures

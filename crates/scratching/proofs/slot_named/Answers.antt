@@ -5,7 +5,7 @@ use Rattle.reading.proofs.FoundLaws.{named-lent}
 use Rattle.scratching.proofs.slot_named.Goals as goal
 
 pub slice_bounds-find_named-end : goal.slice_bounds-find_named-end
-slice_bounds-find_named-end c = let s = c in omega (arith, s.requires, (known_of s.args.layout).past18)
+slice_bounds-find_named-end c = omega (arith, c.requires, (known_of c.args.layout).past18)
 
 pub returns : goal.returns
 returns c =

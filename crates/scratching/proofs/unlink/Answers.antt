@@ -5,5 +5,4 @@ use Rattle.scratching.proofs.unlink.Goals as goal
 
 pub returns : goal.returns
 returns c =
-    let s = c in
-    unlinked s.args.sector.now s.requires c.overwrite.ensures refl refl refl
+    unlinked c.args.sector.now c.requires c.overwrite.ensures refl refl refl

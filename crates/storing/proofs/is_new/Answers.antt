@@ -5,7 +5,7 @@ use Rattle.storing.proofs.DecisionLaws.{new-found}
 use Rattle.storing.proofs.is_new.Goals as goal
 
 pub slice_bounds-find_named-end : goal.slice_bounds-find_named-end
-slice_bounds-find_named-end c = let z = c in omega (arith, (known_of z.args.layout).past18, z.requires.0.size)
+slice_bounds-find_named-end c = omega (arith, (known_of c.args.layout).past18, c.requires.0.size)
 
 pub returns : goal.returns
 returns c = new-found _ (known_of c.args.layout) c.args.name.now

@@ -2,9 +2,7 @@
 use Rattle.geometry.proofs.TableLaws.{known_of}
 use native.Mathlib.Omega.{arith}
 use borrow.Author.Rules.{rules}
-use mathlib.Core.Path.{◌≡◌, sym, ◌∙◌}
-use mathlib.Core.Bool.{true}
-use Rattle.d64spec.specs.Reply.{valid_name_argument, storable_kind}
+use mathlib.Core.Path.{sym, ◌∙◌}
 use Rattle.d64spec.proofs.EntryLaws.{kind-small}
 use Rattle.answers.specs.declared.Fault.TheVariants.{WrongSize, BadNameArgument, BadKindArgument}
 use Rattle.answers.specs.Faults.{fault_of}
@@ -31,31 +29,30 @@ returns-then-not-valid_name_argument c =
 pub returns-then-not-storable_kind : goal.returns-then-not-storable_kind
 unfolding fault_of
 returns-then-not-storable_kind c =
+    let asked = sym c.valid_name_argument.ensures ∙ c.if-not-valid_name_argument.false in
     let a = c.args in
     let bad = sym c.storable_kind.ensures ∙ c.if-not-storable_kind.true in
     store-refused _ a.img.now a.name.now a.kind a.content.now BadKindArgument c.refuse-then-not-storable_kind.ensures
-    (store-kind _ a.img.now a.name.now a.kind a.content.now (omega arith) ((let given : valid_name_argument c.args.name.now ≡ true = sym c.valid_name_argument.ensures ∙ c.if-not-valid_name_argument.false in given)) bad)
+    (store-kind _ a.img.now a.name.now a.kind a.content.now (omega arith) asked bad)
 
 pub overflow_cast-kind : goal.overflow_cast-kind
 overflow_cast-kind c =
-    let e = c in
-    omega (arith, (kind-small e.args.kind ((let given : storable_kind e.args.kind ≡ true = sym e.storable_kind.ensures ∙ e.if-not-storable_kind.false in given))).1)
+    let kind = sym c.storable_kind.ensures ∙ c.if-not-storable_kind.false in
+    omega (arith, (kind-small c.args.kind kind).1)
 
 pub store_checked-requires : goal.store_checked-requires
 store_checked-requires c =
-    let t = c in
-    let k = t in
-    let e = k in
-    let a = e.args in
-    checked-store _ (known_of a.layout) a.name.now a.kind k.check_image-checked.ensures t.in-Fine.is
-    (λ i. search rules) ((let given : valid_name_argument e.args.name.now ≡ true = sym e.valid_name_argument.ensures ∙ e.if-not-valid_name_argument.false in given)) ((let given : storable_kind e.args.kind ≡ true = sym e.storable_kind.ensures ∙ e.if-not-storable_kind.false in given))
+    let asked = sym c.valid_name_argument.ensures ∙ c.if-not-valid_name_argument.false in
+    let kind = sym c.storable_kind.ensures ∙ c.if-not-storable_kind.false in
+    let a = c.args in
+    checked-store _ (known_of a.layout) a.name.now a.kind c.check_image-checked.ensures c.in-Fine.is
+    (λ i. search rules) asked kind
 
 pub returns-in-Refused : goal.returns-in-Refused
 returns-in-Refused c =
-    let v = c in
-    let k = v in
-    let e = k in
-    let a = e.args in
+    let asked = sym c.valid_name_argument.ensures ∙ c.if-not-valid_name_argument.false in
+    let kind = sym c.storable_kind.ensures ∙ c.if-not-storable_kind.false in
+    let a = c.args in
     store-refused _ a.img.now a.name.now a.kind a.content.now _ c.refuse-in-Refused.ensures
-    (store-fault _ a.img.now a.name.now a.kind a.content.now (omega arith) ((let given : valid_name_argument e.args.name.now ≡ true = sym e.valid_name_argument.ensures ∙ e.if-not-valid_name_argument.false in given)) ((let given : storable_kind e.args.kind ≡ true = sym e.storable_kind.ensures ∙ e.if-not-storable_kind.false in given))
-    (refused-image _ (known_of a.layout) k.check_image-checked.ensures _ v.in-Refused.is))
+    (store-fault _ a.img.now a.name.now a.kind a.content.now (omega arith) asked kind
+    (refused-image _ (known_of a.layout) c.check_image-checked.ensures _ c.in-Refused.is))

@@ -70,7 +70,8 @@ module _ (layout : Layout) (img own₀ used₀ : List ℕ) (id slot : ℕ) (coun
 -- the chain's first link is one to the track that the walk begins on
 first-link : (layout : Layout) (img own : List ℕ) (id slot : ℕ) (from : Address) (counts firsts : List ℕ) (first : Address) (on : Track)
     → IsCounts (geometry_of layout) counts → IsFirsts (geometry_of layout) firsts → on ≡ track_by counts firsts first.track
-    → chain_claim (geometry_of layout) img own id slot from on.number first.sector ≡ chain_claim (geometry_of layout) img own id slot from first.track first.sector
+    → chain_claim (geometry_of layout) img own id slot from on.number first.sector
+    ≡ chain_claim (geometry_of layout) img own id slot from first.track first.sector
 first-link layout img own id slot from counts firsts first on cs fs is =
     ap (λ (t : ℕ). chain_claim (geometry_of layout) img own id slot from t first.sector) (track-known (known_of layout).few cs fs is).0
 
@@ -86,7 +87,8 @@ pub returns-then-on-sector : goal.returns-then-on-sector
 returns-then-on-sector c =
     let a = c.args in
     let i = c.loop-on.invariant a.layout c.requires in (
-      claims-off _ i.0 c.claim_off.ensures refl i.1 refl c.if-on-sector.true ∙ first-link a.layout _ _ _ _ _ _ _ _ _ c.requires.1 c.requires.2 c.track_by-on.ensures,
+      claims-off _ i.0 c.claim_off.ensures refl i.1 refl c.if-on-sector.true
+          ∙ first-link a.layout _ _ _ _ _ _ _ _ _ c.requires.1 c.requires.2 c.track_by-on.ensures,
       track-left _ (known_of a.layout) i.2 c.add_mask.ensures,
     )
 

@@ -30,7 +30,9 @@ Kept g img id slot o own used holder on sector count mask =
 abbrev pub invariant-loop-on : goal.invariant-loop-on
 invariant-loop-on l =
     (layout : Layout) → Begun layout l.img l.initial.own l.initial.used l.id l.counts l.firsts
-    → Kept (geometry_of layout) l.img l.id l.slot (chain_claim (geometry_of layout) l.img l.initial.own l.id l.slot l.initial.holder l.initial.on.number l.initial.sector) l.own l.used l.holder l.on l.sector l.count l.mask
+    → Kept (geometry_of layout) l.img l.id l.slot
+    (chain_claim (geometry_of layout) l.img l.initial.own l.id l.slot l.initial.holder l.initial.on.number l.initial.sector)
+    l.own l.used l.holder l.on l.sector l.count l.mask
 
 abbrev pub decreases-loop-on : goal.decreases-loop-on
 decreases-loop-on l = free_count l.own

@@ -6,23 +6,18 @@ use Rattle.diskcheck.proofs.slots.check_all.Goals as goal
 
 pub check_slot-verdict-requires : goal.check_slot-verdict-requires
 check_slot-verdict-requires c =
-    let l = c in
-    let p = l.requires in
-    (checking-slot _ _ _ _ _ _ _ l.loop-k.invariant.0 _ p.0 (omega arith), p.1, p.2, l.loop-k.invariant.1)
+    let p = c.requires in
+    (checking-slot _ _ _ _ _ _ _ c.loop-k.invariant.0 _ p.0 (omega arith), p.1, p.2, c.loop-k.invariant.1)
 
 pub returns-in-Refused : goal.returns-in-Refused
 returns-in-Refused c =
-    let s = c in
-    let l = s in
-    let e = s.check_slot-verdict.ensures in
-    (checking-refused _ _ _ _ _ _ _ l.loop-k.invariant.0 (omega arith) _ _ e.0 _ c.in-Refused.is, e.1)
+    let e = c.check_slot-verdict.ensures in
+    (checking-refused _ _ _ _ _ _ _ c.loop-k.invariant.0 (omega arith) _ _ e.0 _ c.in-Refused.is, e.1)
 
 pub loop-k-preserved : goal.loop-k-preserved
 loop-k-preserved c =
-    let s = c in
-    let l = s in
-    let e = s.check_slot-verdict.ensures in
-    (checking-next _ _ _ _ _ _ _ l.loop-k.invariant.0 (omega arith) _ _ e.0 c.in-Fine.is, e.1)
+    let e = c.check_slot-verdict.ensures in
+    (checking-next _ _ _ _ _ _ _ c.loop-k.invariant.0 (omega arith) _ _ e.0 c.in-Fine.is, e.1)
 
 pub returns : goal.returns
 returns c = let i = c.loop-k.invariant in (checking-end _ _ _ _ _ _ _ i.0 (omega arith), i.1)

@@ -9,7 +9,8 @@ use Rattle.diskcheck.proofs.slots.check_all.Given as goal
 
 abbrev pub invariant-loop-k : goal.invariant-loop-k
 invariant-loop-k l =
-    Checking (geometry_of l.layout) l.img (tables l.initial.own l.initial.ends) l.sectors l.count (tables l.own l.ends) l.k × Masks (geometry_of l.layout) l.own l.used
+    Checking (geometry_of l.layout) l.img (tables l.initial.own l.initial.ends) l.sectors l.count (tables l.own l.ends) l.k
+    × Masks (geometry_of l.layout) l.own l.used
 
 abbrev pub decreases-loop-k : goal.decreases-loop-k
 decreases-loop-k l = 8 * l.count - l.k

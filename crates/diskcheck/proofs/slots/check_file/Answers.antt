@@ -11,16 +11,12 @@ returns-in-Refused c =
 
 pub returns-then-count-sector_count : goal.returns-then-count-sector_count
 returns-then-count-sector_count c =
-    let s = c in
-    let e = s in
-    let count = s.sector_count.ensures.count in
-    let claimed = e.claim_chain-claim.ensures in
-    (file-fine _ _ _ _ _ _ _ _ (rw e.in-Ended.is at claimed.0) (omega arith) refl refl, claimed.1)
+    let count = c.sector_count.ensures.count in
+    let claimed = c.claim_chain-claim.ensures in
+    (file-fine _ _ _ _ _ _ _ _ (rw c.in-Ended.is at claimed.0) (omega arith) refl refl, claimed.1)
 
 pub returns-else-count-sector_count : goal.returns-else-count-sector_count
 returns-else-count-sector_count c =
-    let s = c in
-    let e = s in
-    let count = s.sector_count.ensures.count in
-    let claimed = e.claim_chain-claim.ensures in
-    (file-miscounted _ _ _ _ _ _ _ _ (rw e.in-Ended.is at claimed.0) _ (λ same. c.if-count-sector_count.false (omega arith)), claimed.1)
+    let count = c.sector_count.ensures.count in
+    let claimed = c.claim_chain-claim.ensures in
+    (file-miscounted _ _ _ _ _ _ _ _ (rw c.in-Ended.is at claimed.0) _ (λ same. c.if-count-sector_count.false (omega arith)), claimed.1)

@@ -4,6 +4,4 @@ use Rattle.diskcheck.proofs.slots.check_slots.Goals as goal
 
 pub check_all-requires : goal.check_all-requires
 check_all-requires c =
-    let k = c in
-    let z = k in
-    (z.requires.0, k.counts_of-counts.ensures, firsts-of z.args.layout, z.requires.1)
+    (c.requires.0, c.counts_of-counts.ensures, firsts-of c.args.layout, c.requires.1)

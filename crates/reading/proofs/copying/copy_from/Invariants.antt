@@ -10,7 +10,8 @@ use Rattle.reading.proofs.copying.copy_from.Given as goal
 
 abbrev pub invariant-loop-out : goal.invariant-loop-out
 invariant-loop-out l =
-    (g : Geometry) → CopyReady g l.img l.initial.out l.firsts (address_of l.initial.at) → Copying g l.img l.initial.out (address_of l.initial.at) (address_of l.at) l.out (254 * l.sectors) l.sectors
+    (g : Geometry) → CopyReady g l.img l.initial.out l.firsts (address_of l.initial.at)
+    → Copying g l.img l.initial.out (address_of l.initial.at) (address_of l.at) l.out (254 * l.sectors) l.sectors
 
 abbrev pub decreases-loop-out : goal.decreases-loop-out
 decreases-loop-out l = 769 - l.sectors

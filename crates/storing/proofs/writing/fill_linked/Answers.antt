@@ -9,9 +9,8 @@ use Rattle.storing.proofs.writing.fill_linked.Goals as goal
 
 pub returns : goal.returns
 returns c =
-    let b = c in
-    let a = b.args in
+    let a = c.args in
     let t : Bytes = set (set a.sector.now 0 (a.next / 256)) 1 (a.next % 256) in
-    let long : length t ≡ 256 = simp length-set b.requires.0 in
+    let long : length t ≡ 256 = simp length-set c.requires.0 in
     rest_filled t a.content.now 2 (omega arith) c.copy_from_slice.ensures.after
-    ∙ linked-filled a.sector.now a.content.now (a.next / 256) (a.next % 256) b.requires.0 b.requires.1
+    ∙ linked-filled a.sector.now a.content.now (a.next / 256) (a.next % 256) c.requires.0 c.requires.1

@@ -6,7 +6,6 @@ use Rattle.storing.proofs.writing.grow_directory.Goals as goal
 
 pub returns : goal.returns
 returns c =
-    let b = c in
-    directory-grown _ (known_of b.args.layout) b.requires
+    directory-grown _ (known_of c.args.layout) c.requires
     c.empty_directory_sector.ensures
     c.write_sector.ensures c.overwrite_in.ensures (omega arith) (omega arith)

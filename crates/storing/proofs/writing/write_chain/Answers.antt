@@ -1,4 +1,5 @@
--- `storing::writing::write_chain` meets its contract: the loop's invariant says what is written from place i on, whatever image the last sector was written on (proofs/ChainWriteLaws). Assumes nothing.
+-- `storing::writing::write_chain` meets its contract: the loop's invariant says what is written from place i on, whatever image the last
+-- sector was written on (proofs/ChainWriteLaws). Assumes nothing.
 use Prim.Native.Nat.{◌-◌}
 use native.Mathlib.Omega.{arith}
 use mathlib.Core.Path.{refl}
@@ -12,7 +13,6 @@ loop-i-preserved c =
 
 pub returns : goal.returns
 returns c =
-    let b = c in
     let w = c.write_last.ensures in
     let l = c.loop-i in
-    chain-written _ (l.invariant.writing _ _ (writing-last _ (omega (arith, b.requires.some)) w)) (omega arith)
+    chain-written _ (l.invariant.writing _ _ (writing-last _ (omega (arith, c.requires.some)) w)) (omega arith)

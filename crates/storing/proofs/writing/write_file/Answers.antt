@@ -1,4 +1,5 @@
--- `storing::writing::write_file` meets its contract: the data, the entry, the marks and the map together are the disk that the definitions describe (proofs/FileWriteLaws). Assumes nothing.
+-- `storing::writing::write_file` meets its contract: the data, the entry, the marks and the map together are the disk that the
+-- definitions describe (proofs/FileWriteLaws). Assumes nothing.
 use Rattle.geometry.proofs.TableLaws.{known_of}
 use native.Mathlib.Omega.{arith}
 use mathlib.Core.Path.{refl, ap, ◌∙◌}
@@ -26,24 +27,20 @@ bounds-places-0 c = omega (
 
 pub new_entry-entry-requires : goal.new_entry-entry-requires
 new_entry-entry-requires c =
-    let z = c in
-    let w = z.requires in
-    (name-short _ w.ready.asked, (kind-small _ w.ready.kind_asked).1, places-few _ (known_of z.args.layout) w)
+    let w = c.requires in
+    (name-short _ w.ready.asked, (kind-small _ w.ready.kind_asked).1, places-few _ (known_of c.args.layout) w)
 
 pub write_entry-requires : goal.write_entry-requires
 write_entry-requires c =
-    let z = c in
-    let w = z.requires in
-    entry_ready _ (known_of z.args.layout) w c.write_chain.ensures.size
+    let w = c.requires in
+    entry_ready _ (known_of c.args.layout) w c.write_chain.ensures.size
     (ap length c.new_entry-entry.ensures ∙ entry_length _ _ _ _ w.ready.asked w.ready.kind_asked)
 
 pub returns : goal.returns
 returns c =
-    let k = c in
-    let b = k in
-    file-written _ (known_of b.args.layout) b.args.places.now b.requires
-    k.write_chain.ensures
-    k.new_entry-entry.ensures k.write_entry.ensures
+    file-written _ (known_of c.args.layout) c.args.places.now c.requires
+    c.write_chain.ensures
+    c.new_entry-entry.ensures c.write_entry.ensures
     (elim c.if-place.branch [
       | goal.then-place w ↦ inl (w.if-place.true, omega arith, _, _, _, w.move_mark.ensures, refl, omega arith, w.marks-is)
       | goal.else-place w ↦ inr (w.if-place.false, w.marks-is)

@@ -5,7 +5,6 @@ use Rattle.storing.proofs.writing.write_last.Goals as goal
 
 pub returns : goal.returns
 returns c =
-    let b = c in
-    let a = b.args in
-    sector-written _ b.requires.0 c.start_of-start.ensures
-    c.fill_last.ensures (length-last_sector a.content.now b.requires.1) c.move_mark.ensures refl
+    let a = c.args in
+    sector-written _ c.requires.0 c.start_of-start.ensures
+    c.fill_last.ensures (length-last_sector a.content.now c.requires.1) c.move_mark.ensures refl

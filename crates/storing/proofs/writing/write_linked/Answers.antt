@@ -6,7 +6,6 @@ use Rattle.storing.proofs.writing.write_linked.Goals as goal
 
 pub returns : goal.returns
 returns c =
-    let b = c in
-    let a = b.args in
-    sector-written _ b.requires.0 c.start_of-start.ensures
-    c.fill_linked.ensures (omega (arith, b.requires.1)) c.move_mark.ensures refl
+    let a = c.args in
+    sector-written _ c.requires.0 c.start_of-start.ensures
+    c.fill_linked.ensures (omega (arith, c.requires.1)) c.move_mark.ensures refl
