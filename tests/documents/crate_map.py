@@ -20,11 +20,11 @@ class Tree:
 
 
 def code_of(root):
-    """The code of each crate, without its comments and without what its contracts cite."""
+    """The code of each crate, without its comments and without what its contracts and tactics cite."""
     code = {}
     for path in glob.glob(f"{root}/crates/*/src/*.rt"):
         with open(path, encoding="utf-8") as file:
-            text = re.sub(r"//.*|ghost use .*", "", file.read())
+            text = re.sub(r"//.*|ghost use .*|#!?\[tactic\(.*\)\]", "", file.read())
         name = path.split("/")[-3]
         code[name] = code.get(name, "") + text
     return code

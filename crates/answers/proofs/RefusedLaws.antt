@@ -6,6 +6,7 @@ use mathlib.Core.Bool.{true, false}
 use lib.ListN.{length}
 use borrow.Author.Tests.{eq-eqb, ne_eqb}
 use Rattle.d64spec.specs.Lists.{Bytes}
+use Rattle.std.specs.Prelude.{Result as CodeResult, Err}
 use Rattle.d64spec.specs.Answers.{Result, refused}
 use Rattle.d64spec.specs.Geometry.{Geometry, total}
 use Rattle.d64spec.specs.Image.{disk}
@@ -13,19 +14,18 @@ use Rattle.d64spec.specs.Check.{DirectoryContents, right_size, check_disk, check
 use Rattle.d64spec.specs.Reply.{Change, reply}
 use Rattle.d64spec.specs.Call.{Call, perform, attempt, output_buffer}
 use Rattle.answers.specs.declared.Fault.{Fault}
-use Rattle.answers.specs.declared.Verdict.TheVariants.{Refused}
-use Rattle.answers.specs.declared.Report.{Report}
-use Rattle.answers.specs.Faults.{fault_of, verdict_of, answer_to, reply_of}
+use Rattle.answers.specs.declared.Done.{Done}
+use Rattle.answers.specs.Faults.{fault_of, called_answer, reported, reply_of}
 
--- a report of a refusal says that refusal
-pub refused-reply : {img out : Bytes} {rep : Report} {x : Result Change} (f : Fault) → rep ≡ record { verdict = Refused f; length = 0; sectors = 0 }
+-- a refusal reports that refusal
+pub refused-reply : {img out : Bytes} {rep : CodeResult Done Fault} {x : Result Change} (f : Fault) → rep ≡ Err f
     → x ≡ refused (fault_of f)
     → reply_of rep img out ≡ reply img out x
-unfolding reply verdict_of answer_to
+unfolding reply called_answer reported
 refused-reply f e r = rw (e, r)
 
 -- THE REPLY TO A CALL that is refused, whichever it is
-pub call-refused : (g : Geometry) (img : Bytes) (c : Call) {rep : Report} (f : Fault) → rep ≡ record { verdict = Refused f; length = 0; sectors = 0 }
+pub call-refused : (g : Geometry) (img : Bytes) (c : Call) {rep : CodeResult Done Fault} (f : Fault) → rep ≡ Err f
     → attempt g img c ≡ refused (fault_of f)
     → reply_of rep img (output_buffer c) ≡ perform g img c
 unfolding perform

@@ -8,7 +8,6 @@ pub mod MapShapeLaws
 pub mod SectorLaws
 pub mod LoadLaws
 pub mod SaveLaws
-pub mod VersionLaws
 pub mod OnesLaws
 pub mod EntryLaws
 pub mod StoredLaws

@@ -4,6 +4,7 @@ use native.Mathlib.Omega.{arith}
 use native.Mathlib.Decide.{dec_le}
 use mathlib.Core.Path.{◌≡◌, refl, sym, ap, ◌∙◌}
 use mathlib.Core.List.{[]}
+use Rattle.std.specs.Prelude.{None, Some}
 use lib.ListN.{length, take, drop, get_or, set, replicate, length-take, length-set, length-replicate, get_or-replicate, get_or-eq_default}
 use lib.Seq.{get_or-take, get_or-set_same, get_or-set_other}
 use Rattle.d64spec.specs.Lists.{Bytes, byte, splice, zeros}
@@ -66,11 +67,6 @@ pub record Loading (m : Bytes) (first last at : ℕ) (es₀ es : Entries) (i : �
   pub left : with_run m i (last - i) (at + 4 * (i - first)) es ≡ with_run m first (last - first) at es₀
 
 module _ {m : Bytes} {first last at : ℕ} where
-  pub loading-start : (es : Entries) → first ≤ last → Loading m first last at es es first
-  loading-start es order =
-      let z : at + 4 * (first - first) ≡ at = omega arith in
-      record { low = omega arith; high = order; left = ap (λ (x : ℕ). with_run m first (last - first) x es) z }
-
   pub loading-moved : {es₀ es : Entries} {i : ℕ} → Loading m first last at es₀ es i → i < last → {a : ℕ} → a ≡ at + 4 * (i - first)
       → Loading m first last at es₀ (set es i (four_bytes m a)) (i + 1)
   unfolding with_run
@@ -117,35 +113,34 @@ module _ (layout : Layout) (m : Bytes) where
   front-past : (i : ℕ) → 35 ≤ i → i < 40 → get_or front i [] ≡ zeros 4
   front-past i l h = run_past m 0 35 4 no_entries i l ∙ get_or-replicate 40 i (zeros 4) [] h
 
-  -- tracks 36 to 40
-  extra-in : (extra_of layout ≡ 0 → ⊥) → (i : ℕ) → 35 ≤ i → i < 40 → get_or (with_run m 35 5 (extra_of layout) front) i [] ≡ map_entry of m (i + 1)
+  -- tracks 36 to 40, from byte q on
+  extra-in : {q : ℕ} → extra_of layout ≡ Some q → (i : ℕ) → 35 ≤ i → i < 40 → get_or (with_run m 35 5 q front) i [] ≡ map_entry of m (i + 1)
   unfolding map_entry
-  extra-in some i l h =
+  extra-in {q} some i l h =
       let z : i ≡ 35 + (i - 35) = omega arith in
-      let y : extra_of layout + 4 * (i - 35) ≡ of.map_at (i + 1) = omega (arith, place-high layout (i + 1) some (omega arith)) in
-      ap (λ (x : ℕ). get_or (with_run m 35 5 (extra_of layout) front) x []) z
-      ∙ run_in m 35 5 (extra_of layout) front (omega (arith, length_front)) (i - 35) (omega arith) ∙ ap (four_bytes m) y
+      let y : q + 4 * (i - 35) ≡ of.map_at (i + 1) = omega (arith, place-high layout (i + 1) some (omega arith)) in
+      ap (λ (x : ℕ). get_or (with_run m 35 5 q front) x []) z
+      ∙ run_in m 35 5 q front (omega (arith, length_front)) (i - 35) (omega arith) ∙ ap (four_bytes m) y
 
   -- THE MAP OF A LAYOUT with one run
-  pub loaded-front : {es : Entries} {a n p : ℕ} → es ≡ with_run m a n p no_entries → a ≡ 0 → n ≡ 35 → p ≡ 4 → extra_of layout ≡ 0 → es ≡ map_entries of m
+  pub loaded-front : {es : Entries} {a n p : ℕ} → es ≡ with_run m a n p no_entries → a ≡ 0 → n ≡ 35 → p ≡ 4 → extra_of layout ≡ None → es ≡ map_entries of m
   loaded-front is az nz pz none =
       let few = tracks-without layout none in
       (rw (az, nz, pz) at is)
       ∙ entries-known of (known_of layout) m front length_front (λ i h. front-in i (omega arith)) (λ i l h. front-past i (omega arith) h)
 
   -- THE MAP OF A LAYOUT with two
-  pub loaded-both : {es es' : Entries} {a n p a' n' p' : ℕ} → es ≡ with_run m a n p no_entries → es' ≡ with_run m a' n' p' es
-      → a ≡ 0 → n ≡ 35 → p ≡ 4 → a' ≡ 35 → n' ≡ 5 → p' ≡ extra_of layout → (extra_of layout ≡ 0 → ⊥)
+  pub loaded-both : {es es' : Entries} {a n p a' n' p' q : ℕ} → es ≡ with_run m a n p no_entries → es' ≡ with_run m a' n' p' es
+      → a ≡ 0 → n ≡ 35 → p ≡ 4 → a' ≡ 35 → n' ≡ 5 → p' ≡ q → extra_of layout ≡ Some q
       → es' ≡ map_entries of m
-  loaded-both {es} {es'} is is' az nz pz az' nz' pz' some =
+  loaded-both {es} {es'} {q = q} is is' az nz pz az' nz' pz' some =
       let forty = tracks-with layout some in
-      let extra : ℕ = extra_of layout in
-      let all : Entries = with_run m 35 5 extra front in
+      let all : Entries = with_run m 35 5 q front in
       (rw (rw (az, nz, pz) at is, az', nz', pz') at is')
-      ∙ entries-known of (known_of layout) m all (length_run m 35 5 extra front ∙ length_front)
+      ∙ entries-known of (known_of layout) m all (length_run m 35 5 q front ∙ length_front)
       (λ i h. elim (dec_le 35 i) [
         | yes l ↦ extra-in some i l (omega arith)
-        | no l ↦ run-before m 35 5 extra front i (omega arith) ∙ front-in i (omega arith)
+        | no l ↦ run-before m 35 5 q front i (omega arith) ∙ front-in i (omega arith)
       ])
       (λ i l h. absurd (omega arith))
 

@@ -4,6 +4,7 @@ use Prim.Native.Nat.{ℕ, zero, suc, ◌+◌, ◌-◌, ◌*◌, ◌≤◌, ◌<�
 use native.Mathlib.Omega.{arith}
 use mathlib.Core.Path.{◌≡◌, refl, sym, ap, ap₂, ◌∙◌}
 use mathlib.Core.List.{[]}
+use Rattle.std.specs.Prelude.{None, Some}
 use lib.ListN.{length, get_or}
 use borrow.Author.Tests.{eq-eqb, ne_eqb}
 use Rattle.d64spec.specs.Lists.{Bytes, range, splice}
@@ -24,11 +25,6 @@ pub record Storing (es : Entries) (first last at : ℕ) (m₀ m : Bytes) (i : �
   pub left : stored_run es i (last - i) (at + 4 * (i - first)) m ≡ stored_run es first (last - first) at m₀
 
 module _ {es : Entries} {first last at : ℕ} where
-  pub storing-start : (m : Bytes) → first ≤ last → Storing es first last at m m first
-  storing-start m order =
-      let z : at + 4 * (first - first) ≡ at = omega arith in
-      record { low = omega arith; high = order; size = refl; left = ap (λ (x : ℕ). stored_run es first (last - first) x m) z }
-
   pub storing-moved : {m₀ m m' : Bytes} {i : ℕ} → Storing es first last at m₀ m i → i < last → {a : ℕ} → m' ≡ splice m a (get_or es i [])
       → a ≡ at + 4 * (i - first) → length m' ≡ length m → Storing es first last at m₀ m' (i + 1)
   unfolding stored_run
@@ -87,22 +83,21 @@ module _ (layout : Layout) (es : Entries) (m : Bytes) (whole : length m ≡ 256)
   front-entered = entered-run of es 0 35 4 (λ k h. omega (arith, place-low layout (suc (0 + k)) (omega arith))) m
 
   -- THE MAP SECTOR OF A LAYOUT with one run
-  pub stored-front : {m' : Bytes} {a n p : ℕ} → m' ≡ stored_run es a n p m → a ≡ 0 → n ≡ 35 → p ≡ 4 → extra_of layout ≡ 0 → m' ≡ stored_entries of es m
+  pub stored-front : {m' : Bytes} {a n p : ℕ} → m' ≡ stored_run es a n p m → a ≡ 0 → n ≡ 35 → p ≡ 4 → extra_of layout ≡ None → m' ≡ stored_entries of es m
   unfolding stored_entries
   stored-front is az nz pz none =
       let few = tracks-without layout none in
       (rw (az, nz, pz) at is) ∙ front-entered ∙ sym (simp (eq-eqb (length m) 256 whole, few))
 
   -- THE MAP SECTOR OF A LAYOUT with two
-  pub stored-both : {m' m'' : Bytes} {a n p a' n' p' : ℕ} → m' ≡ stored_run es a n p m → m'' ≡ stored_run es a' n' p' m'
-      → a ≡ 0 → n ≡ 35 → p ≡ 4 → a' ≡ 35 → n' ≡ 5 → p' ≡ extra_of layout → (extra_of layout ≡ 0 → ⊥)
+  pub stored-both : {m' m'' : Bytes} {a n p a' n' p' q : ℕ} → m' ≡ stored_run es a n p m → m'' ≡ stored_run es a' n' p' m'
+      → a ≡ 0 → n ≡ 35 → p ≡ 4 → a' ≡ 35 → n' ≡ 5 → p' ≡ q → extra_of layout ≡ Some q
       → m'' ≡ stored_entries of es m
   unfolding stored_entries
-  stored-both {m'} {m''} is is' az nz pz az' nz' pz' some =
+  stored-both {m'} {m''} {q = q} is is' az nz pz az' nz' pz' some =
       let forty = tracks-with layout some in
-      let extra : ℕ = extra_of layout in
       let front : Bytes = entered of es (range 1 35) m in
       (rw (az', nz', pz') at is')
-      ∙ ap (stored_run es 35 5 extra) ((rw (az, nz, pz) at is) ∙ front-entered)
-      ∙ entered-run of es 35 5 extra (λ k h. omega (arith, place-high layout (suc (35 + k)) some (omega arith))) front
+      ∙ ap (stored_run es 35 5 q) ((rw (az, nz, pz) at is) ∙ front-entered)
+      ∙ entered-run of es 35 5 q (λ k h. omega (arith, place-high layout (suc (35 + k)) some (omega arith))) front
       ∙ entered-more of es 1 35 5 m ∙ sym (simp (eq-eqb (length m) 256 whole, forty))

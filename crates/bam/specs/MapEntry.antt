@@ -4,7 +4,7 @@
 use Rattle.std.specs.Prelude.{ℕ, ◌+◌, ◌-◌, ◌*◌, ◌/◌, ◌%◌, ◌^◌, min, Bool, cond, List, [], ◌∷◌, map, ltb}
 use Rattle.d64spec.specs.Lists.{Bytes, byte, sum, range}
 use Rattle.d64spec.specs.Bits.{bit_of}
-use Rattle.geometry.specs.Layout.{entry_by}
+use Rattle.d64spec.specs.Geometry.{Geometry, sectors_on}
 
 -- the bit for sector s (01, The map): bit (s mod 8) of byte 1 + (s div 8) of the entry
 unfoldable pub entry_bit : Bytes → ℕ → ℕ
@@ -18,13 +18,13 @@ bitmap_of e = byte e 1 + 256 * byte e 2 + 65536 * byte e 3
 unfoldable pub free_in : Bytes → ℕ → ℕ
 free_in e n = sum (map (entry_bit e) (range 0 n))
 
--- how many bits of an entry are track t's own sectors', by a table of each track's sectors from track 1 on: at most 24 (01, The map)
-unfoldable pub own_bits : List ℕ → ℕ → ℕ
-own_bits counts t = min (entry_by counts t) 24
+-- how many bits of an entry are the own sectors' of a track with n of them: at most 24 (01, The map)
+unfoldable pub own_bits : ℕ → ℕ
+own_bits n = min n 24
 
--- how many sectors of track t its entry marks free, by a table of each track's sectors from track 1 on (02, §4)
-abbrev pub free_on : List ℕ → Bytes → ℕ → ℕ
-free_on counts e t = free_in e (entry_by counts t)
+-- how many sectors of track t its entry marks free (02, §4)
+abbrev pub free_on : Geometry → Bytes → ℕ → ℕ
+free_on g e t = free_in e (sectors_on g t)
 
 -- the entry with this count and this bitmap: the count's lowest byte, and the bitmap's lowest three
 unfoldable pub entry_from : ℕ → ℕ → Bytes

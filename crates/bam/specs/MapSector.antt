@@ -1,7 +1,7 @@
 -- The block availability map in its sector (01, The map, 18/0) and by value: an entry of four bytes for each of up to 40 tracks, entry i
 -- for track i + 1 (02, §8).
 -- In order: entries read from a map sector, and written into one; a run of them; its DOS version.
--- Laws: proofs/LoadLaws, SaveLaws, VersionLaws; MapShapeLaws (40 entries of four bytes).
+-- Laws: proofs/LoadLaws, SaveLaws; MapShapeLaws (40 entries of four bytes).
 use Rattle.std.specs.Prelude.{ℕ, zero, suc, ◌+◌, ◌-◌, ◌*◌, ◌≤◌, Bool, cond, ◌||◌, List, [], ◌∷◌, ◌++◌, map, length, get_or, set, replicate, eqb}
 use Rattle.d64spec.specs.Lists.{Bytes, byte, range, splice, zeros}
 use Rattle.d64spec.specs.Geometry.{Geometry, tracks}

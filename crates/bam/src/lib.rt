@@ -7,48 +7,45 @@ ghost use Rattle.d64spec.specs.Lists.{splice};
 ghost use Rattle.d64spec.specs.Geometry.{sector_number, map_address};
 ghost use Rattle.d64spec.specs.Image.{disk};
 ghost use Rattle.d64spec.specs.Reply.{writable};
-ghost use Rattle.geometry.specs.Layout.{geometry_of, unpacked};
-ghost use Rattle.bam.specs.MapEntry.{bitmap_of, own_bits, free_on, entry_from, moved_entry};
+ghost use Rattle.geometry.specs.Layout.{geometry_of, address_of};
+ghost use Rattle.bam.specs.MapEntry.{bitmap_of, own_bits, free_in, entry_from, moved_entry};
 ghost use Rattle.bam.specs.Bam.{moved_mark};
 ghost use Rattle.bam.specs.MapSector.{RunFits, with_run, stored_run, map_entries, stored_entries, allows_writing};
 ghost use Rattle.bam.specs.ImageMaps.{MapWritten};
 
-use geometry::Layout;
+use geometry::{Address, Layout};
 
 // The three bitmap bytes of an entry as one number: bit s for sector s.
+#[tactic(auto, unfolding(crate::specs::MapEntry::bitmap_of))]
 pub fn bitmap_of(entry: [u8; 4]) -> u32
     ensures { result ≡ bitmap_of entry }
 {
-    entry[1] as u32 + 256 * (entry[2] as u32) + 65536 * (entry[3] as u32)
+    u32::from_le_bytes([entry[1], entry[2], entry[3], 0])
 }
 
-// How many bits of a track's entry are its own sectors': as many as it has sectors, and at most 24. How many sectors each track has is lent, from
-// track 1 on; a track that is not in the table has none.
-pub fn own_bits(track: u8, counts: &[u8; 40]) -> u8
-    ensures { result ≡ own_bits counts.now track }
+// How many bits of an entry are the own sectors' of a track with so many sectors: as many as these, and at most 24.
+#[tactic(auto, unfolding(crate::specs::MapEntry::own_bits))]
+pub fn own_bits(sectors: u8) -> u8
+    ensures { result ≡ own_bits sectors }
 {
-    let sectors = geometry::count_by(counts, track);
-    if sectors < 24 { sectors } else { 24 }
+    sectors.min(24)
 }
 
-// How many sectors of a track its entry marks free: the ones of the three bitmap bytes, counted at once, those past the track's last sector masked
-// off (02, §4).
-pub fn count_free(entry: [u8; 4], track: u8, counts: &[u8; 40]) -> u32
-    ensures { result ≡ free_on counts.now entry track }
+// How many sectors of a track with so many its entry marks free: the ones of the three bitmap bytes, counted at once, those past the track's last
+// sector masked off (02, §4).
+pub fn count_free(entry: [u8; 4], sectors: u8) -> u32
+    ensures { result ≡ free_in entry sectors }
 {
-    u32::count_ones(bitmap_of(entry) % (1 << own_bits(track, counts)))
+    (bitmap_of(entry) % (1 << own_bits(sectors))).count_ones()
 }
 
-// The entry with this count and this bitmap: the count's lowest byte, and the bitmap's lowest three.
-fn entry_of(count: u32, bits: u32) -> [u8; 4]
+// The entry with this count and this bitmap: the bitmap's lowest three bytes.
+#[tactic(auto, unfolding(crate::specs::MapEntry::entry_from))]
+fn entry_of(count: u8, bits: u32) -> [u8; 4]
     ensures { result ≡ entry_from count bits }
 {
-    [
-        (count % 256) as u8,
-        (bits % 256) as u8,
-        (bits / 256 % 256) as u8,
-        (bits / 65536 % 256) as u8,
-    ]
+    let [low, middle, high, _] = bits.to_le_bytes();
+    [count, low, middle, high]
 }
 
 // The entry with a sector marked free and counted in, or else marked used and counted out, where it was the other way before: the bitmap is one
@@ -62,25 +59,21 @@ fn moved_entry(entry: [u8; 4], sector: u8, free: bool) -> [u8; 4]
     let bit: u32 = 1 << sector;
     let bits = bitmap_of(entry);
     if free {
-        return entry_of(entry[0] as u32 + 1, bits + bit);
+        entry_of(entry[0].wrapping_add(1), bits + bit)
+    } else {
+        entry_of(entry[0].wrapping_sub(1), bits.wrapping_sub(bit))
     }
-    entry_of(entry[0] as u32 + 255, bits + (16777216 - bit))
 }
 
 // Marks the sector at a place free and counts it in, or else marks it used and counts it out. Where the map has no such mark, nothing changes.
-pub fn move_mark(map: &mut [[u8; 4]; 40], place: u16, free: bool)
-    ensures { map.new ≡ moved_mark free (unpacked place) map.old }
+pub fn move_mark(map: &mut [[u8; 4]; 40], at: Address, free: bool)
+    ensures { map.new ≡ moved_mark free (address_of at) map.old }
 {
-    let track = (place / 256) as usize;
-    if track < 1 {
+    if at.track < 1 || 40 < at.track {
         return;
     }
-    if 40 < track {
-        return;
-    }
-    let i = track - 1;
-    let entry = map[i];
-    map[i] = moved_entry(entry, (place % 256) as u8, free);
+    let i = at.track as usize - 1;
+    map[i] = moved_entry(map[i], at.sector, free);
 }
 
 // Loads the entries of the tracks first + 1 to last, which stand behind one another from `at` on.
@@ -88,11 +81,9 @@ fn load_run(map: &mut [[u8; 4]; 40], sector: &[u8], first: usize, last: usize, a
     requires { RunFits (length sector.now) first last at }
     ensures { map.new ≡ with_run sector.now first (last - first) at map.old }
 {
-    let mut i = first;
-    while i < last {
+    for i in first..last {
         let a = at + 4 * (i - first);
         map[i] = [sector[a], sector[a + 1], sector[a + 2], sector[a + 3]];
-        i += 1;
     }
 }
 
@@ -103,8 +94,7 @@ fn load_whole(layout: Layout, sector: &[u8]) -> [[u8; 4]; 40]
 {
     let mut map = [[0u8; 4]; 40];
     load_run(&mut map, sector, 0, 35, 4);
-    let extra = geometry::extra_entries(layout);
-    if extra != 0 {
+    if let Some(extra) = geometry::extra_entries(layout) {
         load_run(&mut map, sector, 35, 40, extra);
     }
     map
@@ -129,10 +119,7 @@ fn store_entry(entry: [u8; 4], sector: &mut [u8], at: usize)
     requires { at + 4 ≤ length sector.old }
     ensures { sector.new ≡ splice sector.old at entry }
 {
-    sector[at] = entry[0];
-    sector[at + 1] = entry[1];
-    sector[at + 2] = entry[2];
-    sector[at + 3] = entry[3];
+    sector[at..at + 4].copy_from_slice(&entry);
 }
 
 // Puts the entries of the tracks first + 1 to last behind one another, from `at` on.
@@ -140,10 +127,8 @@ fn store_run(map: &[[u8; 4]; 40], sector: &mut [u8], first: usize, last: usize, 
     requires { RunFits (length sector.old) first last at }
     ensures { sector.new ≡ stored_run map.now first (last - first) at sector.old }
 {
-    let mut i = first;
-    while i < last {
+    for i in first..last {
         store_entry(map[i], sector, at + 4 * (i - first));
-        i += 1;
     }
 }
 
@@ -155,21 +140,18 @@ pub fn store_map(layout: Layout, map: &[[u8; 4]; 40], sector: &mut [u8])
         return;
     }
     store_run(map, sector, 0, 35, 4);
-    let extra = geometry::extra_entries(layout);
-    if extra != 0 {
+    if let Some(extra) = geometry::extra_entries(layout) {
         store_run(map, sector, 35, 40, extra);
     }
 }
 
 // Whether the DOS version in a map sector, its byte 2, allows writing: $41 or $00. A byte past the end of a slice that is too short reads as 0.
+#[tactic(auto, unfolding(crate::specs::MapSector::allows_writing))]
 fn allows_writing(sector: &[u8]) -> bool
     ensures { result ≡ allows_writing sector.now }
 {
     let version = parts::byte_at(sector, 2);
-    if version == 0x41 {
-        return true;
-    }
-    version == 0
+    version == 0x41 || version == 0
 }
 
 // The number of 18/0, in every layout.

@@ -1,35 +1,31 @@
 -- Tell as a host call (01, Tell; Host calls): the 25 bytes, the entry that they are put into, and the reply.
 -- Assumes nothing.
-use Prim.Native.Nat.{ℕ, suc, ◌/◌, ◌%◌, ◌≤◌, ◌<◌}
-use native.Mathlib.Omega.{arith}
+use Prim.Native.Nat.{ℕ, ◌/◌, ◌%◌, ◌≤◌, ◌<◌}
 use native.Mathlib.Nat.{zero-add}
-use mathlib.Core.Path.{◌≡◌, refl, ap, ap₂, sym, ◌∙◌}
-use mathlib.Core.Bool.{Bool, true, false}
+use mathlib.Core.Path.{◌≡◌, ap, ap₂, sym, ◌∙◌}
 use mathlib.Core.List.{[], ◌∷◌, ◌++◌, map}
-use lib.ListN.{length, drop, get_or}
+use borrow.Rule.Slice.PartMut.{put_mid}
+use lib.ListN.{length, drop, get_or, set}
 use lib.Seq.{ext_get_or}
 use lib.Dec.{leb}
 use borrow.Author.Tests.{le-leb, lt-leb}
-use Rattle.d64spec.specs.Lists.{Bytes, range, splice}
-use Rattle.d64spec.specs.Answers.{unplaced, answer_of, wrong_buffer, Result, refused, done, ◌>>=◌, ◌>>◌, need}
-use Rattle.d64spec.specs.Answers as answer
+use Rattle.d64spec.specs.Lists.{Bytes, range, splice, zeros}
+use Rattle.d64spec.specs.Answers.{wrong_buffer, Result, done, ◌>>=◌, ◌>>◌, need}
 use Rattle.d64spec.specs.Geometry.{Geometry}
-use Rattle.d64spec.specs.Reply.{Change, unchanged, Reply, reply}
-use Rattle.d64spec.specs.Read.{FileInformation as Information, TellReply, call_tell, tell_reply}
+use Rattle.d64spec.specs.Reply.{Change, reply}
+use Rattle.d64spec.specs.Read.{FileInformation as Information, call_tell}
 use Rattle.d64spec.specs.Host.{little_endian}
 use Rattle.d64spec.proofs.ListLaws.{get_or-map-range}
-use Rattle.d64spec.proofs.RefusalLaws.{fault-number}
-use Rattle.answers.specs.Faults.{fault_of, verdict_of, answer_to, reply_of}
-use Rattle.answers.specs.declared.Verdict.{Verdict}
-use Rattle.answers.specs.declared.Verdict.TheVariants.{Fine, Refused}
+use Rattle.std.specs.Prelude.{Err, Ok, IsErrAnd, Result as CodeResult}
+use Rattle.answers.specs.Faults.{fault_of, result_of, called_answer, reported, reply_of}
+use Rattle.answers.specs.declared.Done.{Done}
 use Rattle.answers.specs.declared.Fault.{Fault}
 use Rattle.answers.specs.declared.Fault.TheVariants.{WrongBuffer}
-use Rattle.answers.specs.declared.Report.{Report}
 use Rattle.answers.proofs.AnswerLaws.{four-low-first}
-use Rattle.reading.specs.Replies.{information_of, tell_reply_of}
-use Rattle.reading.specs.declared.Told.{Told}
+use Rattle.reading.specs.Replies.{information_of}
+use Rattle.reading.specs.declared.FileInformation.{FileInformation}
 use Rattle.d64.specs.HostForms.{entry_bytes, tell_into}
-use Rattle.d64.specs.HostCalls.{entry_after, EntryGiven}
+use Rattle.d64.proofs.HostLaws.{refused-replied}
 
 -- ---- the 25 bytes
 
@@ -49,63 +45,36 @@ entry-bytes-of i full =
     (sixteen i.name_bytes full)
     (four-low-first i.byte_length)
 
--- ---- the entry
-
--- what was refused leaves the entry
-pub given-refused : {v : Verdict} {f : Fault} (bs entry : Bytes) → v ≡ Refused f → EntryGiven v bs entry (Refused f) entry
-unfolding verdict_of entry_after
-given-refused bs entry is = record { verdict = rw is; filled = refl }
-
--- an entry that is too short is left
-pub given-short : {v : Verdict} (bs entry : Bytes) → v ≡ Fine → length entry < length bs → EntryGiven v bs entry (Refused WrongBuffer) entry
-unfolding verdict_of fault_of entry_after
-given-short bs entry is short = record { verdict = rw (is, lt-leb (length bs) (length entry) short); filled = refl }
-
--- the bytes copied to the start of the entry
-pub given-filled : {v : Verdict} (bs entry front : Bytes) → v ≡ Fine → length bs ≤ length entry → front ≡ bs
-    → EntryGiven v bs entry Fine (front ++ drop (length bs) entry)
-unfolding verdict_of entry_after
-given-filled bs entry front is fits copied =
-    record {
-      verdict = rw (is, le-leb (length bs) (length entry) fits);
-      filled = ap (λ (x : Bytes). x ++ drop (length bs) entry) copied ∙ rw zero-add;
-    }
+-- the same put together: the name, the count and the length copied into 25 zeros
+module _ (i : Information) (full : length i.name_bytes ≡ 16) where
+  pub entry-copied : {name count size : Bytes} → name ≡ i.name_bytes → count ≡ (i.sector_count % 256 ∷ i.sector_count / 256 % 256 ∷ [])
+      → size ≡ (i.byte_length % 256 ∷ i.byte_length / 256 % 256 ∷ i.byte_length / 65536 % 256 ∷ i.byte_length / 16777216 % 256 ∷ [])
+      → put_mid 21 4 (put_mid 19 2 (set (set (put_mid 1 16 (set (zeros 25) 0 i.type_byte) name) 17 i.first_track) 18 i.first_sector) count) size
+      ≡ entry_bytes i
+  entry-copied {name} {count} {size} named counted sized = rw (counted, sized, named ∙ sym (sixteen i.name_bytes full)) (entry-bytes-of i full)
 
 -- ---- the reply
 
--- no refusal has the answer 0
-refused-is-not-done : {A : Type 0} (f : answer.Fault) → answer_of f ≡ unplaced 0 → A
-refused-is-not-done f e = absurd (let h : (answer_of f).number ≡ suc (fault-number f).0 = (fault-number f).1 in
-    omega (arith, ap (λ (a : answer.Answer). a.number) e))
+module _ (g : Geometry) (img entry : Bytes) (position : ℕ) where
+  -- what was refused leaves the entry
+  pub tell-refused : (f : Fault) (outcome : CodeResult Done Fault) → result_of information_of (Err f) ≡ call_tell g img position
+      → IsErrAnd outcome (λ e. e ≡ f) → reply_of outcome img entry ≡ reply img entry (tell_into g img position entry)
+  unfolding result_of tell_into
+  tell-refused f outcome e passed = refused-replied f outcome passed img entry ∙ ap (λ (x : Result Information). reply img entry (x >>= put)) e
+    where
+      put : Information → Result Change
+      put i = need (leb 25 (length entry)) wrong_buffer >>
+          done (record { image_after = img; output_after = splice entry 0 (entry_bytes i); reported_length = 0; reported_sectors = 0 })
 
-module _ (img : Bytes) (entry : Bytes) where
-  -- the change of a tell that is done
-  abbrev filled_with : Bytes → Change
-  filled_with bs = record { image_after = img; output_after = splice entry 0 bs; reported_length = 0; reported_sectors = 0 }
+  module _ (i : FileInformation) (told : result_of information_of (Ok i) ≡ call_tell g img position) where
+    -- so does an entry that is too short
+    pub tell-short : length entry < 25 → reply_of (Err WrongBuffer) img entry ≡ reply img entry (tell_into g img position entry)
+    unfolding result_of tell_into reply called_answer reported fault_of
+    tell-short short = rw (← told, lt-leb 25 (length entry) short)
 
-  -- what the host sees of a verdict on these bytes
-  abbrev verdict_reply : Bytes → Result (Unit {0}) → Reply
-  verdict_reply bs w = record { answer = answer_to w; change = record { image_after = img; output_after = entry_after bs entry w; reported_length = 0; reported_sectors = 0 } }
-
-  -- what was told, then the length of the entry: the same refusals in the same order
-  told-then : (bs : Bytes) (fits : Bool) (w : Result (Unit {0})) (x : Result Information) → answer_to w ≡ (tell_reply x).answer
-      → bs ≡ entry_bytes (tell_reply x).information
-      → verdict_reply bs (w >> need fits wrong_buffer) ≡ reply img entry (x >>= (λ i. need fits wrong_buffer >> done (filled_with (entry_bytes i))))
-  unfolding answer_to tell_reply reply entry_after
-  told-then bs fits (refused f) (refused f') answered built = ap (λ a. record { answer = a; change = unchanged img entry }) answered
-  told-then bs fits (refused f) (done i) answered built = refused-is-not-done f answered
-  told-then bs fits (done u) (refused f) answered built = refused-is-not-done f (sym answered)
-  told-then bs false (done u) (done i) answered built = refl
-  told-then bs true (done u) (done i) answered built = ap (λ b. record { answer = unplaced 0; change = filled_with b }) built
-
-  -- what was told, given to the entry and reported with 0 and 0, is the reply to the tell
-  pub tell-replied : (g : Geometry) (position : ℕ) (t : Told) (bs : Bytes) (v : Verdict) (entry' : Bytes) (report : Report)
-      → tell_reply_of t ≡ tell_reply (call_tell g img position)
-      → length bs ≡ 25 → bs ≡ entry_bytes (information_of t.information) → EntryGiven t.verdict bs entry v entry'
-      → report ≡ record { verdict = v; length = 0; sectors = 0 }
-      → reply_of report img entry' ≡ reply img entry (tell_into g img position entry)
-  unfolding tell_into
-  tell-replied g position t bs v entry' report replied size built given reported =
-      rw (reported, given.filled, given.verdict, size)
-      (told-then bs (leb 25 (length entry)) (verdict_of t.verdict) (call_tell g img position) (ap (λ (r : TellReply). r.answer) replied)
-      (built ∙ ap (λ (r : TellReply). entry_bytes r.information) replied))
+    -- the bytes copied to the start of the entry, and a report of 0 and 0
+    pub tell-filled : 25 ≤ length entry → {bs front : Bytes} {d : Done} → bs ≡ entry_bytes (information_of i) → front ≡ bs → length bs ≡ 25
+        → (d.length ≡ 0) × (d.sectors ≡ 0)
+        → reply_of (Ok d) img (front ++ drop 25 entry) ≡ reply img entry (tell_into g img position entry)
+    unfolding result_of tell_into reply called_answer reported
+    tell-filled fits built copied size none = rw (← told, le-leb 25 (length entry) fits, none.0, none.1, copied, ← built, size, zero-add)

@@ -4,7 +4,7 @@ use Rattle.std.specs.Prelude.{ℕ, cond, ◌∷◌, ◌++◌, length, eqb, leb}
 use Rattle.d64spec.specs.Lists.{Bytes, splice}
 use Rattle.d64spec.specs.Answers.{answer_of, wrong_buffer, Result, done, ◌>>=◌, ◌>>◌, need}
 use Rattle.d64spec.specs.Geometry.{Geometry}
-use Rattle.d64spec.specs.Reply.{Change, reply}
+use Rattle.d64spec.specs.Reply.{Change, Reply, reply}
 use Rattle.d64spec.specs.Read.{FileInformation, call_tell}
 use Rattle.d64spec.specs.Listing.{call_listing}
 use Rattle.d64spec.specs.Layouts.{layout_numbered}
@@ -33,6 +33,13 @@ unfoldable pub list_into : Geometry → Bytes → Bytes → Result Change
 list_into g b text = do
   l ← call_listing g b text
   done (record { image_after = b; output_after = l.output_after; reported_length = l.reported_length; reported_sectors = 0 })
+
+-- the replies of both, where the layout is named by its number: 17 where it has none (02, §8)
+unfoldable pub tell_in : ℕ → Bytes → ℕ → Bytes → Reply
+tell_in n img position entry = reply img entry (layout_numbered n >>= (λ g. tell_into g img position entry))
+
+unfoldable pub listing_in : ℕ → Bytes → Bytes → Reply
+listing_in n b text = reply b text (layout_numbered n >>= (λ g. list_into g b text))
 
 -- both as host calls that name a layout by its number (02, §8): 17, behind the block and before all else, where it has none
 unfoldable pub host_tell_in : ℕ → Bytes → Bytes → ℕ → Bytes → HostReply

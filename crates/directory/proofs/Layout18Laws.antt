@@ -20,12 +20,9 @@ use Rattle.d64spec.proofs.SumLaws.{indicator-le}
 use Rattle.d64spec.proofs.BitLaws.{binary-same}
 use Rattle.d64spec.proofs.BoundLaws.{sector_number-lt, directory_link-on}
 use Rattle.d64spec.proofs.WalkLaws.{walk-enough}
-use Rattle.answers.specs.declared.Verdict.{Verdict}
-use Rattle.answers.specs.declared.Verdict.TheVariants.{Fine, Refused}
-use Rattle.answers.specs.Faults.{where_fine}
 use Rattle.owners.specs.OwnerTable.{with_owner, map_table, directory_table, directory_owner, map_owner}
 use Rattle.owners.specs.Masks.{owned_bit, owned_mask}
-use Rattle.directory.specs.Directories.{table_after, track_directory}
+use Rattle.directory.specs.Directories.{track_directory}
 use Rattle.directory.specs.Walks.{layout18}
 use Rattle.directory.proofs.SlotListLaws.{disk-of-track18}
 use Rattle.directory.proofs.Track18Laws.{InDirectory, on-18, decoded-inside18}
@@ -184,13 +181,11 @@ module _ (g : Geometry) (nineteen : sectors_on g 18 ≡ 19) where
       agree-zeros (first_on g 18) (first_on layout18 18) (total g) (total layout18)
       (omega (arith, sector_number-lt g (address 18 18) (on-18 g nineteen 18))) (omega (arith, first-18, total-18))
 
-  agree_after : (v : Verdict) (ss : List ℕ)
-      → Agree (first_on g 18) (first_on layout18 18) (table_after g (where_fine v (on18 ss))) (table_after layout18 (where_fine v (on18 ss)))
-  unfolding where_fine table_after directory_table map_table
-  agree_after (Refused f) ss = agree-nobody
-  agree_after Fine ss = agree-owner directory_owner ss _ _ (agree-owner map_owner (0 ∷ []) _ _ agree-nobody)
+  agree_after : (ss : List ℕ) → Agree (first_on g 18) (first_on layout18 18) (directory_table g (on18 ss)) (directory_table layout18 (on18 ss))
+  unfolding directory_table map_table
+  agree_after ss = agree-owner directory_owner ss _ _ (agree-owner map_owner (0 ∷ []) _ _ agree-nobody)
 
   -- WHO OWNS A SECTOR OF TRACK 18 after the walk is the same in every layout
-  pub used-18 : (v : Verdict) (ss : List ℕ)
-      → owned_mask (table_after g (where_fine v (on18 ss))) (first_on g 18) 19 ≡ owned_mask (table_after layout18 (where_fine v (on18 ss))) (first_on layout18 18) 19
-  used-18 v ss = agree-mask (first_on g 18) (first_on layout18 18) _ _ (agree_after v ss)
+  pub used-18 : (ss : List ℕ)
+      → owned_mask (directory_table g (on18 ss)) (first_on g 18) 19 ≡ owned_mask (directory_table layout18 (on18 ss)) (first_on layout18 18) 19
+  used-18 ss = agree-mask (first_on g 18) (first_on layout18 18) _ _ (agree_after ss)

@@ -7,4 +7,5 @@ pub mod RepeatLaws
 pub mod EntryLaws
 pub mod PairLaws
 pub mod SearchLaws
+pub mod FoundLaws
 pub mod ReadLaws

@@ -12,24 +12,22 @@ use Rattle.d64spec.specs.Lists.{Bytes, All, zeros}
 use Rattle.d64spec.specs.Answers.{Address, address, Result, refused, done, ◌>>=◌}
 use Rattle.d64spec.specs.Geometry.{sector_number, map_address, directory_start}
 use Rattle.d64spec.specs.Image.{disk}
-use Rattle.d64spec.specs.Chain.{Link, ends, to, bad, decode_directory_link, directory_link, steps, walk}
+use Rattle.d64spec.specs.Chain.{Link, ends, to, bad, decode_directory_link, directory_link}
 use Rattle.d64spec.specs.Listing.{disk_of_track18}
 use Rattle.d64spec.proofs.BoundLaws.{directory_link-on}
 use Rattle.sectors.proofs.SectorLaws.{byte-disk, byte-disk-first}
 use Rattle.geometry.specs.Layout.{address_of}
 use Rattle.geometry.specs.declared.Address.{Address as CodeAddress}
-use Rattle.answers.specs.Faults.{where_fine, fault_of}
+use Rattle.answers.specs.Faults.{fault_of}
 use Rattle.answers.specs.declared.Place.{Place}
-use Rattle.answers.specs.declared.Verdict.{Verdict}
 use Rattle.answers.specs.declared.Fault.TheVariants.{BadLink, AlreadyOwned}
-use Rattle.answers.specs.declared.Verdict.TheVariants.{Fine, Refused}
-use Rattle.owners.specs.OwnerTable.{owned, with_owner, directory_owner}
+use Rattle.owners.specs.OwnerTable.{with_owner, directory_owner}
 use Rattle.owners.specs.Masks.{owned_mask}
 use Rattle.owners.proofs.MaskLaws.{mask_lt, mask-more}
 use Rattle.owners.proofs.TableLaws.{free_count, free_count-le, free_count-set}
 use Rattle.owners.proofs.Walking.{Walking, walking_start, walking-ends, walking-bad, walking-owned, walking-moved}
 use Rattle.directory.specs.Directories.{sectors_of}
-use Rattle.directory.specs.Walks.{layout18, Marked, marked, Walked}
+use Rattle.directory.specs.Walks.{layout18, Marked, marked, directory_walk, IsWalk}
 use Rattle.directory.proofs.Track18Laws.{InDirectory, decoded-inside18, on-18}
 use Rattle.directory.proofs.Layout18Laws.{sectors-of-18, total-18, place-18}
 
@@ -135,11 +133,6 @@ marked_next before own r (done l) =
 
 -- ---- the invariant
 
--- the definition's walk of the directory from a table, with the table after it
-abbrev pub directory_walk : Bytes → List ℕ → Result Marked
-directory_walk b own = marked own (walk layout18 (directory_link layout18) (disk_of_track18 layout18 b) (steps layout18) (owned own) map_address 255
-    (to directory_start))
-
 -- the walk along track 18's bytes b, where `before` was met and 18/holder holds the link k; the outcome is o
 abbrev pub Along : Bytes → Result Marked → List Address → List ℕ → ℕ → Link → Type 0
 Along b o before own holder k = Walking layout18 (directory_link layout18) (disk_of_track18 layout18 b) marked_after 255 o before own (address 18 holder) k
@@ -222,32 +215,29 @@ module _ {b : Bytes} {o : Result Marked} {own ss : List ℕ} {n holder next used
 
 -- ---- the ends
 
-module _ {b own₀ own ss : List ℕ} {n holder used : ℕ} (m : used ≡ owned_mask own 0 19) where
-  module _ (k : Link) (w : Walks b (directory_walk b own₀) own ss n holder k) where
-    -- whatever the verdict is, the array is as it should be
-    walked-with : (v : Verdict) → where_fine v (record { sectors = sectors_of ss n; table = own }) ≡ directory_walk b own₀
-        → Walked b own₀ (record { verdict = v; sectors = ss; count = n; used = used }) own
-    walked-with v e =
-        let places : n + free_places own ≤ 18 = w.places in
-        record { told = e; rest = w.gathered.rest; few = omega arith; inside = w.gathered.inside; used = m }
+module _ {b own ss : List ℕ} {n holder : ℕ} where
+  pub walked-ends : {own₀ : List ℕ} {used : ℕ} → used ≡ owned_mask own 0 19 → Walks b (directory_walk b own₀) own ss n holder ends
+      → IsWalk b own₀ (record { sectors = ss; count = n; used = used }) own
+  unfolding marked_after
+  walked-ends m w =
+      let places : n + free_places own ≤ 18 = w.places in
+      record {
+        told =
+            sym (ap (λ (l : List Address). done (record { sectors = l; table = own })) (sym (append-nil (sectors_of ss n)))
+            ∙ walking-ends layout18 (directory_link layout18) (disk_of_track18 layout18 b) marked_after 255 w.walking);
+        rest = w.gathered.rest;
+        few = omega arith;
+        inside = w.gathered.inside;
+        used = m;
+      }
 
-  pub walked-ends : Walks b (directory_walk b own₀) own ss n holder ends → Walked b own₀ (record { verdict = Fine; sectors = ss; count = n; used = used }) own
-  unfolding where_fine marked_after
-  walked-ends w =
-      walked-with ends w Fine
-      (ap (λ (l : List Address). done (record { sectors = l; table = own })) (sym (append-nil (sectors_of ss n)))
-      ∙ walking-ends layout18 (directory_link layout18) (disk_of_track18 layout18 b) marked_after 255 w.walking)
+  pub walked-bad : {o : Result Marked} {p : Place} → p ≡ record { track = 18; sector = holder; slot = 255 } → Walks b o own ss n holder bad
+      → o ≡ refused (fault_of (BadLink p))
+  unfolding fault_of marked_after
+  walked-bad place w = sym (rw place (walking-bad layout18 (directory_link layout18) (disk_of_track18 layout18 b) marked_after 255 w.walking))
 
-  pub walked-bad : {p : Place} → p ≡ record { track = 18; sector = holder; slot = 255 } → Walks b (directory_walk b own₀) own ss n holder bad
-      → Walked b own₀ (record { verdict = Refused (BadLink p); sectors = ss; count = n; used = used }) own
-  unfolding where_fine fault_of marked_after
-  walked-bad {p} place w = walked-with bad w (Refused (BadLink p))
-      (rw place (walking-bad layout18 (directory_link layout18) (disk_of_track18 layout18 b) marked_after 255 w.walking))
-
-  pub walked-owned : {p : Place} {next : ℕ} → p ≡ record { track = 18; sector = holder; slot = 255 }
-      → Walks b (directory_walk b own₀) own ss n holder (to (address 18 next)) → (get_or own next 0 ≡ 0 → ⊥)
-      → Walked b own₀ (record { verdict = Refused (AlreadyOwned p); sectors = ss; count = n; used = used }) own
-  unfolding where_fine fault_of marked_after
-  walked-owned {p} {next} place w h =
-      walked-with (to (address 18 next)) w (Refused (AlreadyOwned p))
-      (rw place (walking-owned layout18 (directory_link layout18) (disk_of_track18 layout18 b) marked_after 255 w.walking (rw (place-18 next) h)))
+  pub walked-owned : {o : Result Marked} {p : Place} {next : ℕ} → p ≡ record { track = 18; sector = holder; slot = 255 }
+      → Walks b o own ss n holder (to (address 18 next)) → (get_or own next 0 ≡ 0 → ⊥) → o ≡ refused (fault_of (AlreadyOwned p))
+  unfolding fault_of marked_after
+  walked-owned {next = next} place w h =
+      sym (rw place (walking-owned layout18 (directory_link layout18) (disk_of_track18 layout18 b) marked_after 255 w.walking (rw (place-18 next) h)))

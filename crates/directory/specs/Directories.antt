@@ -1,15 +1,17 @@
 -- The directory of track 18's bytes, as the code holds it (01, The directory; Order of the check, step 2).
--- In order: directory sectors; slots by number; the first slot that repeats a name; what reading the directory gives.
+-- In order: directory sectors; slots by number; the first slot that repeats a name; a slot found; what reading the directory gives.
 -- Laws: proofs/SlotBytesLaws (one slot), SlotListLaws (the slots by number are d64spec's), RepeatLaws, Track18Laws (an image's track 18), ReadLaws.
-use Rattle.std.specs.Prelude.{ℕ, zero, suc, ◌*◌, ◌-◌, ◌/◌, ◌%◌, ◌≤◌, ◌<◌, ◌≡◌, Bool, cond, not, ◌&&◌, List, [], ◌∷◌, ◌++◌, map, length, take, get_or, eqb, ltb}
+use Rattle.std.specs.Prelude.{ℕ, zero, suc, ◌*◌, ◌-◌, ◌/◌, ◌%◌, ◌≤◌, ◌<◌, ◌≡◌, eqb, ltb, Bool, cond, not, ◌&&◌}
+use Rattle.std.specs.Prelude.{List, [], ◌∷◌, ◌++◌, map, length, take, get_or, Option, Some, None, Result as CodeResult, Ok, Err}
 use Rattle.d64spec.specs.Lists.{Bytes, All, filter, range, zeros, name_count}
 use Rattle.d64spec.specs.Answers.{Address, address, wrong_size, bad_type, bad_name, duplicate_name, Result, refused, done, ◌>>◌, need}
-use Rattle.d64spec.specs.Geometry.{Geometry, total, sectors_on, first_on}
+use Rattle.d64spec.specs.Geometry.{Geometry, sectors_on, first_on}
 use Rattle.d64spec.specs.Image.{disk}
 use Rattle.d64spec.specs.Directory.{Slot, is_empty, entry_byte, valid_type, valid_name, name_field, name_of, slot_in}
 use Rattle.d64spec.specs.Check.{check_directory}
 use Rattle.d64spec.specs.Listing.{disk_of_track18}
-use Rattle.answers.specs.Faults.{where_fine}
+use Rattle.answers.specs.declared.Fault.{Fault}
+use Rattle.answers.specs.Faults.{fault_of}
 use Rattle.owners.specs.OwnerTable.{directory_table}
 use Rattle.owners.specs.Masks.{owned_mask}
 use Rattle.directory.specs.declared.Directory.{Directory}
@@ -54,6 +56,10 @@ abbrev pub first_repeated : Bytes → List ℕ → ℕ → ℕ → ℕ
 first_repeated b ss k zero = k
 first_repeated b ss k (suc n) = cond (repeats b ss k) k (first_repeated b ss (suc k) n)
 
+-- the slot k that a search among those below the end met: none where it met the end
+abbrev pub found : ℕ → ℕ → Option ℕ
+found end k = cond (ltb k end) (Some k) None
+
 -- kind and flags, name, name used by an earlier slot, of an occupied slot with bytes b (01, Order of the check, 3)
 unfoldable pub entry_verdict : Bytes → Address → ℕ → Bool → Result (Unit {0})
 entry_verdict b holder number repeated = do
@@ -65,22 +71,17 @@ entry_verdict b holder number repeated = do
 unfoldable pub track_directory : Geometry → Bytes → Result (List Address)
 track_directory g b = need (eqb (length b) (256 * sectors_on g 18)) wrong_size >> check_directory g (disk_of_track18 g b)
 
--- how many directory sectors there are: none where the walk is refused
-unfoldable pub sector_count : Result (List Address) → ℕ
-sector_count (refused f) = 0
-sector_count (done ds) = length ds
+-- d is the directory of track 18's bytes b, in a layout whose track 18 has 19 sectors
+pub record IsDirectory (g : Geometry) (b : Bytes) (d : Directory) : Type 0 where
+  pub walked : track_directory g b ≡ done (sectors_of d.sectors d.count)
+  pub count : d.count ≡ length (sectors_of d.sectors d.count)
+  pub rest : d.sectors ≡ take d.count d.sectors ++ zeros (18 - d.count)
+  pub few : d.count ≤ 18
+  pub inside : All (λ s. s < 19) d.sectors
+  pub repeated : d.repeated ≡ found (8 * d.count) (first_repeated b d.sectors 0 (8 * d.count))
+  pub used : d.used ≡ owned_mask (directory_table g (sectors_of d.sectors d.count)) (first_on g 18) 19
 
--- the owner table after the walk: nobody's where it is refused
-unfoldable pub table_after : Geometry → Result (List Address) → List ℕ
-table_after g (refused f) = zeros (total g)
-table_after g (done ds) = directory_table g ds
-
--- what reading the directory of track 18's bytes b gives, in a layout whose track 18 has 19 sectors
-pub record DirectoryRead (g : Geometry) (b : Bytes) (r : Directory) : Type 0 where
-  pub walked : where_fine r.verdict (sectors_of r.sectors r.count) ≡ track_directory g b
-  pub count : r.count ≡ sector_count (track_directory g b)
-  pub rest : r.sectors ≡ take r.count r.sectors ++ zeros (18 - r.count)
-  pub few : r.count ≤ 18
-  pub inside : All (λ s. s < 19) r.sectors
-  pub repeated : r.repeated ≡ first_repeated b r.sectors 0 (8 * r.count)
-  pub used : r.used ≡ owned_mask (table_after g (track_directory g b)) (first_on g 18) 19
+-- what reading the directory of track 18's bytes b gives: the directory, or the fault of step 2
+abbrev pub DirectoryRead : Geometry → Bytes → CodeResult Directory Fault → Type 0
+DirectoryRead g b (Ok d) = IsDirectory g b d
+DirectoryRead g b (Err f) = track_directory g b ≡ refused (fault_of f)

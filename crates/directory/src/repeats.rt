@@ -3,10 +3,11 @@
 // equal names have equal hashes, so that where the hash is new the name is new.
 ghost use Rattle.std.specs.Prelude.{◌≡◌, ◌≤◌, ◌<◌, length};
 ghost use Rattle.d64spec.specs.Lists.{All};
-ghost use Rattle.directory.specs.Directories.{first_repeated};
-ghost use Rattle.directory.specs.NameWords.{hash_of, holds_pair};
+ghost use Rattle.directory.specs.Directories.{first_repeated, found};
+ghost use Rattle.directory.specs.NameWords.{hash_of, holds};
 
 // A hash of a name's two words: one product, by an odd number near 2^28 over the golden ratio.
+#[tactic(auto, unfolding(crate::specs::NameWords::hash_of))]
 fn hash(x: u64, y: u64) -> usize
     ensures { result ≡ hash_of x y }
 {
@@ -14,88 +15,50 @@ fn hash(x: u64, y: u64) -> usize
     (sum * 165902235 / 16777216 % 4096) as usize
 }
 
-// Whether one of the first n names is this one.
-fn among(xs: &[u64], ys: &[u64], n: usize, x: u64, y: u64) -> bool
-    requires { (n ≤ length xs.now) × (n ≤ length ys.now) }
-    ensures { result ≡ holds_pair xs.now ys.now n x y }
+// Whether a name is one of these.
+fn among(names: &[(u64, u64)], name: (u64, u64)) -> bool
+    ensures { result ≡ holds names.now name.0 name.1 }
 {
-    let mut i: usize = 0;
-    while i < n {
-        if xs[i] == x {
-            if ys[i] == y {
-                return true;
-            }
-        }
-        i += 1;
-    }
-    false
+    names.iter().any(|other| *other == name)
 }
 
-// The first of at most eight slots, 0 to end - 1, that repeats the name field of an earlier one, or `end` where none does: each name is compared with
-// those before it, and no table of hashes is cleared for them.
-fn first_of_eight(track18: &[u8], sectors: &[u8; 18], end: usize) -> usize
-    requires { (length track18.now ≡ 4864) × (end ≤ 8) × All (λ s. s < 19) sectors.now }
-    ensures { result ≡ first_repeated track18.now sectors.now 0 end }
+// The first of the slots 0 to end - 1 that repeats the name field of an earlier one. N names are held, and their hashes in a table of H places: at a
+// place that no name passed has marked, the name is new.
+fn first_of<const N: usize, const H: usize>(
+    track18: &[u8],
+    sectors: &[u8; 18],
+    end: usize,
+) -> Option<usize>
+    requires { (length track18.now ≡ 4864) × (end ≤ N) × (N ≤ 144) × (0 < H) × All (λ s. s < 19) sectors.now }
+    ensures { result ≡ found end (first_repeated track18.now sectors.now 0 end) }
 {
-    let mut xs = [0u64; 8];
-    let mut ys = [0u64; 8];
-    let mut n: usize = 0;
-    let mut k: usize = 0;
-    while k < end {
+    let mut seen = [false; H];
+    // no heap: the array has room for all names, and n says how many there are
+    let mut names = [(0u64, 0u64); N];
+    let mut n = 0;
+    for k in 0..end {
         let slot = crate::slot_at(track18, sectors, k);
         if slot[0] != 0 {
-            let x = parts::eight_at(slot, 3);
-            let y = parts::eight_at(slot, 11);
-            if among(&xs, &ys, n, x, y) {
-                return k;
+            let name = (parts::eight_at(slot, 3), parts::eight_at(slot, 11));
+            let h = hash(name.0, name.1) % H;
+            if seen[h] && among(&names[..n], name) {
+                return Some(k);
             }
-            xs[n] = x;
-            ys[n] = y;
+            seen[h] = true;
+            names[n] = name;
             n += 1;
         }
-        k += 1;
     }
-    k
+    None
 }
 
-// The same for any number of slots, with a table of hashes.
-fn first_of_many(track18: &[u8], sectors: &[u8; 18], end: usize) -> usize
+// The same: in one directory sector, as on most disks, each name is compared with all before it, and no large table is cleared.
+pub(crate) fn first_repeated(track18: &[u8], sectors: &[u8; 18], end: usize) -> Option<usize>
     requires { (length track18.now ≡ 4864) × (end ≤ 144) × All (λ s. s < 19) sectors.now }
-    ensures { result ≡ first_repeated track18.now sectors.now 0 end }
-{
-    let mut seen = [0u8; 4096];
-    let mut xs = [0u64; 144];
-    let mut ys = [0u64; 144];
-    let mut n: usize = 0;
-    let mut k: usize = 0;
-    while k < end {
-        let slot = crate::slot_at(track18, sectors, k);
-        if slot[0] != 0 {
-            let x = parts::eight_at(slot, 3);
-            let y = parts::eight_at(slot, 11);
-            let h = hash(x, y);
-            if seen[h] != 0 {
-                if among(&xs, &ys, n, x, y) {
-                    return k;
-                }
-            }
-            seen[h] = 1;
-            xs[n] = x;
-            ys[n] = y;
-            n += 1;
-        }
-        k += 1;
-    }
-    k
-}
-
-// The same: in one directory sector, as on most disks, without the table.
-pub(crate) fn first_repeated(track18: &[u8], sectors: &[u8; 18], end: usize) -> usize
-    requires { (length track18.now ≡ 4864) × (end ≤ 144) × All (λ s. s < 19) sectors.now }
-    ensures { result ≡ first_repeated track18.now sectors.now 0 end }
+    ensures { result ≡ found end (first_repeated track18.now sectors.now 0 end) }
 {
     if end <= 8 {
-        return first_of_eight(track18, sectors, end);
+        return first_of::<8, 1>(track18, sectors, end);
     }
-    first_of_many(track18, sectors, end)
+    first_of::<144, 4096>(track18, sectors, end)
 }

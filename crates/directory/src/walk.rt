@@ -3,13 +3,13 @@ ghost use Rattle.std.specs.Prelude.{◌≡◌, length};
 ghost use Rattle.owners.specs.Masks.{owned_mask};
 ghost use Rattle.directory.specs.Walks.{Walked};
 
-use answers::{Fault, Place, Verdict};
+use answers::{Fault, Place};
 use links::Link;
 
-// The sectors walked, in link order, the verdict, and the sectors of track 18 that have an owner then: bit s for sector s.
+// The sectors walked, in link order, with zeros after them, and the sectors of track 18 that have an owner then: bit s for sector s.
+// No heap: the array has room for all, and the count beside it says how many there are. No `Directory` yet: which name is repeated is asked behind it.
 #[derive(Drop)]
 pub(crate) struct Walk {
-    pub verdict: Verdict,
     pub sectors: [u8; 18],
     pub count: usize,
     pub used: u32,
@@ -26,61 +26,39 @@ fn place_of(holder: u8) -> Place
     }
 }
 
-// What a walk gives.
-fn walk_of(verdict: Verdict, sectors: [u8; 18], count: usize, used: u32) -> Walk
-    ensures { result ≡ record { verdict = verdict; sectors = sectors; count = count; used = used } }
-{
-    Walk {
-        verdict,
-        sectors,
-        count,
-        used,
-    }
-}
-
 // Walks the directory from 18/1 on. Each sector gets the directory's number in a table of track 18's owners, and its bit among the used sectors; one
 // that has an owner is refused.
-pub(crate) fn walk_directory(track18: &[u8], own: &mut [u8; 19], marked: u32) -> Walk
-    requires { (length track18.now ≡ 4864) × (length own.old ≡ 19) × (marked ≡ owned_mask own.old 0 19) }
+pub(crate) fn walk_directory(track18: &[u8], own: &mut [u8; 19], marked: u32) -> Result<Walk, Fault>
+    requires { (length track18.now ≡ 4864) × (marked ≡ owned_mask own.old 0 19) }
     ensures { Walked track18.now own.old result own.new }
 {
     let mut sectors = [0u8; 18];
-    let mut count: usize = 0;
-    let mut holder: u8 = 0;
-    let mut next: u8 = 1;
+    let mut count = 0;
+    let mut holder = 0;
+    let mut next = 1;
     let mut used = marked;
+    // no range and no iterator: each sector read says which is next, and whether there is one
     loop {
         let n = next as usize;
         if own[n] != 0 {
-            return walk_of(
-                Verdict::Refused(Fault::AlreadyOwned(place_of(holder))),
-                sectors,
-                count,
-                used,
-            );
+            return Err(Fault::AlreadyOwned(place_of(holder)));
         }
+        // the directory's number: one byte for each sector, as the definition OwnerTable.owner_table has them
         own[n] = 2;
         used += 1 << next;
         sectors[count] = next;
         count += 1;
         holder = next;
-        let at = 256 * (next as usize);
-        let link = links::directory_link(track18[at], track18[at + 1]);
-        match link {
+        match links::directory_link(track18[256 * n], track18[256 * n + 1]) {
             Link::Ends => {
-                return walk_of(Verdict::Fine, sectors, count, used);
-            }
-            Link::Bad => {
-                return walk_of(
-                    Verdict::Refused(Fault::BadLink(place_of(holder))),
+                return Ok(Walk {
                     sectors,
                     count,
                     used,
-                );
+                });
             }
-            Link::To(at) => {
-                next = at.sector;
-            }
+            Link::Bad => return Err(Fault::BadLink(place_of(holder))),
+            Link::To(at) => next = at.sector,
         }
     }
 }

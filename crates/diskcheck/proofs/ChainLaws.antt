@@ -8,6 +8,7 @@ use mathlib.Core.Bool.{Bool, true, false, cond, ◌&&◌}
 use mathlib.Core.List.{List, ◌∷◌, map}
 use lib.ListN.{length, get_or, set, length-set}
 use lib.Dec.{eqb, ltb}
+use Rattle.std.specs.Prelude.{Result as CodeResult, Ok, Err}
 use borrow.Author.Tests.{eq-eqb, ne_eqb, lt-ltb, le-ltb, le-leb, lt-leb}
 use Rattle.d64spec.specs.Lists.{Bytes, byte}
 use Rattle.d64spec.specs.Answers.{Address, address, Result, refused, done, ◌>>=◌}
@@ -23,16 +24,16 @@ use Rattle.geometry.specs.declared.Address.{Address as CodeAddress}
 use Rattle.geometry.specs.declared.Track.{Track}
 use Rattle.geometry.proofs.LentTableLaws.{tracks-of-on_disk, IsTrack}
 use Rattle.links.proofs.LinkLaws.{link_to-at, link_to-off, file-ends, file-bad, file-to}
-use Rattle.answers.specs.Faults.{fault_of}
+use Rattle.answers.specs.Faults.{fault_of, result_of}
 use Rattle.answers.specs.declared.Place.{Place}
+use Rattle.answers.specs.declared.Fault.{Fault}
 use Rattle.answers.specs.declared.Fault.TheVariants.{BadLink, AlreadyOwned}
 use Rattle.owners.specs.OwnerTable.{with_owner}
 use Rattle.owners.specs.Masks.{Masks}
 use Rattle.owners.proofs.MaskLaws.{Gathering, gathering-lt, gathering-added, gathering-off, gathering-more}
 use Rattle.owners.proofs.TableLaws.{free_count, free_count-le}
 use Rattle.owners.proofs.Walking.{Walking, walking_start, walking-ends, walking-bad, walking-owned, walking-moved, walking-fewer}
-use Rattle.diskcheck.specs.declared.chain.Claim as claims
-use Rattle.diskcheck.specs.declared.chain.Claim.TheVariants as claim
+use Rattle.diskcheck.specs.declared.chain.Claim.{Claim}
 use Rattle.diskcheck.specs.EndTable.{end_of}
 use Rattle.diskcheck.specs.Chains.{Claimed, claim_of, claimed, held_by, claim_off, chain_walk, with_mask, MaskRoom, Ready}
 use Rattle.diskcheck.proofs.EndLaws.{last_byte, walk-last}
@@ -103,7 +104,7 @@ pub record Claims (g : Geometry) (img : Bytes) (id slot : ℕ) (o : Result Claim
   pub long : length own ≡ total g
   pub few : passed + free_count own ≤ total g
 
-pub claims-start : (g : Geometry) (img own : List ℕ) (id slot : ℕ) (from : CodeAddress) (t s : ℕ) → Ready g img own id
+pub claims-start : (g : Geometry) (img own : List ℕ) (id slot : ℕ) (from : CodeAddress) (t s : ℕ) → {used : List ℕ} → Ready g img own used slot
     → Claims g img id slot (chain_claim g img own id slot from t s) own from t s 0
 unfolding chain_walk link_after
 claims-start g img own id slot from t s ready =
@@ -146,14 +147,14 @@ claims-at g w same = rw same w
 
 -- what a link off the disk says, by cases
 module _ (t s n : ℕ) (holder : CodeAddress) (slot : ℕ) where
-  abbrev bad_here : claims.Claim
-  bad_here = claim.Refused (BadLink (held_by holder slot))
+  abbrev bad_here : CodeResult Claim Fault
+  bad_here = Err (BadLink (held_by holder slot))
 
   pub off-first : n < 1 → claim_off t s n holder slot ≡ bad_here
   unfolding claim_off
   off-first h = go (eqb t 0) (ltb 0 s)
     where
-      go : (a b : Bool) → cond (a && b && ltb 0 n) (claim.Ended n s) bad_here ≡ bad_here
+      go : (a b : Bool) → cond (a && b && ltb 0 n) (Ok (record { count = n; end = s })) bad_here ≡ bad_here
       go true true = rw (le-ltb 0 n (omega arith))
       go true false = refl
       go false b = refl
@@ -166,24 +167,24 @@ module _ (t s n : ℕ) (holder : CodeAddress) (slot : ℕ) where
   unfolding claim_off
   off_zero h = go (eqb t 0)
     where
-      go : (a : Bool) → cond (a && ltb 0 s && ltb 0 n) (claim.Ended n s) bad_here ≡ bad_here
+      go : (a : Bool) → cond (a && ltb 0 s && ltb 0 n) (Ok (record { count = n; end = s })) bad_here ≡ bad_here
       go true = rw (le-ltb 0 s (omega arith))
       go false = refl
 
-  pub off-end : t < 1 → 1 ≤ s → 1 ≤ n → claim_off t s n holder slot ≡ claim.Ended n s
+  pub off-end : t < 1 → 1 ≤ s → 1 ≤ n → claim_off t s n holder slot ≡ Ok (record { count = n; end = s })
   unfolding claim_off
   off-end h k m = rw (eq-eqb t 0 (omega arith), lt-ltb 0 s k, lt-ltb 0 n m)
 
 module _ (g : Geometry) {img : Bytes} {id slot : ℕ} {o : Result Claimed} {own : List ℕ} {holder : CodeAddress} where
   bad-off : {t s passed : ℕ} → Claims g img id slot o own holder t s passed → link_after g passed t s ≡ bad
-      → claim_of (claim.Refused (BadLink (held_by holder slot))) own ≡ o
-  unfolding claim_of fault_of claimed_after
+      → claim_of (Err (BadLink (held_by holder slot))) own ≡ o
+  unfolding result_of fault_of claimed_after
   bad-off w e = walking-bad g (file_link g) (disk img) (claimed_after g img id) slot (rw e at w.walking)
 
   -- a link off the disk ends the chain, or is bad
   off : (t s passed : ℕ) → Claims g img id slot o own holder t s passed → on_disk g (address t s) ≡ false
       → claim_of (claim_off t s passed holder slot) own ≡ o
-  unfolding claim_of claimed_after link_after last_of
+  unfolding result_of claimed_after link_after last_of
   off t s zero w e = rw (off-first t s 0 holder slot (omega arith)) (bad-off w (link_to-off g t s e))
   off (suc t) s (suc n) w e =
       rw (off-track (suc t) s (suc n) holder slot (omega arith)) (bad-off w (file-to g (suc t) s (omega arith) ∙ link_to-off g (suc t) s e))
@@ -196,7 +197,7 @@ module _ (g : Geometry) {img : Bytes} {id slot : ℕ} {o : Result Claimed} {own 
       (rw (file-ends g 0 (suc s) (omega arith) (omega arith)) at w.walking))
 
   module _ {t s passed : ℕ} (w : Claims g img id slot o own holder t s passed) where
-    pub claims-off : {q : CodeAddress} {r : claims.Claim} → r ≡ claim_off t s passed q slot → q ≡ holder → {on : Track} → IsTrack g on → t ≡ on.number
+    pub claims-off : {q : CodeAddress} {r : CodeResult Claim Fault} → r ≡ claim_off t s passed q slot → q ≡ holder → {on : Track} → IsTrack g on → t ≡ on.number
         → on.sectors ≤ s → claim_of r own ≡ o
     unfolding on_disk
     claims-off is held {on} k at e =
@@ -207,8 +208,8 @@ module _ (g : Geometry) {img : Bytes} {id slot : ℕ} {o : Result Claimed} {own 
       here = rw (after_on g passed t s r.on) at w.walking
 
       -- a sector that has an owner
-      pub claims-owned : {p : Place} → p ≡ held_by holder slot → (get_or own n 0 ≡ 0 → ⊥) → claim_of (claim.Refused (AlreadyOwned p)) own ≡ o
-      unfolding claim_of fault_of claimed_after
+      pub claims-owned : {p : Place} → p ≡ held_by holder slot → (get_or own n 0 ≡ 0 → ⊥) → claim_of (Err (AlreadyOwned p)) own ≡ o
+      unfolding result_of fault_of claimed_after
       claims-owned place h = rw place (walking-owned g (file_link g) (disk img) (claimed_after g img id) slot here (rw r.number at h))
 
       -- a sector that has none, lent as a part of the image

@@ -1,5 +1,5 @@
 -- What a call may rely on once an image is checked (01, Order of the check; What demand 3 compares).
--- In order: an image without a fault, `fine-image`; an image with one, `refused-image`; where its files end, `file-end`.
+-- In order: an image without a fault, `fine-image`; where its files end, `file-end`.
 use Prim.Native.Nat.{ℕ, ◌+◌, ◌-◌, ◌*◌, ◌≤◌, ◌<◌}
 use native.Mathlib.Omega.{arith}
 use mathlib.Core.Path.{◌≡◌, refl, sym, ap, ◌∙◌}
@@ -8,7 +8,7 @@ use lib.ListN.{length, get_or, get_or-replicate}
 use lib.Dec.{eqb}
 use borrow.Author.Tests.{eqb-true}
 use Rattle.d64spec.specs.Lists.{Bytes, byte, zeros}
-use Rattle.d64spec.specs.Answers.{Fault, wrong_size, Result, refused, done}
+use Rattle.d64spec.specs.Answers.{wrong_size, Result, refused, done}
 use Rattle.d64spec.specs.Geometry.{Geometry, total}
 use Rattle.d64spec.specs.Layouts.{Known}
 use Rattle.d64spec.specs.Image.{disk}
@@ -23,15 +23,12 @@ use Rattle.d64spec.proofs.ResultLaws.{need-done, done_inj, refused≢done}
 use Rattle.d64spec.proofs.CheckLaws.{contents, disk-sound}
 use Rattle.d64spec.proofs.SplitLaws.{all-mem}
 use Rattle.d64spec.proofs.ReadTheorem.{file-length}
-use Rattle.answers.specs.declared.Fault as code
-use Rattle.answers.specs.declared.Verdict.TheVariants.{Fine, Refused}
-use Rattle.answers.specs.Faults.{fault_of, where_fine}
 use Rattle.owners.proofs.OwnerNumberLaws.{file-of-slot, owner_number-le}
 use Rattle.directory.specs.Directories.{sectors_of}
 use Rattle.diskcheck.specs.declared.Checked.{Checked}
 use Rattle.diskcheck.specs.EndTable.{end_of, end_table}
 use Rattle.diskcheck.specs.SlotChecks.{image_occupied}
-use Rattle.diskcheck.specs.ImageChecks.{Found, found_in, directory_count, ImageChecked}
+use Rattle.diskcheck.specs.ImageChecks.{Found, found_in, IsChecked}
 use Rattle.diskcheck.proofs.EndLaws.{last_byte_lem, get_or-with_ends-kept, get_or-with_ends-same}
 use Rattle.diskcheck.proofs.TrackLaws.{sectors_of-whole, occupied-by-track18}
 
@@ -54,42 +51,29 @@ image-sound g kn img c e =
     (record { size = eqb-true _ _ h.0; content = s.0 }, s.1)
 
 -- what a check that finds something has met
-found-done : (g : Geometry) (img : Bytes) (x : Result DirectoryContents) (f : Found) → done f ≡ found_in g img x
+found-done : (g : Geometry) (img : Bytes) (x : Result DirectoryContents) (f : Found) → found_in g img x ≡ done f
     → (c : DirectoryContents) × (x ≡ done c) × (f ≡ record { directory = c.walked; ends = end_table g img c.found })
 unfolding found_in
-found-done g img (refused x) f e = refused≢done x f (sym e)
-found-done g img (done c) f e = (c, refl, done_inj e)
+found-done g img (refused x) f e = refused≢done x f e
+found-done g img (done c) f e = (c, refl, done_inj (sym e))
 
-found-refused : (g : Geometry) (img : Bytes) (x : Result DirectoryContents) (f : Fault) → refused f ≡ found_in g img x → x ≡ refused f
-unfolding found_in
-found-refused g img (refused x) f e = cc
-found-refused g img (done c) f e = refused≢done f _ e
-
-module _ (g : Geometry) (kn : Known g) {img : Bytes} {r : Checked} (checked : ImageChecked g img r) where
-  -- A REFUSED IMAGE: the definition refuses it with the same fault, at the same place
-  pub refused-image : (f : code.Fault) → r.verdict ≡ Refused f → check_image g img ≡ refused (fault_of f)
-  unfolding where_fine
-  refused-image f e = found-refused g img (check_image g img) (fault_of f) (rw e at checked.told)
-
-  -- AN IMAGE WITHOUT A FAULT
-  pub fine-image : r.verdict ≡ Fine → FineImage g img r
-  unfolding where_fine directory.occupied directory_count
-  fine-image e =
-      let told = rw e at checked.told in
-      let f = found-done g img (check_image g img) _ told in
-      let s = image-sound g kn img f.0 f.1 in
-      let sectors : sectors_of r.sectors r.count ≡ directory_sectors g (disk img)
-      = ap (λ (x : Found). x.directory) f.2 ∙ ap (λ (c : DirectoryContents). c.walked) (sym s.1) in
-      let counted : r.count ≡ length (sectors_of r.sectors r.count) = checked.count ∙ ap directory_count (sym told) in
-      let whole : r.count ≤ length r.sectors = sectors_of-whole r.sectors r.count counted in
-      record {
-        accepted = s.0;
-        contents = f.1 ∙ ap done (sym s.1);
-        sectors = sectors;
-        whole = whole;
-        occupied = ap (occupied_in g (disk img)) (sym sectors) ∙ occupied-by-track18 g kn img r.sectors r.count checked.inside whole;
-        ends = ap (λ (x : Found). x.ends) f.2 ∙ ap (λ (c : DirectoryContents). end_table g img c.found) (sym s.1);
-      }
+-- AN IMAGE WITHOUT A FAULT
+pub fine-image : (g : Geometry) (kn : Known g) {img : Bytes} {r : Checked} → IsChecked g img r → FineImage g img r
+unfolding directory.occupied
+fine-image g kn {img} {r} checked =
+    let f = found-done g img (check_image g img) _ checked.told in
+    let s = image-sound g kn img f.0 f.1 in
+    let sectors : sectors_of r.sectors r.count ≡ directory_sectors g (disk img)
+    = ap (λ (x : Found). x.directory) f.2 ∙ ap (λ (c : DirectoryContents). c.walked) (sym s.1) in
+    let whole : r.count ≤ length r.sectors = sectors_of-whole r.sectors r.count checked.count in
+    record {
+      accepted = s.0;
+      contents = f.1 ∙ ap done (sym s.1);
+      sectors = sectors;
+      whole = whole;
+      occupied = ap (occupied_in g (disk img)) (sym sectors) ∙ occupied-by-track18 g kn img r.sectors r.count checked.inside whole;
+      ends = ap (λ (x : Found). x.ends) f.2 ∙ ap (λ (c : DirectoryContents). end_table g img c.found) (sym s.1);
+    }
 
 -- ---- where the files end
 

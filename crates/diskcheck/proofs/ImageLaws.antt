@@ -9,10 +9,11 @@ use mathlib.Core.Bool.{Bool, true}
 use mathlib.Core.List.{List, [], ◌∷◌, map}
 use lib.ListN.{length, set, take, drop}
 use lib.Dec.{eqb}
+use Rattle.std.specs.Prelude.{Result as CodeResult, Ok, Err}
 use borrow.Author.Tests.{eq-eqb, ne_eqb}
 use Rattle.d64spec.specs.Lists.{Bytes, All, count, range, zeros}
-use Rattle.d64spec.specs.Answers.{Address, Result, refused, done, ◌>>=◌, ◌>>◌}
-use Rattle.d64spec.specs.Geometry.{Geometry, sector_number, sectors_on, first_on, total, tracks, map_address, directory_start, on_disk}
+use Rattle.d64spec.specs.Answers.{Address, Fault, Result, refused, done, ◌>>=◌, ◌>>◌}
+use Rattle.d64spec.specs.Geometry.{Geometry, sector_number, sectors_on, total, tracks, map_address, directory_start, on_disk}
 use Rattle.d64spec.specs.Layouts.{Known}
 use Rattle.d64spec.specs.Image.{disk}
 use Rattle.d64spec.specs.Chain.{to, directory_link, steps}
@@ -20,30 +21,27 @@ use Rattle.d64spec.specs.Directory.{Slot, File, occupied_in}
 use Rattle.d64spec.specs.Owner.{claims_of}
 use Rattle.d64spec.specs.Check.{DirectoryContents, check_directory, check_slots, check_map, check_disk, check_image, right_size}
 use Rattle.d64spec.specs.Listing.{bytes_of_track18}
-use Rattle.d64spec.proofs.ResultLaws.{done_inj}
+use Rattle.d64spec.proofs.ResultLaws.{done_inj, refused≢done}
 use Rattle.d64spec.proofs.BoundLaws.{directory_link-on}
 use Rattle.d64spec.proofs.ListingTheorem.{track18-length}
 use Rattle.geometry.proofs.LentTableLaws.{tracks-of-on_disk}
 use Rattle.answers.specs.declared.Fault as code
 use Rattle.answers.specs.declared.Fault.TheVariants.{WrongSize}
-use Rattle.answers.specs.declared.Verdict.{Verdict}
-use Rattle.answers.specs.declared.Verdict.TheVariants.{Fine, Refused}
 use Rattle.answers.specs.Faults.{fault_of, verdict_of, where_fine}
 use Rattle.owners.specs.OwnerTable.{owned, free_by, directory_table, owner_table}
-use Rattle.owners.specs.Masks.{owned_mask, Masks, unmarked}
+use Rattle.owners.specs.Masks.{Masks, unmarked}
 use Rattle.owners.proofs.MaskLaws.{masks-free}
 use Rattle.owners.proofs.WalkTable.{walk-lt}
 use Rattle.owners.proofs.SlotsTable.{slots-alike, slots-lt}
 use Rattle.owners.proofs.ClaimLaws.{length-directory_table, directory-alike, free_by-claims}
 use Rattle.directory.specs.declared.Directory.{Directory}
-use Rattle.directory.specs.Directories.{sectors_of, track_directory, sector_count, table_after, DirectoryRead}
+use Rattle.directory.specs.Directories.{sectors_of, track_directory, IsDirectory}
 use Rattle.directory.proofs.Track18Laws.{directory-of-track18}
 use Rattle.mapcheck.specs.MapChecks.{map_verdict}
 use Rattle.mapcheck.proofs.StepLaws.{verdict-same, map-free-same}
-use Rattle.diskcheck.specs.declared.Checked.{Checked}
 use Rattle.diskcheck.specs.EndTable.{end_table}
 use Rattle.diskcheck.specs.SlotChecks.{image_occupied, Tables, tables, tables_with_files, slots_step, SlotsReady}
-use Rattle.diskcheck.specs.ImageChecks.{Found, found_in, directory_count, ends_found, ImageChecked, map_step, rest_step, tables_before, OwnersReady}
+use Rattle.diskcheck.specs.ImageChecks.{Found, found_in, IsChecked, map_step, rest_step, tables_before, OwnersReady}
 use Rattle.diskcheck.proofs.MaskLaws.{masks-directory}
 use Rattle.diskcheck.proofs.TrackLaws.{map-lent, sectors_of-whole, occupied-by-track18}
 
@@ -71,6 +69,12 @@ found-handed : (g : Geometry) (img : Bytes) (x : Result DirectoryContents) → f
 unfolding found_in filled_in
 found-handed g img (refused f) = refl
 found-handed g img (done c) = refl
+
+-- what is refused is refused
+filled-refused : (g : Geometry) (img : Bytes) (x : Result DirectoryContents) {f : Fault} → filled_in g img x ≡ refused f → x ≡ refused f
+unfolding filled_in
+filled-refused g img (refused x) e = cc
+filled-refused g img (done c) {f} e = refused≢done f _ (sym e)
 
 filled-then : (g : Geometry) (img : Bytes) (x : Result (Unit {0})) (c : DirectoryContents) → filled_in g img (x >> done c) ≡ (x >> filled_in g img (done c))
 unfolding filled_in
@@ -178,12 +182,12 @@ masks-free-known g kn masks r on = let h = tracks-of-on_disk g r on in masks-fre
 
 module _ (g : Geometry) (kn : Known g) (img : Bytes) (t : Tables) (ss : List ℕ) (n : ℕ) (t' : Tables) where
   -- a fault of step 3
-  pub slots-refused : (f : code.Fault) → where_fine (Refused f) t' ≡ slots_step g img t ss 0 (8 * n) → where_fine (Refused f) t' ≡ rest_step g img t ss n
+  pub slots-refused : (f : code.Fault) → where_fine (Err f) t' ≡ slots_step g img t ss 0 (8 * n) → where_fine (Err f) t' ≡ rest_step g img t ss n
   unfolding where_fine rest_step
   slots-refused f e = ap (λ (x : Result Tables). x >>= (λ o. map_step g img o.owners >> done o)) e
 
   -- no fault there: the map decides
-  pub slots-fine : (v : Verdict) (used : Bytes) → where_fine Fine t' ≡ slots_step g img t ss 0 (8 * n) → Masks g t'.owners used
+  pub slots-fine : (v : CodeResult (Unit {0}) code.Fault) (used : Bytes) → where_fine (Ok tt) t' ≡ slots_step g img t ss 0 (8 * n) → Masks g t'.owners used
       → verdict_of v ≡ map_verdict g (disk img (sector_number g map_address)) used → where_fine v t' ≡ rest_step g img t ss n
   unfolding where_fine rest_step verdict_of
   slots-fine v used e masks decides =
@@ -192,11 +196,11 @@ module _ (g : Geometry) (kn : Known g) (img : Bytes) (t : Tables) (ss : List ℕ
       (decides ∙ verdict-same g kn (disk img) used (free_by g t'.owners) (λ r on. masks-free-known g kn masks r on))
       ∙ ap (λ (x : Result Tables). x >>= (λ o. map_step g img o.owners >> done o)) e
     where
-      given : (v : Verdict) → where_fine v t' ≡ (verdict_of v >> done t')
-      given Fine = refl
-      given (Refused f) = refl
+      given : (v : CodeResult (Unit {0}) code.Fault) → where_fine v t' ≡ (verdict_of v >> done t')
+      given (Ok u) = refl
+      given (Err f) = refl
 
--- ---- refused images
+-- ---- the tables before the check, and its first step
 
 -- the first of so many zeros
 pub take-zeros : (m n : ℕ) → n ≤ m → take n (zeros m) ≡ zeros n
@@ -204,52 +208,32 @@ take-zeros m zero h = refl
 take-zeros zero (suc n) h = absurd (omega arith)
 take-zeros (suc m) (suc n) h = ap (λ (l : List ℕ). 0 ∷ l) (take-zeros m n (omega arith))
 
-zeros-inside : (n : ℕ) → All (λ s. s < 19) (zeros n)
-zeros-inside zero = tt
-zeros-inside (suc n) = (omega arith, zeros-inside n)
-
--- a fault of the definition, handed back with no sector and no end
-pub checked_refused : (g : Geometry) {img : Bytes} {f : code.Fault} {r : Checked}
-    → r ≡ record { verdict = Refused f; sectors = zeros 18; count = 0; ends = zeros 144 }
-    → found_in g img (check_image g img) ≡ refused (fault_of f) → ImageChecked g img r
-unfolding where_fine directory_count ends_found
-checked_refused g e h = rw e (record {
-  told = sym h;
-  count = rw h;
-  ends = rw h;
-  rest = refl;
-  few = omega arith;
-  inside = zeros-inside 18;
-})
-
 -- step 1
-pub size-wrong : (g : Geometry) (img : Bytes) → (length img ≡ 256 * total g → ⊥) → found_in g img (check_image g img) ≡ refused (fault_of WrongSize)
-unfolding check_image right_size found_in fault_of
+pub size-wrong : (g : Geometry) (img : Bytes) → (length img ≡ 256 * total g → ⊥) → check_image g img ≡ refused (fault_of WrongSize)
+unfolding check_image right_size fault_of
 size-wrong g img h = rw (ne_eqb (length img) (256 * total g) h)
 
 -- ---- steps 3 and 4 from the directory's owners
 
-module _ (g : Geometry) (kn : Known g) {img : Bytes} {t : Tables} {ss : List ℕ} {count repeated mask : ℕ}
-    (ready : OwnersReady g img t ss count repeated mask) where
-  -- what they ask of the tables
-  pub owners-ready : {own ends : List ℕ} → own ≡ directory_table g (sectors_of ss count) → ends ≡ t.ends → SlotsReady g img (tables own ends) ss count repeated
-  owners-ready is same = record {
-    sized = record {
+module _ (g : Geometry) (kn : Known g) {img : Bytes} {t : Tables} {d : Directory} (ready : OwnersReady g img t d) where
+  -- what they ask of the tables and the masks
+  pub owners-ready : {own ends used : List ℕ} → own ≡ directory_table g (sectors_of d.sectors d.count) → ends ≡ t.ends → used ≡ set (zeros 40) 17 d.used
+      → SlotsReady g img (tables own ends) used d
+  owners-ready is same at = record {
+    kept = record {
       size = ready.size;
-      long = ap length is ∙ length-directory_table g (sectors_of ss count);
+      long = ap length is ∙ length-directory_table g (sectors_of d.sectors d.count);
       room = ap length (same ∙ ready.endless);
+      masks = rw (is, at) (masks-directory g kn d.sectors d.count ready.inside ready.used);
     };
     inside = ready.inside;
     few = ready.few;
     first = ready.first;
   }
 
-  -- and of the masks
-  pub masks-ready : {own used : List ℕ} → own ≡ directory_table g (sectors_of ss count) → used ≡ set (zeros 40) 17 mask → Masks g own used
-  masks-ready is at = rw (is, at) (masks-directory g kn ss count ready.inside ready.used)
-
   -- those tables are the ones before the files
-  pub owners-before : {own ends : List ℕ} → own ≡ directory_table g (sectors_of ss count) → ends ≡ t.ends → tables own ends ≡ tables_before g ss count
+  pub owners-before : {own ends : List ℕ} → own ≡ directory_table g (sectors_of d.sectors d.count) → ends ≡ t.ends
+      → tables own ends ≡ tables_before g d.sectors d.count
   unfolding tables_before
   owners-before is same = ap₂ (λ (x y : List ℕ). tables x y) is (same ∙ ready.endless)
 
@@ -267,14 +251,7 @@ rest-filled : (g : Geometry) → Known g → (img : Bytes) → length img ≡ 25
 unfolding tables_before
 rest-filled g kn img size ss n inside whole walked = sym (rest-found g kn img ss n inside whole) ∙ sym (size-right g kn img size ∙ rw walked)
 
--- what the directory's reading found nothing wrong in
-record DirectoryFine (g : Geometry) (img : Bytes) (d : Directory) : Type 0 where
-  walked : check_directory g (disk img) ≡ done (sectors_of d.sectors d.count)
-  whole : d.count ≤ length d.sectors
-  used : d.used ≡ owned_mask (directory_table g (sectors_of d.sectors d.count)) (first_on g 18) 19
-
-module _ (g : Geometry) (kn : Known g) (img : Bytes) {d : Directory} (size : length img ≡ 256 * total g)
-    (read : DirectoryRead g (bytes_of_track18 g img) d) where
+module _ (g : Geometry) (kn : Known g) (img : Bytes) (size : length img ≡ 256 * total g) where
   directory-same : track_directory g (bytes_of_track18 g img) ≡ check_directory g (disk img)
   unfolding track_directory
   directory-same =
@@ -282,85 +259,51 @@ module _ (g : Geometry) (kn : Known g) (img : Bytes) {d : Directory} (size : len
       rw (eq-eqb (length (bytes_of_track18 g img)) (256 * sectors_on g 18) long) (directory-of-track18 g kn img)
 
   -- a fault of step 2
-  pub directory-refused : (f : code.Fault) → d.verdict ≡ Refused f → found_in g img (check_image g img) ≡ refused (fault_of f)
-  unfolding where_fine
-  directory-refused f e =
-      let walked : check_directory g (disk img) ≡ refused (fault_of f) = sym directory-same ∙ sym (rw e at read.walked) in
-      let filled : filled_in g img (check_image g img) ≡ refused (fault_of f) = size-right g kn img size ∙ rw walked in
-      found-handed g img (check_image g img) ∙ ap (λ (x : Result Filled). x >>= (λ y. done (handed y))) filled
+  pub directory-refused : {f : Fault} → track_directory g (bytes_of_track18 g img) ≡ refused f → check_image g img ≡ refused f
+  directory-refused e = filled-refused g img (check_image g img) (size-right g kn img size ∙ rw (sym directory-same ∙ e))
 
-  module _ (fine : d.verdict ≡ Fine) where
-    directory-fine : DirectoryFine g img d
-    unfolding where_fine sector_count table_after
-    directory-fine =
-        let done-with : track_directory g (bytes_of_track18 g img) ≡ done (sectors_of d.sectors d.count) = sym (rw fine at read.walked) in
-        record {
-          walked = sym directory-same ∙ done-with;
-          whole = sectors_of-whole d.sectors d.count (read.count ∙ ap sector_count done-with);
-          used = read.used ∙ ap (λ (x : Result (List Address)). owned_mask (table_after g x) (first_on g 18) 19) done-with;
-        }
+  module _ {d : Directory} (read : IsDirectory g (bytes_of_track18 g img) d) where
+    whole : d.count ≤ length d.sectors
+    whole = sectors_of-whole d.sectors d.count read.count
 
     -- what steps 3 and 4 ask: a table with no owner and one with no end
-    pub directory-ready : {own ends : List ℕ} → own ≡ zeros (total g) → ends ≡ zeros 144
-        → OwnersReady g img (tables own ends) d.sectors d.count d.repeated d.used
+    pub directory-ready : {own ends : List ℕ} → own ≡ zeros (total g) → ends ≡ zeros 144 → OwnersReady g img (tables own ends) d
     directory-ready bare endless = record {
       size = size;
       bare = bare;
       endless = endless;
       inside = read.inside;
       few = read.few;
-      whole = directory-fine.whole;
+      whole = whole;
       first = read.repeated;
-      used = directory-fine.used;
+      used = read.used;
     }
 
+    -- what the definition finds, by steps 3 and 4 from the directory's owners
+    filled-rest : {r : Result Tables} → r ≡ rest_step g img (tables_before g d.sectors d.count) d.sectors d.count
+        → (r >>= (λ t. done (record { directory = sectors_of d.sectors d.count; tables = t }))) ≡ filled_in g img (check_image g img)
+    filled-rest e =
+        ap (λ (x : Result Tables). x >>= (λ t. done (record { directory = sectors_of d.sectors d.count; tables = t }))) e
+        ∙ rest-filled g kn img size d.sectors d.count read.inside whole (sym directory-same ∙ read.walked)
+
     module _ (own ends : List ℕ) where
-      -- what is handed back where nothing is refused
-      abbrev given : Found
-      given = record { directory = sectors_of d.sectors d.count; ends = ends }
-
-      -- steps 3 and 4 from the directory's owners
-      abbrev rest : Result Tables
-      rest = rest_step g img (tables_before g d.sectors d.count) d.sectors d.count
-
-      -- STEPS 3 AND 4 after the directory give what the definition finds
-      rest-told : (v : Verdict) → where_fine v (tables own ends) ≡ rest → where_fine v given ≡ found_in g img (check_image g img)
-      unfolding where_fine
-      rest-told v e =
-          let w = directory-fine in
-          let ds : List Address = sectors_of d.sectors d.count in
-          at-directory v
-          ∙ ap (λ (x : Result Tables). (x >>= (λ t. done (record { directory = ds; tables = t }))) >>= (λ f. done (handed f))) e
-          ∙ ap (λ (x : Result Filled). x >>= (λ f. done (handed f)))
-          (rest-filled g kn img size d.sectors d.count read.inside w.whole w.walked)
-          ∙ sym (found-handed g img (check_image g img))
-        where
-          at-directory : (v : Verdict)
-              → where_fine {A = Found} v given
-              ≡ ((where_fine v (tables own ends) >>= (λ t. done (record { directory = sectors_of d.sectors d.count; tables = t })))
-              >>= (λ f. done (handed f)))
-          at-directory Fine = refl
-          at-directory (Refused f) = refl
-
       -- a fault of step 3 or 4
-      pub rest-refused : (f : code.Fault) → where_fine (Refused f) (tables own ends) ≡ rest → found_in g img (check_image g img) ≡ refused (fault_of f)
+      pub rest-refused : (f : code.Fault) → where_fine (Err f) (tables own ends) ≡ rest_step g img (tables_before g d.sectors d.count) d.sectors d.count
+          → check_image g img ≡ refused (fault_of f)
       unfolding where_fine
-      rest-refused f e = sym (rest-told (Refused f) e)
+      rest-refused f e = filled-refused g img (check_image g img) (sym (filled-rest e))
 
       -- no fault
-      pub checked-fine : {r : Checked} → where_fine Fine (tables own ends) ≡ rest
-          → r ≡ record { verdict = Fine; sectors = d.sectors; count = d.count; ends = ends } → ImageChecked g img r
-      unfolding where_fine directory_count ends_found sector_count
-      checked-fine e is =
-          let found = rest-told Fine e in
-          rw is (record {
-            told = found;
-            count = read.count ∙ ap sector_count (directory-same ∙ directory-fine.walked) ∙ ap directory_count found;
-            ends = ap ends_found found;
-            rest = read.rest;
-            few = read.few;
-            inside = read.inside;
-          })
+      pub checked-fine : where_fine (Ok tt) (tables own ends) ≡ rest_step g img (tables_before g d.sectors d.count) d.sectors d.count
+          → IsChecked g img (record { sectors = d.sectors; count = d.count; ends = ends })
+      unfolding where_fine
+      checked-fine e = record {
+        told = found-handed g img (check_image g img) ∙ ap (λ (x : Result Filled). x >>= (λ f. done (handed f))) (sym (filled-rest e));
+        count = read.count;
+        rest = read.rest;
+        few = read.few;
+        inside = read.inside;
+      }
 
 -- ---- the owner table that is left
 

@@ -6,7 +6,7 @@ use native.Mathlib.Decide.{ℕ_discrete}
 use mathlib.Core.Path.{◌≡◌, refl, sym, ap, ap₂, ◌∙◌}
 use mathlib.Core.List.{List, [], ◌∷◌, map}
 use lib.ListN.{length, get_or, set, take, get_or-replicate, length-replicate}
-use lib.Seq.{get_or-set_same, get_or-set_other}
+use lib.Seq.{get_or-set_same, get_or-set_other, take_all}
 use borrow.Author.Tests.{eqb-true, eq-eqb, ne_eqb}
 use Rattle.d64spec.specs.Lists.{All, count, zeros}
 use Rattle.d64spec.specs.Answers.{address}
@@ -56,11 +56,12 @@ module _ (g : Geometry) (kn : Known g) where
   numbers-same (s ∷ l) = ap₂ (λ (x : ℕ) (m : List ℕ). x ∷ m) (sym (number-18 g kn s)) (numbers-same l)
 
   -- THE TABLE BEFORE THE FILES: 18/0, then all of the directory's sectors
-  pub claimed-all : {own own₀ own' : List ℕ} (ss : List ℕ) (n i : ℕ) → own ≡ zeros (total g) → own₀ ≡ set own 357 1 → own' ≡ directory_claimed ss i own₀
-      → i ≡ n → own' ≡ directory_table g (sectors_of ss n)
+  pub claimed-all : {own own₀ own' : List ℕ} (ss : List ℕ) (i : ℕ) → own ≡ zeros (total g) → own₀ ≡ set own 357 1 → own' ≡ directory_claimed ss i own₀
+      → length ss ≤ i → own' ≡ directory_table g (map (λ s. address 18 s) ss)
   unfolding directory_table map_table
-  claimed-all ss n i bare map_first so all =
-      so ∙ rw (all, map_first, bare, kn.map357) (ap (λ (l : List ℕ). with_owner 2 l (set (zeros (total g)) 357 1)) (numbers-same (take n ss)))
+  claimed-all ss i bare map_first so all =
+      so ∙ rw (take_all i ss all, map_first, bare, kn.map357)
+      (ap (λ (l : List ℕ). with_owner 2 l (set (zeros (total g)) 357 1)) (numbers-same ss))
 
 -- ---- sectors off track 18
 

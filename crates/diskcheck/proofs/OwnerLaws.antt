@@ -15,12 +15,11 @@ use Rattle.d64spec.specs.Owner.{Owner, Owns}
 use Rattle.d64spec.specs.Check.{DirectoryContents, check_directory, check_disk, check_image, right_size}
 use Rattle.d64spec.proofs.ResultLaws.{need-done, bind_done}
 use Rattle.d64spec.proofs.FirstFault.{directory-walked}
-use Rattle.answers.specs.declared.Verdict.TheVariants.{Fine}
 use Rattle.owners.specs.OwnerTable.{owner_number, OwnerOf}
 use Rattle.owners.proofs.OwnerNumberLaws.{table-names-owner}
 use Rattle.diskcheck.specs.declared.Checked.{Checked}
 use Rattle.diskcheck.specs.SlotChecks.{Tables}
-use Rattle.diskcheck.specs.ImageChecks.{ImageChecked, rest_step, tables_before}
+use Rattle.diskcheck.specs.ImageChecks.{IsChecked, rest_step, tables_before}
 use Rattle.diskcheck.proofs.CheckedLaws.{fine-image}
 use Rattle.diskcheck.proofs.ImageLaws.{owners-left}
 
@@ -34,11 +33,11 @@ walked g kn img c e =
     w.1 ∙ ap done (directory-walked g kn.valid (disk img) w.0 w.1)
 
 -- THE TABLE OF A CHECKED IMAGE SAYS WHO OWNS EACH SECTOR
-pub checked-owner : (g : Geometry) (kn : Known g) {img : Bytes} {r : Checked} → ImageChecked g img r → r.verdict ≡ Fine
+pub checked-owner : (g : Geometry) (kn : Known g) {img : Bytes} {r : Checked} → IsChecked g img r
     → (t : Tables) → rest_step g img (tables_before g r.sectors r.count) r.sectors r.count ≡ done t
     → (n : ℕ) (o : Owner) → OwnerOf g (disk img) o → (get_or t.owners n 0 ≡ owner_number o) ↔ Owns g (disk img) o n
-checked-owner g kn {img} {r} checked fine t left n o m =
-    let f = fine-image g kn checked fine in
+checked-owner g kn {img} {r} checked t left n o m =
+    let f = fine-image g kn checked in
     rw (owners-left g kn img r.sectors r.count _ t f.accepted.size checked.inside f.whole
     (walked g kn img _ f.contents ∙ ap done (sym f.sectors)) f.contents left)
     (table-names-owner g kn.valid (disk img) f.accepted.content n o m)

@@ -2,13 +2,15 @@
 -- In order: slot by slot; what a slot that passes leaves; the invariant `Checking`.
 use Prim.Native.Nat.{ℕ, suc, ◌+◌, ◌*◌, ◌-◌, ◌≤◌, ◌<◌}
 use native.Mathlib.Omega.{arith}
-use native.Mathlib.Decide.{dec_le}
+use native.Mathlib.Decide.{dec_le, dec_lt}
 use mathlib.Core.Path.{◌≡◌, refl, sym, ap, ◌∙◌, subst}
 use mathlib.Core.Bool.{Bool, true, false, cond, not}
 use mathlib.Core.List.{List, ◌∷◌, ◌++◌, map}
 use lib.ListN.{length, set, length-set}
 use lib.Dec.{eqb}
-use borrow.Author.Tests.{eq-eqb, eqb-false, not-true}
+use Rattle.std.specs.Prelude.{Option, Ok, Err}
+use borrow.Author.Tests.{eq-eqb, ne_eqb, lt-ltb, le-ltb, eqb-false, not-true}
+use Rattle.std.specs.Option.{unwrap_or}
 use Rattle.d64spec.specs.Lists.{Bytes, All}
 use Rattle.d64spec.specs.Answers.{Address, Result, refused, done, ◌>>=◌}
 use Rattle.d64spec.specs.Geometry.{Geometry, total, sector_number}
@@ -19,18 +21,18 @@ use Rattle.d64spec.specs.Listing.{bytes_of_track18}
 use Rattle.d64spec.proofs.ResultLaws.{then-done, done_inj, refused≢done}
 use Rattle.d64spec.proofs.CheckLaws.{EntrySound, entry-sound}
 use Rattle.answers.specs.declared.Fault as code
-use Rattle.answers.specs.declared.Verdict.{Verdict}
-use Rattle.answers.specs.declared.Verdict.TheVariants.{Fine, Refused}
 use Rattle.answers.specs.Faults.{where_fine}
 use Rattle.owners.specs.OwnerTable.{owned, with_owner, file_owner}
+use Rattle.owners.specs.Masks.{Masks}
 use Rattle.owners.proofs.TableLaws.{length-with_owner, alike-with_owner}
 use Rattle.owners.proofs.SlotsTable.{slots-alike, slot_lt}
-use Rattle.directory.specs.Directories.{first_repeated, occupied_from}
+use Rattle.directory.specs.declared.Directory.{Directory}
+use Rattle.directory.specs.Directories.{found, first_repeated, occupied_from}
 use Rattle.directory.proofs.EntryLaws.{number_at}
 use Rattle.directory.proofs.RepeatLaws.{ValidBelow, new-name, past-empty}
 use Rattle.diskcheck.specs.EndTable.{end_of}
 use Rattle.diskcheck.specs.SlotChecks.{image_slot, image_names, image_occupied, Tables, tables, tables_with, slot_step, tables_with_files, slots_step}
-use Rattle.diskcheck.specs.SlotChecks.{Sized, SlotReady, SlotsReady}
+use Rattle.diskcheck.specs.SlotChecks.{Kept, SlotReady, SlotsReady}
 
 -- ---- slot by slot
 
@@ -118,85 +120,102 @@ passed g img t t' ss k e = go (is_empty (image_slot g img ss k).bytes) refl chai
           entry = λ f. entry-sound (image_names g img ss k) (image_slot g img ss k) w.0 w.1;
         })
 
+-- ---- the first repeated name
+
+-- a slot below the end is the one that is found exactly if it is that number, or the end where none is found
+is-found : (end n k : ℕ) → k < end → eqb k (unwrap_or (found end n) end) ≡ eqb k n
+is-found end n k h = elim (dec_lt n end) [
+  | yes below ↦ rw (lt-ltb n end below) refl
+  | no past ↦ rw (le-ltb n end (omega arith)) (ne_eqb k end (λ e. omega arith) ∙ sym (ne_eqb k n (λ e. omega arith)))
+]
+
 -- ---- the loop
 
 -- the slots below k have passed: with the tables as they are now, the slots from k on give what all of them gave at the start
-pub record Checking (g : Geometry) (img : Bytes) (t₀ : Tables) (ss : List ℕ) (count : ℕ) (t : Tables) (k : ℕ) : Type 0 where
-  pub within : k ≤ 8 * count
-  pub sized : Sized g img t
-  pub new : k ≤ first_repeated (bytes_of_track18 g img) ss 0 (8 * count)
-  pub valid : ValidBelow (bytes_of_track18 g img) ss k
-  pub same : slots_step g img t ss k (8 * count - k) ≡ slots_step g img t₀ ss 0 (8 * count)
+pub record Checking (g : Geometry) (img : Bytes) (t₀ : Tables) (d : Directory) (t : Tables) (used : List ℕ) (k : ℕ) : Type 0 where
+  pub within : k ≤ 8 * d.count
+  pub kept : Kept g img t used
+  pub new : k ≤ first_repeated (bytes_of_track18 g img) d.sectors 0 (8 * d.count)
+  pub valid : ValidBelow (bytes_of_track18 g img) d.sectors k
+  pub same : slots_step g img t d.sectors k (8 * d.count - k) ≡ slots_step g img t₀ d.sectors 0 (8 * d.count)
 
-pub checking-start : (g : Geometry) (img : Bytes) (t : Tables) (ss : List ℕ) (count repeated : ℕ) → SlotsReady g img t ss count repeated
-    → Checking g img t ss count t 0
-checking-start g img t ss count repeated r =
-    let all : 8 * count - 0 ≡ 8 * count = omega arith in
+pub checking-start : (g : Geometry) (img : Bytes) (t : Tables) (used : List ℕ) (d : Directory) → SlotsReady g img t used d → Checking g img t d t used 0
+checking-start g img t used d r =
+    let all : 8 * d.count - 0 ≡ 8 * d.count = omega arith in
     record {
       within = omega arith;
-      sized = r.sized;
+      kept = r.kept;
       new = omega arith;
       valid = λ i h. let z : ⊥ = omega arith in absurd z;
-      same = ap (slots_step g img t ss 0) all;
+      same = ap (slots_step g img t d.sectors 0) all;
     }
 
-module _ (g : Geometry) (img : Bytes) (t₀ : Tables) (ss : List ℕ) (count : ℕ) (t : Tables) (k : ℕ) (c : Checking g img t₀ ss count t k) where
-  pub checking-slot : (repeated : ℕ) → SlotsReady g img t₀ ss count repeated → k < 8 * count → SlotReady g img t ss k repeated
-  checking-slot repeated r h =
-      let few : count ≤ 18 = r.few in
+module _ (g : Geometry) (img : Bytes) (t₀ : Tables) (d : Directory) (t : Tables) {used : List ℕ} (k : ℕ) (c : Checking g img t₀ d t used k) where
+  abbrev end : ℕ
+  end = 8 * d.count
+
+  abbrev repeated : ℕ
+  repeated = first_repeated (bytes_of_track18 g img) d.sectors 0 end
+
+  pub checking-slot : {used₀ : List ℕ} {n : ℕ} → SlotsReady g img t₀ used₀ d → k < 8 * d.count → n ≡ unwrap_or d.repeated end → SlotReady g img t used d k (eqb k n)
+  checking-slot {n = n} r h first =
+      let few : d.count ≤ 18 = r.few in
       record {
-        sized = c.sized;
+        kept = c.kept;
         inside = r.inside;
         within = omega arith;
-        name = λ occupied name. new-name (bytes_of_track18 g img) ss (8 * count) k h c.new occupied name c.valid
-            ∙ ap (λ (n : ℕ). not (eqb k n)) (sym r.first);
+        name = λ occupied name. new-name (bytes_of_track18 g img) d.sectors end k h c.new occupied name c.valid
+            ∙ ap not (sym (ap (eqb k) (first ∙ ap (λ (o : Option ℕ). unwrap_or o end) r.first) ∙ is-found end repeated k h));
       }
 
-  module _ (h : k < 8 * count) (v : Verdict) (t' : Tables) (e : where_fine v t' ≡ slot_step g img t ss k) where
-    opened : (where_fine v t' >>= (λ o. slots_step g img o ss (suc k) (8 * count - (k + 1)))) ≡ slots_step g img t₀ ss 0 (8 * count)
-    opened =
-        let more : 8 * count - k ≡ suc (8 * count - (k + 1)) = omega arith in
-        ap (λ (x : Result Tables). x >>= (λ o. slots_step g img o ss (suc k) (8 * count - (k + 1)))) e
-        ∙ sym (slots_next g img t ss k (8 * count - (k + 1)) c.sized.long)
-        ∙ ap (slots_step g img t ss k) (sym more)
+  module _ (h : k < 8 * d.count) (t' : Tables) where
+    opened : {r : Result Tables} → r ≡ slot_step g img t d.sectors k
+        → (r >>= (λ o. slots_step g img o d.sectors (suc k) (end - (k + 1)))) ≡ slots_step g img t₀ d.sectors 0 end
+    opened e =
+        let more : end - k ≡ suc (end - (k + 1)) = omega arith in
+        ap (λ (x : Result Tables). x >>= (λ o. slots_step g img o d.sectors (suc k) (end - (k + 1)))) e
+        ∙ sym (slots_next g img t d.sectors k (end - (k + 1)) c.kept.long)
+        ∙ ap (slots_step g img t d.sectors k) (sym more)
         ∙ c.same
 
     -- a slot that passes does not repeat a name
-    next-new : Passed g img t t' ss k → suc k ≤ first_repeated (bytes_of_track18 g img) ss 0 (8 * count)
-    next-new p = go (is_empty (image_slot g img ss k).bytes) refl
+    next-new : Passed g img t t' d.sectors k → suc k ≤ repeated
+    next-new p = go (is_empty (image_slot g img d.sectors k).bytes) refl
       where
-        go : (b : Bool) → is_empty (image_slot g img ss k).bytes ≡ b → suc k ≤ first_repeated (bytes_of_track18 g img) ss 0 (8 * count)
-        go true z = past-empty (bytes_of_track18 g img) ss (8 * count) k h c.new z
+        go : (b : Bool) → is_empty (image_slot g img d.sectors k).bytes ≡ b → suc k ≤ repeated
+        go true z = past-empty (bytes_of_track18 g img) d.sectors end k h c.new z
         go false z =
             let s = p.entry z in
-            let n = new-name (bytes_of_track18 g img) ss (8 * count) k h c.new z s.name c.valid in
-            let other = eqb-false k (first_repeated (bytes_of_track18 g img) ss 0 (8 * count)) (not-true _ (sym n ∙ eq-eqb _ 0 s.new)) in
+            let n = new-name (bytes_of_track18 g img) d.sectors end k h c.new z s.name c.valid in
+            let other = eqb-false k repeated (not-true _ (sym n ∙ eq-eqb _ 0 s.new)) in
             let low = c.new in
             omega arith
 
-    pub checking-next : v ≡ Fine → Checking g img t₀ ss count t' (k + 1)
+    pub checking-next : {used' : List ℕ} → where_fine (Ok tt) t' ≡ slot_step g img t d.sectors k → Masks g t'.owners used'
+        → Checking g img t₀ d t' used' (k + 1)
     unfolding where_fine
-    checking-next f =
-        let p = passed g img t t' ss k (sym (rw f at e)) in
+    checking-next e masks =
+        let p = passed g img t t' d.sectors k (sym e) in
         let z : k + 1 ≡ suc k = omega arith in
         let new = next-new p in
         record {
           within = omega arith;
-          sized = record { size = c.sized.size; long = p.long ∙ c.sized.long; room = p.room ∙ c.sized.room };
+          kept = record { size = c.kept.size; long = p.long ∙ c.kept.long; room = p.room ∙ c.kept.room; masks = masks };
           new = omega arith;
           valid = λ i l occupied. elim (dec_le k i) [
             | yes q ↦ (let w : i ≡ k = omega arith in rw w (p.entry (rw w at occupied)).name)
             | no q ↦ c.valid i (omega arith) occupied
           ];
-          same = ap (λ (j : ℕ). slots_step g img t' ss j (8 * count - (k + 1))) z ∙ rw f at opened;
+          same = ap (λ (j : ℕ). slots_step g img t' d.sectors j (end - (k + 1))) z ∙ opened e;
         }
 
-    pub checking-refused : (f : code.Fault) → v ≡ Refused f → where_fine (Refused f) t' ≡ slots_step g img t₀ ss 0 (8 * count)
+    pub checking-refused : (f : code.Fault) → where_fine (Err f) t' ≡ slot_step g img t d.sectors k
+        → where_fine (Err f) t' ≡ slots_step g img t₀ d.sectors 0 (8 * d.count)
     unfolding where_fine
-    checking-refused f is = rw is at opened
+    checking-refused f e = opened e
 
-  pub checking-end : 8 * count ≤ k → where_fine Fine t ≡ slots_step g img t₀ ss 0 (8 * count)
+  pub checking-end : 8 * d.count ≤ k → where_fine (Ok tt) t ≡ slots_step g img t₀ d.sectors 0 (8 * d.count)
   unfolding where_fine
   checking-end h =
-      let none : 8 * count - k ≡ 0 = omega arith in
-      sym (slots-none g img t ss k) ∙ ap (slots_step g img t ss k) (sym none) ∙ c.same
+      let none : end - k ≡ 0 = omega arith in
+      sym (slots-none g img t d.sectors k) ∙ ap (slots_step g img t d.sectors k) (sym none) ∙ c.same

@@ -1,6 +1,6 @@
 -- A file's chain, claimed sector by sector in the owner table (01, Chains; Order of the check, 3).
 -- In order: what a claim answers; the definition's walk with the table after it; a track's mask; what the loop may rely on. Laws: proofs/ChainLaws.
-use Rattle.std.specs.Prelude.{ℕ, ◌+◌, ◌-◌, ◌≤◌, ◌<◌, ◌*◌, ◌≡◌, cond, ◌&&◌, List, map, length, get_or, set, eqb, ltb, leb}
+use Rattle.std.specs.Prelude.{ℕ, ◌+◌, ◌-◌, ◌≤◌, ◌<◌, ◌*◌, ◌≡◌, cond, ◌&&◌, List, map, length, get_or, set, eqb, ltb, leb, Result as CodeResult, Ok, Err}
 use Rattle.d64spec.specs.Lists.{Bytes}
 use Rattle.d64spec.specs.Answers.{Address, Result, refused, done}
 use Rattle.d64spec.specs.Geometry.{Geometry, total, sector_number}
@@ -8,12 +8,13 @@ use Rattle.d64spec.specs.Image.{disk}
 use Rattle.d64spec.specs.Chain.{link_to, file_link, steps, walk}
 use Rattle.geometry.specs.declared.Address.{Address as CodeAddress}
 use Rattle.answers.specs.declared.Place.{Place}
+use Rattle.answers.specs.declared.Fault.{Fault}
 use Rattle.answers.specs.declared.Fault.TheVariants.{BadLink}
-use Rattle.answers.specs.Faults.{fault_of}
+use Rattle.answers.specs.Faults.{result_of}
+use Rattle.owners.specs.Masks.{Masks}
 use Rattle.owners.specs.OwnerTable.{owned, with_owner}
 use Rattle.diskcheck.specs.EndTable.{end_of}
 use Rattle.diskcheck.specs.declared.chain.Claim.{Claim}
-use Rattle.diskcheck.specs.declared.chain.Claim.TheVariants as claim
 
 -- the sectors of a chain counted, where its data end, and the table after it
 pub record Claimed : Type 0 where
@@ -22,9 +23,8 @@ pub record Claimed : Type 0 where
   pub table : List ℕ
 
 -- what a claim's answer means, with the table that it leaves where nothing is refused
-unfoldable pub claim_of : Claim → List ℕ → Result Claimed
-claim_of (claim.Ended n end) own = done (record { count = n; end = end; table = own })
-claim_of (claim.Refused f) own = refused (fault_of f)
+abbrev pub claim_of : CodeResult Claim Fault → List ℕ → Result Claimed
+claim_of r own = result_of (λ (c : Claim). record { count = c.count; end = c.end; table = own }) r
 
 -- the place of a fault of the link that `holder` holds (01, Answer numbers: sector holding it, slot)
 abbrev pub held_by : CodeAddress → ℕ → Place
@@ -32,8 +32,8 @@ held_by holder slot = record { track = holder.track; sector = holder.sector; slo
 
 -- what a link off the disk, of the bytes t and s, says that `holder` holds after n sectors of a chain: its end, where one of them holds it and it is
 -- 00 and then 01 to FF; else it is bad (01, Chains)
-unfoldable pub claim_off : ℕ → ℕ → ℕ → CodeAddress → ℕ → Claim
-claim_off t s n holder slot = cond (eqb t 0 && ltb 0 s && ltb 0 n) (claim.Ended n s) (claim.Refused (BadLink (held_by holder slot)))
+unfoldable pub claim_off : ℕ → ℕ → ℕ → CodeAddress → ℕ → CodeResult Claim Fault
+claim_off t s n holder slot = cond (eqb t 0 && ltb 0 s && ltb 0 n) (Ok (record { count = n; end = s })) (Err (BadLink (held_by holder slot)))
 
 -- the sectors of a walk claimed for the owner `id`
 unfoldable pub claimed : Geometry → Bytes → ℕ → List ℕ → Result (List Address) → Result Claimed
@@ -52,8 +52,9 @@ with_mask used t m = cond (leb 1 t && leb t 40) (set used (t - 1) (get_or used (
 pub record MaskRoom (used : List ℕ) (t m : ℕ) : Type 0 where
   pub fits : 1 ≤ t → t ≤ 40 → get_or used (t - 1) 0 + m < 16777216
 
--- an image and a table of the right size, and an owner that is somebody
-pub record Ready (g : Geometry) (img own : List ℕ) (id : ℕ) : Type 0 where
+-- an image and a table of the right size, masks that say the same, and one of the 144 numbers of slots
+pub record Ready (g : Geometry) (img own used : List ℕ) (number : ℕ) : Type 0 where
   pub size : length img ≡ 256 * total g
   pub long : length own ≡ total g
-  pub owner : 1 ≤ id
+  pub masks : Masks g own used
+  pub slot : number < 144

@@ -1,17 +1,19 @@
--- The check of an image in code: its verdict, the directory's sectors and the files' ends, for any bytes (01, Order of the check).
+-- The check of an image in code: its fault, or the directory's sectors and the files' ends, for any bytes (01, Order of the check).
 -- In order: what the check of any bytes gives, the public contract; step 4 by a table; steps 3 and 4 together, and
 -- the tables that they start with. Laws for callers: proofs/CheckedLaws.
-use Rattle.std.specs.Prelude.{ℕ, ◌*◌, ◌-◌, ◌≤◌, ◌<◌, ◌≡◌, List, ◌++◌, length, take}
+use Rattle.std.specs.Prelude.{ℕ, ◌*◌, ◌-◌, ◌≤◌, ◌<◌, ◌≡◌, List, ◌++◌, length, take, Result as CodeResult, Ok, Err}
 use Rattle.d64spec.specs.Lists.{Bytes, All, range, zeros}
 use Rattle.d64spec.specs.Answers.{Address, Result, refused, done, ◌>>=◌, ◌>>◌}
 use Rattle.d64spec.specs.Geometry.{Geometry, total, tracks, first_on}
 use Rattle.d64spec.specs.Image.{disk}
 use Rattle.d64spec.specs.Listing.{bytes_of_track18}
 use Rattle.d64spec.specs.Check.{DirectoryContents, check_map, check_image}
-use Rattle.answers.specs.Faults.{where_fine}
+use Rattle.answers.specs.declared.Fault.{Fault}
+use Rattle.answers.specs.Faults.{fault_of}
 use Rattle.owners.specs.OwnerTable.{free_by, directory_table}
 use Rattle.owners.specs.Masks.{owned_mask}
-use Rattle.directory.specs.Directories.{sectors_of, first_repeated}
+use Rattle.directory.specs.declared.Directory.{Directory}
+use Rattle.directory.specs.Directories.{sectors_of, found, first_repeated}
 use Rattle.diskcheck.specs.declared.Checked.{Checked}
 use Rattle.diskcheck.specs.EndTable.{end_table}
 use Rattle.diskcheck.specs.SlotChecks.{Tables, tables, slots_step}
@@ -26,24 +28,18 @@ unfoldable pub found_in : Geometry → Bytes → Result DirectoryContents → Re
 found_in g img (refused f) = refused f
 found_in g img (done c) = done (record { directory = c.walked; ends = end_table g img c.found })
 
--- how many directory sectors: none where the image is refused
-unfoldable pub directory_count : Result Found → ℕ
-directory_count (refused f) = 0
-directory_count (done f) = length f.directory
+-- c is what is handed back of an image without a fault: the directory's sectors on track 18, with zeros after them, and where each file ends
+pub record IsChecked (g : Geometry) (img : Bytes) (c : Checked) : Type 0 where
+  pub told : found_in g img (check_image g img) ≡ done (record { directory = sectors_of c.sectors c.count; ends = c.ends })
+  pub count : c.count ≡ length (sectors_of c.sectors c.count)
+  pub rest : c.sectors ≡ take c.count c.sectors ++ zeros (18 - c.count)
+  pub few : c.count ≤ 18
+  pub inside : All (λ s. s < 19) c.sectors
 
--- the files' ends: none where the image is refused
-unfoldable pub ends_found : Result Found → List ℕ
-ends_found (refused f) = zeros 144
-ends_found (done f) = f.ends
-
--- what the check of any bytes gives: steps 1 to 4
-pub record ImageChecked (g : Geometry) (img : Bytes) (r : Checked) : Type 0 where
-  pub told : where_fine r.verdict (record { directory = sectors_of r.sectors r.count; ends = r.ends }) ≡ found_in g img (check_image g img)
-  pub count : r.count ≡ directory_count (found_in g img (check_image g img))
-  pub ends : r.ends ≡ ends_found (found_in g img (check_image g img))
-  pub rest : r.sectors ≡ take r.count r.sectors ++ zeros (18 - r.count)
-  pub few : r.count ≤ 18
-  pub inside : All (λ s. s < 19) r.sectors
+-- what the check of any bytes gives, steps 1 to 4: that, or the definition's fault
+abbrev pub ImageChecked : Geometry → Bytes → CodeResult Checked Fault → Type 0
+ImageChecked g img (Ok c) = IsChecked g img c
+ImageChecked g img (Err f) = check_image g img ≡ refused (fault_of f)
 
 -- step 4 with a table of owners: the map against the sectors that nobody owns there
 abbrev pub map_step : Geometry → Bytes → List ℕ → Result (Unit {0})
@@ -61,12 +57,12 @@ unfoldable pub tables_before : Geometry → List ℕ → ℕ → Tables
 tables_before g ss n = tables (directory_table g (sectors_of ss n)) (zeros 144)
 
 -- an image of the right size, tables with no owner and no end, and a directory as it was read, with the bits of its sectors on track 18
-pub record OwnersReady (g : Geometry) (img : Bytes) (t : Tables) (ss : List ℕ) (count repeated mask : ℕ) : Type 0 where
+pub record OwnersReady (g : Geometry) (img : Bytes) (t : Tables) (d : Directory) : Type 0 where
   pub size : length img ≡ 256 * total g
   pub bare : t.owners ≡ zeros (total g)
   pub endless : t.ends ≡ zeros 144
-  pub inside : All (λ s. s < 19) ss
-  pub few : count ≤ 18
-  pub whole : count ≤ length ss
-  pub first : repeated ≡ first_repeated (bytes_of_track18 g img) ss 0 (8 * count)
-  pub used : mask ≡ owned_mask (directory_table g (sectors_of ss count)) (first_on g 18) 19
+  pub inside : All (λ s. s < 19) d.sectors
+  pub few : d.count ≤ 18
+  pub whole : d.count ≤ length d.sectors
+  pub first : d.repeated ≡ found (8 * d.count) (first_repeated (bytes_of_track18 g img) d.sectors 0 (8 * d.count))
+  pub used : d.used ≡ owned_mask (directory_table g (sectors_of d.sectors d.count)) (first_on g 18) 19

@@ -1,7 +1,7 @@
 -- Step 3 of the check by slot numbers, with the tables that it fills in (01, Order of the check, 3).
--- In order: slots by number; the tables; a file's chain and count; an occupied slot; any slot; all slots; what the steps rely on.
+-- In order: slots by number; the tables; a file's chain and count; any slot; all slots; what the steps rely on.
 -- Laws: proofs/SlotLaws, SlotsLaws.
-use Rattle.std.specs.Prelude.{ℕ, ◌*◌, ◌≤◌, ◌<◌, ◌≡◌, Bool, true, false, cond, not, List, map, length, set, eqb}
+use Rattle.std.specs.Prelude.{ℕ, ◌*◌, ◌≤◌, ◌<◌, ◌≡◌, true, false, cond, not, List, map, length, set, eqb, Bool}
 use Rattle.d64spec.specs.Lists.{Bytes, All, name_count}
 use Rattle.d64spec.specs.Answers.{Address, wrong_count, Result, refused, done, ◌>>=◌, ◌>>◌, need}
 use Rattle.d64spec.specs.Geometry.{Geometry, total, sector_number}
@@ -9,8 +9,10 @@ use Rattle.d64spec.specs.Image.{disk}
 use Rattle.d64spec.specs.Directory.{Slot, File, is_empty, entry_byte, name_of, valid_name, count_of}
 use Rattle.d64spec.specs.Check.{check_slot, check_slots}
 use Rattle.d64spec.specs.Listing.{bytes_of_track18}
+use Rattle.owners.specs.Masks.{Masks}
 use Rattle.owners.specs.OwnerTable.{owned, with_owner, with_files, file_owner}
-use Rattle.directory.specs.Directories.{slot_at, names_below, first_repeated, entry_verdict, occupied_from}
+use Rattle.directory.specs.declared.Directory.{Directory}
+use Rattle.directory.specs.Directories.{slot_at, names_below, found, first_repeated, occupied_from}
 use Rattle.diskcheck.specs.Chains.{chain_walk}
 use Rattle.diskcheck.specs.EndTable.{end_of, with_ends}
 
@@ -55,10 +57,6 @@ check_chain g img own b holder number = do
 unfoldable pub file_step : Geometry → Bytes → Tables → Bytes → Address → ℕ → Result Tables
 file_step g img t b holder number = tables_with g img number t (check_chain g img t.owners b holder number)
 
--- an occupied slot with bytes b: its entry, then its chain and its count, and the tables after it
-unfoldable pub occupied_step : Geometry → Bytes → Tables → Bytes → Address → ℕ → Bool → Result Tables
-occupied_step g img t b holder number repeated = entry_verdict b holder number repeated >> file_step g img t b holder number
-
 -- slot k and the tables after it
 unfoldable pub slot_step : Geometry → Bytes → Tables → List ℕ → ℕ → Result Tables
 slot_step g img t ss k =
@@ -75,29 +73,30 @@ tables_with_files g img t (done fs) = done (tables (with_files g fs t.owners) (w
 unfoldable pub slots_step : Geometry → Bytes → Tables → List ℕ → ℕ → ℕ → Result Tables
 slots_step g img t ss k n = tables_with_files g img t (check_slots g (disk img) (owned t.owners) (image_names g img ss k) (image_occupied g img ss k n))
 
--- an image and tables of the right size
-pub record Sized (g : Geometry) (img : Bytes) (t : Tables) : Type 0 where
+-- what each step relies on and keeps: an image and tables of the right size, and masks that say what the table of owners says
+pub record Kept (g : Geometry) (img : Bytes) (t : Tables) (used : List ℕ) : Type 0 where
   pub size : length img ≡ 256 * total g
   pub long : length t.owners ≡ total g
   pub room : length t.ends ≡ 144
+  pub masks : Masks g t.owners used
 
 -- the same, the 30 bytes of a slot, and one of the 144 numbers of slots
-pub record FileReady (g : Geometry) (img : Bytes) (t : Tables) (b : Bytes) (number : ℕ) : Type 0 where
-  pub sized : Sized g img t
+pub record FileReady (g : Geometry) (img : Bytes) (t : Tables) (used : List ℕ) (b : Bytes) (number : ℕ) : Type 0 where
+  pub kept : Kept g img t used
   pub full : length b ≡ 30
   pub slot : number < 144
 
--- an image and tables of the right size, a directory of track 18, and the number of its first repeated name
-pub record SlotsReady (g : Geometry) (img : Bytes) (t : Tables) (ss : List ℕ) (count repeated : ℕ) : Type 0 where
-  pub sized : Sized g img t
-  pub inside : All (λ s. s < 19) ss
-  pub few : count ≤ 18
-  pub first : repeated ≡ first_repeated (bytes_of_track18 g img) ss 0 (8 * count)
+-- the same, and a directory of track 18 with its first repeated name
+pub record SlotsReady (g : Geometry) (img : Bytes) (t : Tables) (used : List ℕ) (d : Directory) : Type 0 where
+  pub kept : Kept g img t used
+  pub inside : All (λ s. s < 19) d.sectors
+  pub few : d.count ≤ 18
+  pub first : d.repeated ≡ found (8 * d.count) (first_repeated (bytes_of_track18 g img) d.sectors 0 (8 * d.count))
 
--- the same at slot k: where it is occupied and its name is valid, an earlier slot has that name exactly if k is `repeated`
-pub record SlotReady (g : Geometry) (img : Bytes) (t : Tables) (ss : List ℕ) (k repeated : ℕ) : Type 0 where
-  pub sized : Sized g img t
-  pub inside : All (λ s. s < 19) ss
+-- the same at slot k: where it is occupied and its name is valid, an earlier slot has that name exactly if it is said to be repeated
+pub record SlotReady (g : Geometry) (img : Bytes) (t : Tables) (used : List ℕ) (d : Directory) (k : ℕ) (repeated : Bool) : Type 0 where
+  pub kept : Kept g img t used
+  pub inside : All (λ s. s < 19) d.sectors
   pub within : k < 144
-  pub name : is_empty (image_slot g img ss k).bytes ≡ false → valid_name (image_slot g img ss k).bytes ≡ true
-      → eqb (name_count (name_of (image_slot g img ss k).bytes) (image_names g img ss k)) 0 ≡ not (eqb k repeated)
+  pub name : is_empty (image_slot g img d.sectors k).bytes ≡ false → valid_name (image_slot g img d.sectors k).bytes ≡ true
+      → eqb (name_count (name_of (image_slot g img d.sectors k).bytes) (image_names g img d.sectors k)) 0 ≡ not repeated

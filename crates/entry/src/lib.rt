@@ -7,8 +7,7 @@
 ghost use Rattle.std.specs.Prelude.{◌≡◌, ◌*◌, drop};
 ghost use Rattle.d64spec.specs.Lists.{part};
 ghost use Rattle.d64spec.specs.Directory.{entry_byte, is_empty, valid_type};
-ghost use Rattle.d64spec.specs.Reply.{storable_kind};
-ghost use Rattle.entry.specs.Entry.{Counted};
+ghost use Rattle.entry.specs.Entry.{Counted, number_of_kind, KindNumbered};
 
 // Bytes 02 to 1F of slot j of a directory sector: nothing where the sector ends before.
 pub fn slot(sector: &[u8], j: usize) -> &[u8]
@@ -16,7 +15,7 @@ pub fn slot(sector: &[u8], j: usize) -> &[u8]
 {
     // asked by a division, since 32 * j may not fit
     if sector.len() / 32 < j {
-        return &sector[0..0];
+        return &[];
     }
     parts::clipped(sector, 32 * j + 2, 30)
 }
@@ -36,37 +35,55 @@ pub fn is_empty(slot: &[u8]) -> bool
 }
 
 // Whether a type byte is one that document 01 carries: closed, and SEQ, PRG or USR, locked or not.
+#[tactic(auto, unfolding(d64spec::specs::Directory::valid_type))]
 pub fn valid_type(b: u8) -> bool
     ensures { result ≡ valid_type b }
 {
-    if b / 128 % 2 != 1 {
-        return false;
-    }
-    if b / 16 % 4 != 0 {
-        return false;
-    }
-    let kind = b % 16;
-    if kind == 0 {
-        return false;
-    }
-    kind < 4
+    b / 128 % 2 == 1 && b / 16 % 4 == 0 && matches!(b % 16, 1..=3)
 }
 
 // A slot's number of sectors, bytes 1E and 1F, low byte first.
 pub fn sector_count(slot: &[u8]) -> u16
     ensures { Counted slot.now result }
 {
-    let low = parts::byte_at(slot, 28);
-    let high = parts::byte_at(slot, 29);
-    low as u16 + 256 * (high as u16)
+    u16::from_le_bytes([parts::byte_at(slot, 28), parts::byte_at(slot, 29)])
 }
 
-// Whether a store takes this kind: 1 SEQ or 2 PRG (02, §12). USR files are carried where they are on a disk, and no store makes one.
-pub fn storable_kind(kind: u32) -> bool
-    ensures { result ≡ storable_kind kind }
-{
-    if kind == 1 {
-        return true;
+// A kind that a store takes (02, §12). USR files are carried where they are on a disk, and no store makes one.
+#[derive(Clone, Copy, Debug, PartialEq, Eq)]
+pub enum Kind {
+    Seq,
+    Prg,
+}
+
+// A number of no kind that a store takes.
+#[derive(Clone, Copy, Debug, PartialEq, Eq)]
+pub struct UnknownKind;
+
+impl TryFrom<u32> for Kind {
+    type Error = UnknownKind;
+
+    ghost try_from_gives = { KindNumbered };
+
+    // The kind with this number: 1 SEQ or 2 PRG (02, §12).
+    #[tactic(auto, unfolding(d64spec::specs::Reply::storable_kind))]
+    fn try_from(number: u32) -> Result<Self, UnknownKind> {
+        match number {
+            1 => Ok(Kind::Seq),
+            2 => Ok(Kind::Prg),
+            _ => Err(UnknownKind),
+        }
     }
-    kind == 2
+}
+
+impl Kind {
+    // The number that a file of this kind has in its type byte (01, The directory).
+    pub fn number(self) -> u8
+        ensures { result ≡ number_of_kind self }
+    {
+        match self {
+            Kind::Seq => 1,
+            Kind::Prg => 2,
+        }
+    }
 }

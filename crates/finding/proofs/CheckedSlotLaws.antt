@@ -7,7 +7,8 @@ use mathlib.Core.Bool.{true, false}
 use mathlib.Core.List.{List, [], ◌∷◌, map}
 use lib.ListN.{length, take, drop}
 use lib.Dec.{eqb}
-use borrow.Author.Tests.{eq-eqb, ne_eqb}
+use borrow.Author.Tests.{ne_eqb}
+use Rattle.std.specs.Prelude.{Option, Some, None, is_none}
 use Rattle.d64spec.specs.Lists.{Bytes, All}
 use Rattle.d64spec.specs.Answers.{Fault, not_found, refused, done, first}
 use Rattle.d64spec.specs.Geometry.{Geometry}
@@ -17,14 +18,14 @@ use Rattle.d64spec.specs.Accepted.{ValidEntry}
 use Rattle.d64spec.specs.Reply.{valid_name_argument, files_named}
 use Rattle.d64spec.proofs.ResultLaws.{refused≢done}
 use Rattle.d64spec.specs.Layouts.{Known}
-use Rattle.answers.specs.declared.Verdict.TheVariants.{Fine}
+use Rattle.directory.specs.Directories.{found}
 use Rattle.diskcheck.specs.declared.Checked.{Checked}
-use Rattle.diskcheck.specs.SlotChecks.{image_slot, image_occupied}
-use Rattle.diskcheck.specs.ImageChecks.{ImageChecked}
+use Rattle.diskcheck.specs.SlotChecks.{image_occupied}
+use Rattle.diskcheck.specs.ImageChecks.{IsChecked}
 use Rattle.diskcheck.proofs.TrackLaws.{track18-lent}
 use Rattle.diskcheck.proofs.CheckedLaws.{fine-image}
 use Rattle.finding.specs.FileSlots.{slot_named, slot_placed, CheckedSlots}
-use Rattle.finding.proofs.FindLaws.{found_at, files_from, named-found, placed-found}
+use Rattle.finding.proofs.FindLaws.{file_found, files_from, named-found, placed-found}
 
 -- track 18 as the code lends it
 abbrev pub lent_track18 : Bytes → Bytes
@@ -47,9 +48,9 @@ some_first f (y ∷ l) e = ne_eqb (length (y ∷ l)) 0 (omega arith)
 
 module _ (g : Geometry) (kn : Known g) where
   -- A CHECKED IMAGE without a fault, as the check hands it back
-  pub checked-slots : {img : Bytes} {r : Checked} → ImageChecked g img r → r.verdict ≡ Fine → CheckedSlots g img r.sectors (8 * r.count)
-  checked-slots checked e =
-      let fine = fine-image g kn checked e in
+  pub checked-slots : {img : Bytes} {r : Checked} → IsChecked g img r → CheckedSlots g img r.sectors (8 * r.count)
+  checked-slots checked =
+      let fine = fine-image g kn checked in
       record {
         size = fine.accepted.size;
         accepted = fine.accepted;
@@ -64,15 +65,6 @@ module _ (g : Geometry) (kn : Known g) where
     unfolding files
     files-found = ap (map (file_of g (disk img))) there.occupied
 
-    -- where the search ends at the end of the slots, and where at a slot
-    pub found_none : {k : ℕ} → k ≡ end → found_at g img ss end k ≡ refused not_found
-    unfolding found_at
-    found_none {k} e = rw (eq-eqb k end e)
-
-    pub found_some : {k : ℕ} → (k ≡ end → ⊥) → found_at g img ss end k ≡ done (file_of g (disk img) (image_slot g img ss k))
-    unfolding found_at
-    found_some {k} e = rw (ne_eqb k end e)
-
     pub names-valid : All (λ s. valid_name s.bytes ≡ true) (image_occupied g img ss 0 end)
     unfolding file_of
     names-valid =
@@ -80,25 +72,23 @@ module _ (g : Geometry) (kn : Known g) where
         (rw files-found at there.accepted.content.entry)
 
     -- THE FILE OF A NAME
-    pub by_name : (name : Bytes) → valid_name_argument name ≡ true → {k : ℕ} → k ≡ slot_named (lent_track18 img) ss name 0 end
-        → first not_found (files_named name (files g (disk img))) ≡ found_at g img ss end k
+    pub by_name : (name : Bytes) → valid_name_argument name ≡ true → {r : Option ℕ} → r ≡ found end (slot_named (lent_track18 img) ss name 0 end)
+        → first not_found (files_named name (files g (disk img))) ≡ file_found g img ss r
     by_name name asked is =
         ap (λ (l : List File). first not_found (files_named name l)) files-found
         ∙ named-found g img ss name asked end end 0 (omega arith) names-valid
-        ∙ ap (found_at g img ss end) (sym (is ∙ ap (λ (b : Bytes). slot_named b ss name 0 end) (track18-lent g kn img)))
+        ∙ ap (file_found g img ss) (sym (is ∙ ap (λ (b : Bytes). found end (slot_named b ss name 0 end)) (track18-lent g kn img)))
 
     -- whether a file has the name
-    module _ (name : Bytes) (asked : valid_name_argument name ≡ true) {k : ℕ} (is : k ≡ slot_named (lent_track18 img) ss name 0 end) where
-      pub name_free : k ≡ end → eqb (length (files_named name (files g (disk img)))) 0 ≡ true
-      name_free e = none_first not_found (files_named name (files g (disk img))) (by_name name asked is ∙ found_none e)
-
-      pub name-used : (k ≡ end → ⊥) → eqb (length (files_named name (files g (disk img)))) 0 ≡ false
-      name-used e = some_first not_found (files_named name (files g (disk img))) (by_name name asked is ∙ found_some e)
+    pub name_free : (name : Bytes) → valid_name_argument name ≡ true → (r : Option ℕ) → r ≡ found end (slot_named (lent_track18 img) ss name 0 end)
+        → is_none r ≡ eqb (length (files_named name (files g (disk img)))) 0
+    name_free name asked None is = sym (none_first not_found (files_named name (files g (disk img))) (by_name name asked is))
+    name_free name asked (Some k) is = sym (some_first not_found (files_named name (files g (disk img))) (by_name name asked is))
 
     -- THE FILE AT A POSITION
-    pub by-position : (position : ℕ) {k : ℕ} → k ≡ slot_placed (lent_track18 img) ss position 0 end
-        → first not_found (drop position (files g (disk img))) ≡ found_at g img ss end k
+    pub by-position : (position : ℕ) → {r : Option ℕ} → r ≡ found end (slot_placed (lent_track18 img) ss position 0 end)
+        → first not_found (drop position (files g (disk img))) ≡ file_found g img ss r
     by-position position is =
         ap (λ (l : List File). first not_found (drop position l)) files-found
         ∙ placed-found g img ss end end position 0 (omega arith)
-        ∙ ap (found_at g img ss end) (sym (is ∙ ap (λ (b : Bytes). slot_placed b ss position 0 end) (track18-lent g kn img)))
+        ∙ ap (file_found g img ss) (sym (is ∙ ap (λ (b : Bytes). found end (slot_placed b ss position 0 end)) (track18-lent g kn img)))

@@ -1,14 +1,16 @@
--- The slot of a file by its name or by its position, and the first empty slot (01, Read; Tell; Store): the loops over the slots, and which file
--- of the definitions the slot found is. In order: the loops; the slot at hand, by name, by position, empty; the file found.
-use Prim.Native.Nat.{ℕ, zero, suc, ◌+◌, ◌-◌, ◌≤◌, ◌<◌}
+-- The slot of a file by its name or by its position, and the first empty slot (01, Read; Tell; Store): the searches over the slots, and which file
+-- of the definitions the slot found is. In order: the searches, by name, empty, by position; how far a search goes; the file found.
+use Prim.Native.Nat.{ℕ, zero, suc, ◌+◌, ◌<◌}
 use native.Mathlib.Omega.{arith}
 use native.Mathlib.Numerals.{add-one}
-use mathlib.Core.Path.{◌≡◌, refl, sym, ap, ◌∙◌}
+use mathlib.Core.Path.{◌≡◌, refl, sym, ◌∙◌}
 use mathlib.Core.Bool.{Bool, true, false, cond, not, ◌&&◌, and-false}
 use mathlib.Core.List.{List, ◌∷◌, map}
 use lib.ListN.{length, drop}
-use lib.Dec.{eqb}
-use borrow.Author.Tests.{eq-eqb, ne_eqb}
+use borrow.Author.Tests.{lt-ltb, le-ltb}
+use Rattle.std.specs.Prelude.{Option, Some, None, slice_get}
+use Rattle.std.specs.Option.{option_map}
+use Rattle.std.specs.List.{range_with_len, find, filter}
 use Rattle.d64spec.specs.Lists.{Bytes, All, equal}
 use Rattle.d64spec.specs.Answers.{not_found, Result, refused, done, first}
 use Rattle.d64spec.specs.Geometry.{Geometry}
@@ -17,97 +19,72 @@ use Rattle.d64spec.specs.Directory.{Slot, File, is_empty, name_field, padded, va
 use Rattle.d64spec.specs.Listing.{bytes_of_track18}
 use Rattle.d64spec.specs.Reply.{valid_name_argument, files_named}
 use Rattle.names.proofs.NameLaws.{equal-padded-misfit, equal-name_field-padded}
-use Rattle.directory.specs.Directories.{slot_bytes, occupied_from, IsSlot}
+use Rattle.directory.specs.Directories.{slot_bytes, occupied_from, found}
 use Rattle.diskcheck.specs.SlotChecks.{image_slot, image_occupied}
-use Rattle.finding.specs.FileSlots.{holds_name, holds_file, slot_named, slot_placed, slot_empty}
+use Rattle.finding.specs.FileSlots.{holds_file, slot_named, slot_placed, slot_empty}
 
--- ---- the loops
+-- ---- the searches, over the numbers of the slots
 
--- the slots before k do not decide: what is found from k on is what is asked for
-pub record Searching (end k found asked : ℕ) : Type 0 where
-  pub within : k ≤ end
-  pub same : found ≡ asked
+-- a number found, as it is
+pub as-found : (r : Option ℕ) → r ≡ option_map (λ k. k) r
+as-found None = refl
+as-found (Some k) = refl
 
-module _ (f : ℕ → ℕ) {end : ℕ} where
-  pub searching-start : Searching end 0 (f (end - 0)) (f end)
-  searching-start = let e : end - 0 ≡ end = omega arith in record { within = omega arith; same = ap f e }
+-- a search that stops at the first number which passes a test finds it, or none below the end
+module _ (test : ℕ → Bool) (search_from : ℕ → ℕ → ℕ) (stops : (k : ℕ) → search_from k 0 ≡ k)
+    (goes : (k n : ℕ) → search_from k (suc n) ≡ cond (test k) k (search_from (suc k) n)) where
+  find-found : (end n k : ℕ) → k + n ≡ end → find test (range_with_len k n) ≡ found end (search_from k n)
+  find-found end zero k e = rw (stops k, le-ltb k end (omega arith))
+  find-found end (suc n) k e = rw (goes k n, add-one) (go (test k) _ (find-found end n (suc k) (omega arith)))
+    where
+      go : (t : Bool) {r : Option ℕ} (i : ℕ) → r ≡ found end i → cond t (Some k) r ≡ found end (cond t k i)
+      go true i is = rw (lt-ltb k end (omega arith))
+      go false i is = is
 
-  pub searching-end : {k asked : ℕ} → Searching end k (f (end - k)) asked → end ≤ k → f 0 ≡ asked
-  searching-end {k} s h = let e : 0 ≡ end - k = omega arith in ap f e ∙ s.same
+module _ (b ss : List ℕ) where
+  pub named-by_find : (name : Bytes) (end : ℕ) → find (holds_file b ss name) (range_with_len 0 end) ≡ found end (slot_named b ss name 0 end)
+  named-by_find name end = find-found (holds_file b ss name) (slot_named b ss name) (λ k. refl) (λ k n. refl) end end 0 (omega arith)
 
-pub searching-next : {end k found found' asked : ℕ} → Searching end k found asked → k < end → found ≡ found' → Searching end (k + 1) found' asked
-searching-next s h e = record { within = omega arith; same = sym e ∙ s.same }
+  pub empty-by_find : (end : ℕ) → find (λ k. is_empty (slot_bytes b ss k)) (range_with_len 0 end) ≡ found end (slot_empty b ss 0 end)
+  empty-by_find end = find-found (λ k. is_empty (slot_bytes b ss k)) (slot_empty b ss) (λ k. refl) (λ k n. refl) end end 0 (omega arith)
 
-module _ (b ss : List ℕ) {end k : ℕ} (more : k < end) where
-  left_over : end - k ≡ suc (end - (k + 1))
-  left_over = omega arith
-
-  -- r is the test whether the slot at hand holds the name
-  module _ {p : Bytes} (slot : IsSlot b ss k p) (name : Bytes) {r : Bool} (compared : r ≡ holds_name p name) where
-    named-next : slot_named b ss name k (end - k) ≡ cond r k (slot_named b ss name (k + 1) (end - (k + 1)))
-    unfolding holds_file
-    named-next = rw (left_over, add-one k) (rw (compared, slot.bytes))
-
-    pub named_here : r ≡ true → slot_named b ss name k (end - k) ≡ k
-    named_here e = named-next ∙ rw e
-
-    pub named_other : r ≡ false → slot_named b ss name k (end - k) ≡ slot_named b ss name (k + 1) (end - (k + 1))
-    named_other e = named-next ∙ rw e
-
-  -- t is the test whether it is empty
-  module _ {p : Bytes} (slot : IsSlot b ss k p) {t : Bool} (asked : t ≡ is_empty p) where
-    empty-here : {u : Bool} → t ≡ u → is_empty (slot_bytes b ss k) ≡ u
-    empty-here e = sym (rw slot.bytes at asked) ∙ e
-
-    pub placed-empty : (left : ℕ) → t ≡ true → slot_placed b ss left k (end - k) ≡ slot_placed b ss left (k + 1) (end - (k + 1))
-    placed-empty zero e = rw (left_over, add-one k) (rw (empty-here e))
-    placed-empty (suc left) e = rw (left_over, add-one k) (rw (empty-here e))
-
-    pub placed-next : (left : ℕ) → t ≡ false → 1 ≤ left → slot_placed b ss left k (end - k) ≡ slot_placed b ss (left - 1) (k + 1) (end - (k + 1))
-    placed-next zero occupied h = absurd (omega arith)
-    placed-next (suc left) occupied h = let e : suc left - 1 ≡ left = omega arith in rw (left_over, add-one k, e) (rw (empty-here occupied))
-
-    pub placed-here : (left : ℕ) → t ≡ false → left < 1 → slot_placed b ss left k (end - k) ≡ k
-    placed-here zero occupied h = rw left_over (rw (empty-here occupied))
-    placed-here (suc left) occupied h = absurd (omega arith)
-
-    pub empty-next : t ≡ false → slot_empty b ss k (end - k) ≡ slot_empty b ss (k + 1) (end - (k + 1))
-    empty-next occupied = rw (left_over, add-one k) (rw (empty-here occupied))
-
-    pub empty-first : t ≡ true → slot_empty b ss k (end - k) ≡ k
-    empty-first e = rw left_over (rw (empty-here e))
+  -- the occupied one at a position
+  pub placed-by_nth : (position end n k : ℕ) → k + n ≡ end
+      → slice_get (filter (λ k. not (is_empty (slot_bytes b ss k))) (range_with_len k n)) position ≡ found end (slot_placed b ss position k n)
+  placed-by_nth zero end zero k e = rw (le-ltb k end (omega arith))
+  placed-by_nth (suc p) end zero k e = rw (le-ltb k end (omega arith))
+  placed-by_nth zero end (suc n) k e = rw add-one (go (is_empty (slot_bytes b ss k)) _ _ (placed-by_nth zero end n (suc k) (omega arith)))
+    where
+      go : (t : Bool) (l : List ℕ) (i : ℕ) → slice_get l 0 ≡ found end i → slice_get (cond (not t) (k ∷ l) l) 0 ≡ found end (cond t i k)
+      go true l i is = is
+      go false l i is = rw (lt-ltb k end (omega arith))
+  placed-by_nth (suc p) end (suc n) k e =
+      rw add-one (go (is_empty (slot_bytes b ss k)) _ _ _ (placed-by_nth (suc p) end n (suc k) (omega arith)) (placed-by_nth p end n (suc k) (omega arith)))
+    where
+      go : (t : Bool) (l : List ℕ) (i j : ℕ) → slice_get l (suc p) ≡ found end i → slice_get l p ≡ found end j
+          → slice_get (cond (not t) (k ∷ l) l) (suc p) ≡ found end (cond t i j)
+      go true l i j same less = same
+      go false l i j same less = less
 
 -- ---- how far a search goes
 
 module _ (b ss : List ℕ) where
   -- no name field holds a name of more than 16 bytes
-  pub named-long : (name : Bytes) → 16 < length name → (k n : ℕ) → slot_named b ss name k n ≡ k + n
+  named-long : (name : Bytes) → 16 < length name → (k n : ℕ) → slot_named b ss name k n ≡ k + n
   unfolding holds_file
   named-long name long k zero = omega arith
   named-long name long k (suc n) =
       rw (equal-padded-misfit (slot_bytes b ss k) name (λ e h. omega arith), and-false) (named-long name long (suc k) n ∙ omega arith)
 
-  pub slot_named-le : (name : Bytes) (k n : ℕ) → slot_named b ss name k n ≤ k + n
-  slot_named-le name k zero = omega arith
-  slot_named-le name k (suc n) = go (holds_file b ss name k) (slot_named-le name (suc k) n)
-    where
-      go : (t : Bool) {r : ℕ} → r ≤ suc k + n → cond t k r ≤ k + suc n
-      go true h = omega arith
-      go false h = omega arith
-
-  pub slot_empty-le : (k n : ℕ) → slot_empty b ss k n ≤ k + n
-  slot_empty-le k zero = omega arith
-  slot_empty-le k (suc n) = go (is_empty (slot_bytes b ss k)) (slot_empty-le (suc k) n)
-    where
-      go : (t : Bool) {r : ℕ} → r ≤ suc k + n → cond t k r ≤ k + suc n
-      go true h = omega arith
-      go false h = omega arith
+  pub none-long : (name : Bytes) → 16 < length name → (end : ℕ) → None ≡ found end (slot_named b ss name 0 end)
+  none-long name long end = rw (named-long name long 0 end, le-ltb (0 + end) end (omega arith))
 
 -- ---- the file found
 
--- the file of slot i, or 13 where i is the end of the slots
-unfoldable pub found_at : Geometry → Bytes → List ℕ → ℕ → ℕ → Result File
-found_at g img ss end i = cond (eqb i end) (refused not_found) (done (file_of g (disk img) (image_slot g img ss i)))
+-- the file of the slot found, or 13 where none is
+abbrev pub file_found : Geometry → Bytes → List ℕ → Option ℕ → Result File
+file_found g img ss None = refused not_found
+file_found g img ss (Some i) = done (file_of g (disk img) (image_slot g img ss i))
 
 module _ (g : Geometry) (img : Bytes) (ss : List ℕ) where
   -- the files of the occupied slots among the n from k on
@@ -116,9 +93,9 @@ module _ (g : Geometry) (img : Bytes) (ss : List ℕ) where
 
   pub named-found : (name : Bytes) → valid_name_argument name ≡ true → (end n k : ℕ) → k + n ≡ end
       → All (λ s. valid_name s.bytes ≡ true) (image_occupied g img ss k n)
-      → first not_found (files_named name (files_from k n)) ≡ found_at g img ss end (slot_named (bytes_of_track18 g img) ss name k n)
-  unfolding found_at files_named file_of first holds_file occupied_from
-  named-found name asked end zero k e valid = rw (eq-eqb k end (omega arith))
+      → first not_found (files_named name (files_from k n)) ≡ file_found g img ss (found end (slot_named (bytes_of_track18 g img) ss name k n))
+  unfolding files_named file_of first holds_file occupied_from
+  named-found name asked end zero k e valid = rw (le-ltb k end (omega arith))
   named-found name asked end (suc n) k e valid = go (is_empty x.bytes) valid (λ a. named-found name asked end n (suc k) (omega arith) a)
     where
       x : Slot
@@ -131,33 +108,35 @@ module _ (g : Geometry) (img : Bytes) (ss : List ℕ) where
       next = slot_named (bytes_of_track18 g img) ss name (suc k) n
 
       named : (t : Bool) → equal (name_field x.bytes) (padded name) ≡ t → valid_name x.bytes ≡ true
-          → first not_found (files_named name (map (file_of g (disk img)) rest)) ≡ found_at g img ss end next
-          → first not_found (files_named name (map (file_of g (disk img)) (x ∷ rest))) ≡ found_at g img ss end (cond t k next)
-      named true is v ih = rw (sym (equal-name_field-padded x.bytes name v asked) ∙ is) (rw (ne_eqb k end (omega arith)))
+          → first not_found (files_named name (map (file_of g (disk img)) rest)) ≡ file_found g img ss (found end next)
+          → first not_found (files_named name (map (file_of g (disk img)) (x ∷ rest))) ≡ file_found g img ss (found end (cond t k next))
+      named true is v ih = rw (sym (equal-name_field-padded x.bytes name v asked) ∙ is) (rw (lt-ltb k end (omega arith)))
       named false is v ih = rw (sym (equal-name_field-padded x.bytes name v asked) ∙ is) ih
 
       go : (b : Bool) → All (λ s. valid_name s.bytes ≡ true) (cond (not b) (x ∷ rest) rest)
-          → (All (λ s. valid_name s.bytes ≡ true) rest → first not_found (files_named name (map (file_of g (disk img)) rest)) ≡ found_at g img ss end next)
+          → (All (λ s. valid_name s.bytes ≡ true) rest
+          → first not_found (files_named name (map (file_of g (disk img)) rest)) ≡ file_found g img ss (found end next))
           → first not_found (files_named name (map (file_of g (disk img)) (cond (not b) (x ∷ rest) rest)))
-          ≡ found_at g img ss end (cond (not b && equal (name_field x.bytes) (padded name)) k next)
+          ≡ file_found g img ss (found end (cond (not b && equal (name_field x.bytes) (padded name)) k next))
       go true a ih = ih a
       go false a ih = named (equal (name_field x.bytes) (padded name)) refl a.0 (ih a.1)
 
   pub placed-found : (end n position k : ℕ) → k + n ≡ end
-      → first not_found (drop position (files_from k n)) ≡ found_at g img ss end (slot_placed (bytes_of_track18 g img) ss position k n)
-  unfolding found_at first occupied_from
-  placed-found end zero zero k e = rw (eq-eqb k end (omega arith))
-  placed-found end zero (suc p) k e = rw (eq-eqb k end (omega arith))
+      → first not_found (drop position (files_from k n)) ≡ file_found g img ss (found end (slot_placed (bytes_of_track18 g img) ss position k n))
+  unfolding first occupied_from
+  placed-found end zero zero k e = rw (le-ltb k end (omega arith))
+  placed-found end zero (suc p) k e = rw (le-ltb k end (omega arith))
   placed-found end (suc n) zero k e = go (is_empty (image_slot g img ss k).bytes) (placed-found end n zero (suc k) (omega arith))
     where
       rest : List Slot
       rest = image_occupied g img ss (suc k) n
 
-      go : (b : Bool) → first not_found (map (file_of g (disk img)) rest) ≡ found_at g img ss end (slot_placed (bytes_of_track18 g img) ss zero (suc k) n)
+      go : (b : Bool)
+          → first not_found (map (file_of g (disk img)) rest) ≡ file_found g img ss (found end (slot_placed (bytes_of_track18 g img) ss zero (suc k) n))
           → first not_found (map (file_of g (disk img)) (cond (not b) (image_slot g img ss k ∷ rest) rest))
-          ≡ found_at g img ss end (cond b (slot_placed (bytes_of_track18 g img) ss zero (suc k) n) k)
+          ≡ file_found g img ss (found end (cond b (slot_placed (bytes_of_track18 g img) ss zero (suc k) n) k))
       go true ih = ih
-      go false ih = rw (ne_eqb k end (omega arith))
+      go false ih = rw (lt-ltb k end (omega arith))
   placed-found end (suc n) (suc p) k e =
       go (is_empty (image_slot g img ss k).bytes) (placed-found end n (suc p) (suc k) (omega arith)) (placed-found end n p (suc k) (omega arith))
     where
@@ -165,9 +144,11 @@ module _ (g : Geometry) (img : Bytes) (ss : List ℕ) where
       rest = image_occupied g img ss (suc k) n
 
       go : (b : Bool)
-          → first not_found (drop (suc p) (map (file_of g (disk img)) rest)) ≡ found_at g img ss end (slot_placed (bytes_of_track18 g img) ss (suc p) (suc k) n)
-          → first not_found (drop p (map (file_of g (disk img)) rest)) ≡ found_at g img ss end (slot_placed (bytes_of_track18 g img) ss p (suc k) n)
+          → first not_found (drop (suc p) (map (file_of g (disk img)) rest))
+          ≡ file_found g img ss (found end (slot_placed (bytes_of_track18 g img) ss (suc p) (suc k) n))
+          → first not_found (drop p (map (file_of g (disk img)) rest)) ≡ file_found g img ss (found end (slot_placed (bytes_of_track18 g img) ss p (suc k) n))
           → first not_found (drop (suc p) (map (file_of g (disk img)) (cond (not b) (image_slot g img ss k ∷ rest) rest)))
-          ≡ found_at g img ss end (cond b (slot_placed (bytes_of_track18 g img) ss (suc p) (suc k) n) (slot_placed (bytes_of_track18 g img) ss p (suc k) n))
+          ≡ file_found g img ss
+          (found end (cond b (slot_placed (bytes_of_track18 g img) ss (suc p) (suc k) n) (slot_placed (bytes_of_track18 g img) ss p (suc k) n)))
       go true same ih = same
       go false same ih = ih

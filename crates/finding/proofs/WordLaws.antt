@@ -3,6 +3,7 @@
 use Prim.Native.Nat.{ℕ, ◌≤◌, ◌<◌}
 use native.Mathlib.Omega.{arith}
 use mathlib.Core.Path.{◌≡◌, sym, ap, ◌∙◌}
+use mathlib.Core.List.{List}
 use mathlib.Core.Bool.{Bool, false, ◌&&◌, and-false}
 use lib.ListN.{length, take, drop, length-take, length-drop}
 use lib.Dec.{eqb}
@@ -12,7 +13,8 @@ use Rattle.d64spec.specs.Directory.{name_field, padded}
 use Rattle.parts.specs.Numbers.{eight_of, IsEight}
 use Rattle.parts.proofs.NumberLaws.{equal-sixteen}
 use Rattle.names.proofs.NameLaws.{length-padded, equal-padded-misfit, padded-whole, byte-padded-lt}
-use Rattle.finding.specs.FileSlots.{holds_name, IsWords, WordsCompared}
+use Rattle.directory.specs.Directories.{IsSlot}
+use Rattle.finding.specs.FileSlots.{holds_name, holds_file, IsWords, WordsCompared}
 
 -- THE WORDS OF A NAME, read from its 16 bytes f
 pub name-words : (name : Bytes) → length name ≤ 16 → ((i : ℕ) → byte name i < 256) → {f : Bytes} → f ≡ take 16 (padded name)
@@ -63,3 +65,9 @@ module _ (p : Bytes) {x y : ℕ} where
           let high = rw at-11 at (second.value (omega arith)) in
           sym (holds-words name w ∙ rw (eq-eqb (eight_of p 3) x (sym low ∙ same)) (sym (asked ∙ rw high)));
     }
+
+-- a slot's answer is that of its number
+pub compared-file : (b ss : List ℕ) {name : Bytes} {x y : ℕ} → IsWords name x y → {k : ℕ} {p : Bytes} {r : Bool} → IsSlot b ss k p → WordsCompared p x y r
+    → r ≡ holds_file b ss name k
+unfolding holds_file
+compared-file b ss {name} words slot asked = asked.answer name words ∙ ap (λ (p : Bytes). holds_name p name) slot.bytes

@@ -1,4 +1,3 @@
-pub mod ClearLaws
 pub mod MapSectorLaws
 pub mod FreshLaws
 pub mod ReplyLaws

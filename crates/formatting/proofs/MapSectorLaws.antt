@@ -79,7 +79,7 @@ entries_from t (e ∷ es) none = go (equal e (longest t)) refl (entries_from (su
     go false same more h = absurd (let z : ◌≡◌ {A = ℕ} 0 1 = cc in omega arith)
 
 longest-tracks : tracks speed_dos ≡ 40
-longest-tracks = tracks-with SpeedDos (λ e. omega arith)
+longest-tracks = tracks-with SpeedDos refl
 
 -- a map sector of zeros has no mark
 zeros-byte : (n k : ℕ) → byte (zeros n) k ≡ 0

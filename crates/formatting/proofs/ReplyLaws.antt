@@ -1,9 +1,10 @@
 -- The reply to a format (01, Answer numbers; Format): refused with 1 or 9, or done; and that the code's report says the same.
 use Prim.Native.Nat.{ℕ, ◌*◌}
-use mathlib.Core.Path.{◌≡◌}
+use mathlib.Core.Path.{◌≡◌, refl}
 use mathlib.Core.Bool.{true, false}
 use mathlib.Core.List.{[]}
 use lib.ListN.{length}
+use Rattle.std.specs.Prelude.{Ok, Err}
 use Rattle.d64spec.specs.Lists.{Bytes}
 use Rattle.d64spec.specs.Answers.{refused, wrong_size, bad_name_argument}
 use Rattle.d64spec.specs.Geometry.{Geometry, total}
@@ -12,18 +13,16 @@ use Rattle.d64spec.specs.Reply.{reply, valid_name_argument}
 use Rattle.d64spec.specs.Format.{call_format, formatted_disk}
 use Rattle.d64spec.specs.Call.{attempt, format, output_buffer, perform}
 use Rattle.answers.specs.declared.Fault as code
-use Rattle.answers.specs.declared.Verdict.TheVariants.{Fine, Refused}
-use Rattle.answers.specs.declared.Report.{Report}
-use Rattle.answers.specs.Faults.{fault_of, verdict_of, answer_to, reply_of}
+use Rattle.answers.specs.declared.Done.{Done}
+use Rattle.answers.specs.Faults.{fault_of, called_answer, reported, reply_of}
 use Rattle.answers.proofs.RefusedLaws.{call-refused, size-true, size-false}
 
 module _ (g : Geometry) (img name : Bytes) (i j : ℕ) where
   -- THE REPLY TO A FORMAT that is refused
-  pub format-refused : {rep : Report} (f : code.Fault) → rep ≡ record { verdict = Refused f; length = 0; sectors = 0 }
-      → call_format g img name i j ≡ refused (fault_of f)
-      → reply_of rep img [] ≡ perform g img (format name i j)
+  pub format-refused : (f : code.Fault) → call_format g img name i j ≡ refused (fault_of f)
+      → reply_of (Err f) img [] ≡ perform g img (format name i j)
   unfolding attempt output_buffer
-  format-refused f e r = call-refused g img (format name i j) f e r
+  format-refused f r = call-refused g img (format name i j) f refl r
 
   pub format-size : (length img ≡ 256 * total g → ⊥) → call_format g img name i j ≡ refused wrong_size
   unfolding call_format
@@ -35,7 +34,7 @@ module _ (g : Geometry) (img name : Bytes) (i j : ℕ) where
     format-name asked = rw (size-true g img size, asked)
 
     -- THE REPLY TO A FORMAT that is done
-    pub format-done : {rep : Report} {img' : Bytes} → valid_name_argument name ≡ true → img' ≡ image g (formatted_disk g name i j)
-        → rep ≡ record { verdict = Fine; length = 0; sectors = 0 } → reply_of rep img' [] ≡ perform g img (format name i j)
-    unfolding perform attempt output_buffer call_format reply verdict_of answer_to
-    format-done asked e r = rw (r, e, size-true g img size, asked)
+    pub format-done : {d : Done} {img' : Bytes} → valid_name_argument name ≡ true → img' ≡ image g (formatted_disk g name i j)
+        → d.length ≡ 0 → d.sectors ≡ 0 → reply_of (Ok d) img' [] ≡ perform g img (format name i j)
+    unfolding perform attempt output_buffer call_format reply called_answer reported
+    format-done asked e none nowhere = rw (none, nowhere, e, size-true g img size, asked)

@@ -3,15 +3,13 @@
 
 ghost use Rattle.std.specs.Prelude.{◌≡◌, [], ◌*◌, ◌≤◌, length};
 ghost use Rattle.geometry.specs.Layout.{geometry_of};
-ghost use Rattle.d64spec.specs.Lists.{zeros};
 ghost use Rattle.d64spec.specs.Geometry.{total};
 ghost use Rattle.d64spec.specs.Image.{image};
-ghost use Rattle.bam.specs.Expected.{Expects};
-ghost use Rattle.d64spec.specs.Format.{format_header, formatted_disk, formatted_map, free_after_format};
+ghost use Rattle.d64spec.specs.Format.{format_header, formatted_disk, formatted_map};
 ghost use Rattle.d64spec.specs.Call.{format, perform};
 ghost use Rattle.answers.specs.Faults.{reply_of};
 
-use answers::{Fault, Report, Verdict};
+use answers::{Done, Fault};
 use geometry::Layout;
 
 // A track whose sectors are all free, by the number of them: the count and three bitmap bytes.
@@ -27,30 +25,12 @@ const FREE_17: [u8; 4] = [17, 0xFF, 0xFF, 0x01];
 const TRACK_18: [u8; 4] = [17, 0xFC, 0xFF, 0x07];
 
 // The map of a fresh disk, from track 1 on. The first 35 entries are alike in all layouts.
-const FRESH_MAP: [[u8; 4]; 40] = [
+static FRESH_MAP: [[u8; 4]; 40] = [
     FREE_21, FREE_21, FREE_21, FREE_21, FREE_21, FREE_21, FREE_21, FREE_21, FREE_21, FREE_21,
     FREE_21, FREE_21, FREE_21, FREE_21, FREE_21, FREE_21, FREE_21, TRACK_18, FREE_19, FREE_19,
     FREE_19, FREE_19, FREE_19, FREE_19, FREE_18, FREE_18, FREE_18, FREE_18, FREE_18, FREE_18,
     FREE_17, FREE_17, FREE_17, FREE_17, FREE_17, FREE_17, FREE_17, FREE_17, FREE_17, FREE_17,
 ];
-
-// Sets every byte to 0.
-fn clear_all(img: &mut [u8])
-    ensures { img.new ≡ zeros (length img.old) }
-{
-    let mut i: usize = 0;
-    while i < img.len() {
-        img[i] = 0;
-        i += 1;
-    }
-}
-
-// The map of a fresh disk.
-fn fresh_map(layout: Layout) -> [[u8; 4]; 40]
-    ensures { Expects (geometry_of layout) (free_after_format (geometry_of layout)) (zeros 256) result }
-{
-    FRESH_MAP
-}
 
 // 18/0 of a fresh disk but for the map: each run of bytes at its offset, zero elsewhere.
 fn fresh_header(name: &[u8], id1: u8, id2: u8) -> [u8; 256]
@@ -76,8 +56,7 @@ fn fresh_map_sector(layout: Layout, name: &[u8], id1: u8, id2: u8) -> [u8; 256]
     ensures { result ≡ formatted_map (geometry_of layout) name.now id1 id2 }
 {
     let mut m = fresh_header(name, id1, id2);
-    let map = fresh_map(layout);
-    bam::store_map(layout, &map, &mut m);
+    bam::store_map(layout, &FRESH_MAP, &mut m);
     m
 }
 
@@ -86,7 +65,7 @@ fn write_fresh(layout: Layout, img: &mut [u8], name: &[u8], id1: u8, id2: u8)
     requires { (length img.old ≡ 256 * total (geometry_of layout)) × (length name.now ≤ 16) }
     ensures { img.new ≡ image (geometry_of layout) (formatted_disk (geometry_of layout) name.now id1 id2) }
 {
-    clear_all(img);
+    img.fill(0);
     let first = sectors::empty_directory_sector();
     sectors::write_sector(img, 358, &first);
     let m = fresh_map_sector(layout, name, id1, id2);
@@ -94,15 +73,22 @@ fn write_fresh(layout: Layout, img: &mut [u8], name: &[u8], id1: u8, id2: u8)
 }
 
 // Formats an image: all zero except 18/0 and 18/1. Refused with 1 or 9, in this order; a refusal leaves the image as it was.
-pub fn format_image(layout: Layout, img: &mut [u8], name: &[u8], id1: u8, id2: u8) -> Report
+pub fn format_image(
+    layout: Layout,
+    img: &mut [u8],
+    name: &[u8],
+    id1: u8,
+    id2: u8,
+) -> Result<Done, Fault>
     ensures { reply_of result img.new [] ≡ perform (geometry_of layout) img.old (format name.now id1 id2) }
 {
+    // size and name are asked alike in four calls, and what comes next differs: a store asks the kind, a format runs no check
     if img.len() != geometry::image_size(layout) {
-        return answers::refuse(Fault::WrongSize);
+        return Err(Fault::WrongSize);
     }
     if !names::valid_name_argument(name) {
-        return answers::refuse(Fault::BadNameArgument);
+        return Err(Fault::BadNameArgument);
     }
     write_fresh(layout, img, name, id1, id2);
-    answers::report_of(Verdict::Fine)
+    Ok(Done::default())
 }

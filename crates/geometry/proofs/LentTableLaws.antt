@@ -1,21 +1,22 @@
--- Tracks and numbers by lent tables (specs/Layout: entry_by, track_by, number_by), and at the layouts' own tables.
--- In order: a track's entry, and a track, by cases; the tables give a layout's counts and numbers; so do all that agree with it.
+-- Tracks and numbers by the table (specs/Layout: entry_by, track_on, number_by), which is every layout's.
+-- In order: a track's entry by cases; a row of the table; the table gives a layout's counts and numbers; a track of the layout.
 use Prim.Native.Nat.{ℕ, zero, suc, ◌+◌, ◌-◌, ◌≤◌, ◌<◌}
 use native.Mathlib.Omega.{arith}
 use native.Mathlib.Decide.{dec_le}
+use Rattle.std.specs.Prelude.{ltb}
 use mathlib.Core.Path.{◌≡◌, refl, ap, sym, ◌∙◌}
-use mathlib.Core.Bool.{true}
-use mathlib.Core.List.{List, [], ◌∷◌, ◌++◌}
-use lib.ListN.{length, get_or, get_or-eq_default}
-use borrow.Author.Tests.{ltb-true, le-leb, lt-leb}
+use mathlib.Core.Bool.{true, false}
+use mathlib.Core.List.{List, ◌∷◌, [], ◌++◌}
+use lib.ListN.{length, get_or, get_or-eq_default, get_or-map}
+use borrow.Author.Tests.{ltb-true, lt-ltb, le-ltb, lt-leb, le-leb}
 use Rattle.d64spec.specs.Lists.{zeros}
 use Rattle.d64spec.specs.Answers.{Address, address}
 use Rattle.d64spec.specs.Geometry.{Geometry, layout35, layout40, tracks, sectors_on, on_disk, sector_number}
 use Rattle.geometry.specs.declared.Layout.{Layout}
 use Rattle.geometry.specs.declared.Track.{Track}
-use Rattle.geometry.specs.Layout.{geometry_of, entry_by, track_by, number_by, IsCounts, IsFirsts}
-use Rattle.geometry.proofs.Tables.{counts, firsts}
-use Rattle.geometry.proofs.TableLaws.{Fronts, fronts, count_none, count_past, first-at}
+use Rattle.geometry.specs.declared.TheConstants.{TRACKS}
+use Rattle.geometry.specs.Layout.{geometry_of, counts, firsts, entry_by, track_on, number_by, IsCounts, IsFirsts, track_by}
+use Rattle.geometry.proofs.TableLaws.{fronts, count_none, count_past, count_at, first-at}
 
 module _ (l : List ℕ) (t : ℕ) where
   pub entry_by-none : t < 1 → entry_by l t ≡ 0
@@ -44,6 +45,32 @@ module _ (counts firsts : List ℕ) (t : ℕ) where
   unfolding track_by
   track_by-at low high is = rw (is, le-leb 1 t low, le-leb t 40 high)
 
+-- the table's row of a track stands at t - 1
+module _ (t : ℕ) (low : 1 ≤ t) where
+  pub row-sectors : (get_or TRACKS (t - 1) (0, 0)).0 ≡ entry_by counts t
+  unfolding counts
+  row-sectors = sym (entry_by-at counts t low ∙ get_or-map (λ (row : ℕ × ℕ). row.0) TRACKS (t - 1) (0, 0))
+
+  pub row-first : (get_or TRACKS (t - 1) (0, 0)).1 ≡ entry_by firsts t
+  unfolding firsts
+  row-first = sym (entry_by-at firsts t low ∙ get_or-map (λ (row : ℕ × ℕ). row.1) TRACKS (t - 1) (0, 0))
+
+-- there is none below track 1, and none past track 40
+module _ (t : ℕ) (off : 1 ≤ t → 40 < t) where
+  entry-off : (l : List ℕ) → length l ≡ 40 → entry_by l t ≡ 0
+  entry-off l e = elim (dec_le 1 t) [ yes low ↦ entry_by-past l t (omega (arith, off low)) | no none ↦ entry_by-none l t (omega arith) ]
+
+  pub count-off : entry_by counts t ≡ 0
+  unfolding counts
+  count-off = entry-off counts refl
+
+  pub first-off : entry_by firsts t ≡ 0
+  unfolding firsts
+  first-off = entry-off firsts refl
+
+-- what a row says of a track
+pub ruleset rows = (row-sectors, row-first, count-off, first-off)
+
 -- a sector of the disk lies on one of its tracks
 pub tracks-of-on_disk : (g : Geometry) (r : Address) → on_disk g r ≡ true → (1 ≤ r.track) × (r.track ≤ tracks g)
 unfolding on_disk
@@ -53,12 +80,35 @@ tracks-of-on_disk g r on =
     let few : tracks g < r.track → ⊥ = λ l. omega (arith, count_past g r.track l) in
     (omega arith, omega arith)
 
--- by the first numbers, a sector of the disk has its number
-number_by-firsts : (g : Geometry) → Fronts g → (r : Address) → on_disk g r ≡ true → number_by firsts r ≡ sector_number g r
+-- THE TABLE IS EVERY LAYOUT'S: on the tracks that the layout has, its counts
+pub count-known : (layout : Layout) (t : ℕ) → t ≤ tracks (geometry_of layout) → entry_by counts t ≡ sectors_on (geometry_of layout) t
+count-known layout zero h = entry_by-none counts 0 (omega arith) ∙ sym (count_none (geometry_of layout) 0 (omega arith))
+count-known layout (suc t) h = entry_by-at counts (suc t) (omega arith) ∙ sym (count_at (geometry_of layout) (fronts layout) (suc t) (omega arith) h)
+
+-- .. and none past the last one
+pub ruleset counted = (count-known, count_past)
+
+-- a track that the layout does not have, and one that it has, by the table
+pub track-off : (layout : Layout) (t : ℕ) → (1 ≤ t → tracks (geometry_of layout) < t) → record { number = t; sectors = 0; first = 0 } ≡ track_on (geometry_of layout) t
+unfolding track_on
+track-off layout t off = elim (dec_le 1 t) [
+  | yes low ↦ rw (count_past (geometry_of layout) t (off low), lt-ltb (tracks (geometry_of layout)) t (off low)) refl
+  | no none ↦
+      let h : t < 1 = omega arith in
+      rw (count_none (geometry_of layout) t h, entry_by-none firsts t h, le-ltb (tracks (geometry_of layout)) t (omega arith)) refl
+]
+
+pub track-at : (layout : Layout) (t : ℕ) {row : ℕ × ℕ} → 1 ≤ t → t ≤ tracks (geometry_of layout) → row ≡ get_or TRACKS (t - 1) (0, 0)
+    → record { number = t; sectors = row.0; first = row.1 } ≡ track_on (geometry_of layout) t
+unfolding track_on
+track-at layout t low high is = rw (is, row-sectors t low, row-first t low, count-known layout t high, le-ltb (tracks (geometry_of layout)) t high) refl
+
+-- .. and a sector of the disk has its number by the table
+pub number-known : (layout : Layout) (r : Address) → on_disk (geometry_of layout) r ≡ true → number_by firsts r ≡ sector_number (geometry_of layout) r
 unfolding number_by sector_number
-number_by-firsts g f r on =
-    let k = tracks-of-on_disk g r on in
-    ap (λ (x : ℕ). x + r.sector) (entry_by-at firsts r.track k.0 ∙ sym (first-at g f r.track k.0 k.1))
+number-known layout r on =
+    let k = tracks-of-on_disk (geometry_of layout) r on in
+    ap (λ (x : ℕ). x + r.sector) (entry_by-at firsts r.track k.0 ∙ sym (first-at (geometry_of layout) (fronts layout) r.track k.0 k.1))
 
 -- a table of counts with zeros behind it
 more-zeros : (l : List ℕ) (n t : ℕ) → get_or (l ++ zeros n) t 0 ≡ get_or l t 0
@@ -68,23 +118,24 @@ more-zeros [] (suc n) (suc t) = more-zeros [] n t
 more-zeros (x ∷ l) n zero = refl
 more-zeros (x ∷ l) n (suc t) = more-zeros l n t
 
--- THE TABLES ARE THE LAYOUTS'
+-- the same said of tables of counts and of first numbers
 pub counts-35 : IsCounts layout35 (layout35.counts ++ zeros 5)
 unfolding entry_by sectors_on
 counts-35 = record { agrees = λ t. more-zeros (0 ∷ layout35.counts) 5 t }
 
 pub counts-40 : (extra : ℕ) → IsCounts (layout40 extra) counts
-unfolding layout40 entry_by sectors_on
+unfolding layout40 entry_by sectors_on counts
 counts-40 extra = record { agrees = λ t. refl }
 
 pub firsts-of : (layout : Layout) → IsFirsts (geometry_of layout) firsts
-firsts-of layout = record { agrees = number_by-firsts (geometry_of layout) (fronts layout) }
+firsts-of layout = record { agrees = number-known layout }
 
--- A TRACK BY TABLES THAT AGREE WITH THE LAYOUT: its sectors, and the numbers of those on the disk
+-- A TRACK AS A LAYOUT HAS IT: its sectors, and the numbers of those on the disk
 pub record IsTrack (g : Geometry) (on : Track) : Type 0 where
   pub count : on.sectors ≡ sectors_on g on.number
   pub first : (s : ℕ) → on_disk g (address on.number s) ≡ true → on.first + s ≡ sector_number g (address on.number s)
 
+-- by tables that agree with the layout, whichever it is
 module _ {g : Geometry} (few : tracks g ≤ 40) where
   pub track-known : {counts firsts : List ℕ} {on : Track} {t : ℕ} → IsCounts g counts → IsFirsts g firsts → on ≡ track_by counts firsts t
       → (on.number ≡ t) × IsTrack g on
@@ -114,3 +165,11 @@ module _ {g : Geometry} (few : tracks g ≤ 40) where
       )
     ]
   ]
+
+-- .. and as the code has it
+pub track-on-known : (layout : Layout) {on : Track} {t : ℕ} → on ≡ track_on (geometry_of layout) t → (on.number ≡ t) × IsTrack (geometry_of layout) on
+unfolding track_on number_by
+track-on-known layout {on} {t} is =
+    let none : (s : ℕ) → on_disk (geometry_of layout) (address t s) ≡ true → ltb (tracks (geometry_of layout)) t ≡ false =
+    λ s at. le-ltb (tracks (geometry_of layout)) t (tracks-of-on_disk (geometry_of layout) (address t s) at).1 in
+    rw is (refl, record { count = refl; first = λ s at. rw (none s at) (number-known layout (address t s) at) })

@@ -1,4 +1,3 @@
-pub mod Tables
 pub mod Every
 pub mod TableLaws
 pub mod LentTableLaws

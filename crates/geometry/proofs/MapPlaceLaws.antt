@@ -2,6 +2,7 @@
 use Prim.Native.Nat.{ℕ, ◌+◌, ◌-◌, ◌*◌, ◌≤◌}
 use native.Mathlib.Omega.{arith}
 use mathlib.Core.Path.{◌≡◌, refl}
+use Rattle.std.specs.Prelude.{None, Some}
 use Rattle.d64spec.specs.Geometry.{layout35, speed_dos, dolphin, tracks}
 use Rattle.d64spec.proofs.LayoutLaws.{map-low, map-high, tracks35, tracks40}
 use Rattle.geometry.specs.Layout.{geometry_of, extra_of}
@@ -18,26 +19,26 @@ place-low Tracks35 t h = low35 t
 place-low SpeedDos t h = map-low 0xC0 t h
 place-low Dolphin t h = map-low 0xAC t h
 
-pub place-high : (layout : Layout) (t : ℕ) → (extra_of layout ≡ 0 → ⊥) → 36 ≤ t → (geometry_of layout).map_at t ≡ extra_of layout + 4 * (t - 36)
+pub place-high : (layout : Layout) {at : ℕ} (t : ℕ) → extra_of layout ≡ Some at → 36 ≤ t → (geometry_of layout).map_at t ≡ at + 4 * (t - 36)
 unfolding speed_dos dolphin
-place-high Tracks35 t e h = absurd (e refl)
-place-high SpeedDos t e h = map-high 0xC0 t h
-place-high Dolphin t e h = map-high 0xAC t h
+place-high Tracks35 t e h = absurd (cc)
+place-high SpeedDos {at} t e h = let k : 0xC0 ≡ at = cc in rw (← k) (map-high 0xC0 t h)
+place-high Dolphin {at} t e h = let k : 0xAC ≡ at = cc in rw (← k) (map-high 0xAC t h)
 
 -- how many tracks there are, by that place
-pub tracks-without : (layout : Layout) → extra_of layout ≡ 0 → tracks (geometry_of layout) ≡ 35
+pub tracks-without : (layout : Layout) → extra_of layout ≡ None → tracks (geometry_of layout) ≡ 35
 tracks-without Tracks35 e = tracks35
-tracks-without SpeedDos e = absurd (omega arith)
-tracks-without Dolphin e = absurd (omega arith)
+tracks-without SpeedDos e = absurd (cc)
+tracks-without Dolphin e = absurd (cc)
 
-pub tracks-with : (layout : Layout) → (extra_of layout ≡ 0 → ⊥) → tracks (geometry_of layout) ≡ 40
+pub tracks-with : (layout : Layout) {at : ℕ} → extra_of layout ≡ Some at → tracks (geometry_of layout) ≡ 40
 unfolding speed_dos dolphin
-tracks-with Tracks35 e = absurd (e refl)
+tracks-with Tracks35 e = absurd (cc)
 tracks-with SpeedDos e = tracks40 0xC0
 tracks-with Dolphin e = tracks40 0xAC
 
 -- five entries from there on stand inside the sector
-pub extra-small : (layout : Layout) → extra_of layout + 20 ≤ 256
-extra-small Tracks35 = omega arith
-extra-small SpeedDos = omega arith
-extra-small Dolphin = omega arith
+pub extra-small : (layout : Layout) {at : ℕ} → extra_of layout ≡ Some at → at + 20 ≤ 256
+extra-small Tracks35 e = absurd (cc)
+extra-small SpeedDos {at} e = let k : 0xC0 ≡ at = cc in omega arith
+extra-small Dolphin {at} e = let k : 0xAC ≡ at = cc in omega arith

@@ -1,41 +1,19 @@
-// The layout that a call names by its number, or a program by a digit (02, §8): the one place where a number becomes a layout.
+// The layout that a program's argument names by a digit (02, §8).
 #![tactic(auto)]
 
 ghost use Rattle.std.specs.Prelude.{◌≡◌};
-ghost use Rattle.d64spec.specs.Layouts.{layout_numbered};
 ghost use Rattle.layouts.specs.Named.{named_by, layout_written};
 
 use geometry::Layout;
 
-// A layout, or none.
-#[derive(Clone, Copy)]
-pub enum Named {
-    Known(Layout),
-    Unknown,
-}
-
-// 0 for 35 tracks, 1 for SpeedDOS, 2 for Dolphin; no other number has a layout.
-pub fn layout_numbered(number: u32) -> Named
-    ensures { named_by result ≡ layout_numbered number }
-{
-    match number {
-        0 => Named::Known(Layout::Tracks35),
-        1 => Named::Known(Layout::SpeedDos),
-        2 => Named::Known(Layout::Dolphin),
-        _ => Named::Unknown,
-    }
-}
-
 // The layout that an argument names: the one digit 0, 1 or 2.
-pub fn layout_written(argument: &[u8]) -> Named
+#[tactic(auto, using(crate::proofs::WrittenLaws::written))]
+pub fn layout_written(argument: &[u8]) -> Option<Layout>
     ensures { named_by result ≡ layout_written argument.now }
 {
-    if argument.len() != 1 {
-        return Named::Unknown;
-    }
-    let digit = argument[0];
-    if digit < 48 {
-        return Named::Unknown;
-    }
-    layout_numbered((digit - 48) as u32)
+    let [digit] = argument else {
+        return None;
+    };
+    let number = digit.checked_sub(b'0')?;
+    Layout::try_from(u32::from(number)).ok()
 }

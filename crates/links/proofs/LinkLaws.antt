@@ -60,3 +60,6 @@ pub directory-other : (g : Geometry) (t s : ℕ) → 1 ≤ t → (t ≡ 18 → �
 unfolding decode_directory_link
 directory-other g zero s h other = absurd (omega arith)
 directory-other g (suc t) s h other = simp (ne_eqb (suc t) 18 other)
+
+-- what two bytes of a directory sector say, by cases
+pub ruleset decoded = (directory-ends, directory-other, directory-map, directory-past, directory-inside)

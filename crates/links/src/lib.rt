@@ -11,7 +11,7 @@ ghost use Rattle.links.specs.Links.{link_of};
 use geometry::Address;
 
 // What a link says.
-#[derive(Clone, Copy)]
+#[derive(Clone, Copy, Debug, PartialEq, Eq)]
 pub enum Link {
     Ends,
     To(Address),
@@ -19,21 +19,14 @@ pub enum Link {
 }
 
 // The link in a directory sector: track 0 ends the directory, whatever the second byte is; any other must name 18/1 to 18/18.
+#[tactic(auto, using(crate::proofs::LinkLaws::decoded))]
 pub fn directory_link(track: u8, sector: u8) -> Link
     ensures { (g : Geometry) → sectors_on g 18 ≡ 19 → link_of result ≡ decode_directory_link g track sector }
 {
-    if track < 1 {
-        return Link::Ends;
+    match (track, sector) {
+        (0, _) => Link::Ends,
+        // 18/0 is the map's sector, and no directory sector
+        (18, 1..=18) => Link::To(Address { track, sector }),
+        _ => Link::Bad,
     }
-    if track != 18 {
-        return Link::Bad;
-    }
-    // 18/0 is the map's sector, and no directory sector
-    if sector < 1 {
-        return Link::Bad;
-    }
-    if 18 < sector {
-        return Link::Bad;
-    }
-    Link::To(Address { track, sector })
 }

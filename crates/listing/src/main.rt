@@ -5,18 +5,17 @@
 ghost use Rattle.io.specs.Counts.{IsPrefixLen};
 
 use geometry::Layout;
-use layouts::Named;
 use std::env::{Env, FillError};
 use std::io;
 use std::io::{Read, Write};
 
-// The layout of the first argument: 0 if there is none. An argument that is longer than the room for it has length 0 here, and names none.
-fn asked(rt: &HostRuntime) -> Named {
+// The layout of the first argument: 0 if there is none. An argument that is longer than the room for it names none.
+fn asked(rt: &HostRuntime) -> Option<Layout> {
     let mut argument = [0u8; 2];
     match rt.arg(1, &mut argument) {
         Ok(n) => layouts::layout_written(&argument[..n]),
-        Err(FillError::NotPresent) => Named::Known(Layout::Tracks35),
-        Err(FillError::TooLong) => layouts::layout_written(&argument[..0]),
+        Err(FillError::NotPresent) => Some(Layout::Tracks35),
+        Err(FillError::TooLong) => None,
     }
 }
 
@@ -24,32 +23,26 @@ fn asked(rt: &HostRuntime) -> Named {
 fn read_full<R: Read>(reader: &mut R, input: &mut [u8]) -> usize
     ensures { IsPrefixLen result input.new }
 {
+    // not by read_to_end, which wants a heap, and of which std says nothing after an error: here a failed read counts as the end of the input
     let mut n = 0;
     while n < input.len() {
         match reader.read(&mut input[n..]) {
-            Ok(0) => return n,
+            Ok(0) | Err(_) => break,
             Ok(more) => n += more,
-            Err(_) => return n,
         }
     }
     n
-}
-
-// Reads the input, unless no layout is asked for: then it is not looked at.
-fn read_input<R: Read>(reader: &mut R, asked: Named, input: &mut [u8]) -> usize
-    ensures { IsPrefixLen result input.new }
-{
-    match asked {
-        Named::Unknown => 0,
-        Named::Known(_) => read_full(reader, input),
-    }
 }
 
 fn main(rt: HostRuntime) -> io::Result<()> {
     let layout = asked(&rt);
     // one byte more than the longest image has, so that an input that is too long is seen
     let mut input = [0u8; 196609];
-    let n = read_input(&mut rt.stdin(), layout, &mut input);
+    // where no layout is asked for, the input is not looked at
+    let n = match layout {
+        Some(_) => read_full(&mut rt.stdin(), &mut input),
+        None => 0,
+    };
     let printed = sleeve::program_output(layout, &input[..n]);
     io::writer(&rt).write_all(parts::clipped(&printed.text, 0, printed.length))
 }

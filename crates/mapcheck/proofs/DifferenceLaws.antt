@@ -78,10 +78,6 @@ lowest-different (suc w) (suc n) a b h la lb other = elim (ℕ_discrete (a % 2) 
 
 -- ---- as the code finds it
 
--- the number of one of 32 bits is a byte
-pub byte-of-bit : {s : ℕ} → s ≤ 32 → s < 256
-byte-of-bit h = omega arith
-
 module _ (a b : ℕ) where
   pub difference-none : a ≡ b → 255 ≡ lowest_difference a b
   unfolding lowest_difference

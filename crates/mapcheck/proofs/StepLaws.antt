@@ -102,13 +102,15 @@ module _ {g : Geometry} {es : Entries} {used : List ℕ} {t : ℕ} (c : Checking
         ap₂ (λ (x : Result (Unit {0})) (k : ℕ). x >> tracks_verdict g es used (range k (tracks g + 1 - (t + 1)))) own y
         ∙ ap (λ (n : ℕ). tracks_verdict g es used (range t n)) (sym z) ∙ c.rest
 
-    -- a correct entry: the next track
-    pub checking-moved : r ≡ done tt → Checking g es used (t + 1)
-    checking-moved e = record { low = omega arith; high = omega arith; rest = rw e at next }
+  -- a correct entry: the next track
+  pub checking-moved : t ≤ tracks g → {i j : ℕ} → done tt ≡ track_verdict g (get_or es i []) (get_or used j 0) t → i ≡ t - 1 → j ≡ t - 1
+      → Checking g es used (t + 1)
+  checking-moved h told here there = record { low = omega arith; high = omega arith; rest = next h told here there }
 
-    -- a wrong one is refused
-    pub checking-wrong : {f : Fault} → r ≡ refused f → refused f ≡ entries_verdict g es used
-    checking-wrong e = rw e at next
+  -- a wrong one is refused
+  pub checking-wrong : t ≤ tracks g → {f : Fault} {i j : ℕ} → refused f ≡ track_verdict g (get_or es i []) (get_or used j 0) t → i ≡ t - 1 → j ≡ t - 1
+      → refused f ≡ entries_verdict g es used
+  checking-wrong h told here there = next h told here there
 
   pub checking-finished : tracks g < t → done tt ≡ entries_verdict g es used
   checking-finished h =
@@ -119,9 +121,6 @@ module _ {g : Geometry} {es : Entries} {used : List ℕ} {t : ℕ} (c : Checking
 -- the tracks up to t are correct
 pub record Passing (g : Geometry) (es : Entries) (used : List ℕ) (t : ℕ) : Type 0 where
   pub right : (u : ℕ) → 1 ≤ u → u ≤ t → done tt ≡ track_verdict g (get_or es (u - 1) []) (get_or used (u - 1) 0) u
-
-pub passing-start : (g : Geometry) (es : Entries) (used : List ℕ) → Passing g es used 0
-passing-start g es used = record { right = λ u low high. absurd (omega arith) }
 
 module _ {g : Geometry} {es : Entries} {used : List ℕ} {t : ℕ} (p : Passing g es used t) where
   pub passing-moved : {k i j : ℕ} → done tt ≡ track_verdict g (get_or es i []) (get_or used j 0) k → i ≡ t → j ≡ t → k ≡ t + 1 → Passing g es used (t + 1)

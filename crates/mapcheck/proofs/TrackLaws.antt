@@ -24,9 +24,8 @@ use Rattle.d64spec.specs.Check.{check_track}
 use Rattle.d64spec.proofs.MapLaws.{OwnRight, bits-of-none, lowest-at, lowest-none, none-of-bits}
 use Rattle.d64spec.proofs.SumLaws.{indicator-le}
 use Rattle.d64spec.proofs.BitLaws.{bit_le, binary-more, binary-lt, binary-bit, binary-remainder, number-known}
-use Rattle.geometry.specs.Layout.{IsCounts}
 use Rattle.owners.specs.Masks.{unmarked}
-use Rattle.bam.specs.MapEntry.{bitmap_of, own_bits, free_in, free_on}
+use Rattle.bam.specs.MapEntry.{bitmap_of, own_bits, free_in}
 use Rattle.bam.proofs.ShapeLaws.{EntryShape}
 use Rattle.bam.proofs.BitmapLaws.{bit-bitmap}
 use Rattle.bam.specs.MapSector.{map_entry}
@@ -175,22 +174,22 @@ pub rest_le : (a : ℕ) {p : ℕ} → 0 < p → a % p ≤ p - 1
 rest_le a h = let below = mod-lt a h in omega arith
 
 -- a track's own bits are its sectors
-pub own-sectors : (g : Geometry) (kn : Known g) → {counts : List ℕ} → IsCounts g counts → (t : ℕ) → own_bits counts t ≡ sectors_on g t
+own-sectors : (g : Geometry) → Known g → (t : ℕ) → own_bits (sectors_on g t) ≡ sectors_on g t
 unfolding own_bits
-own-sectors g kn is t = omega (arith, is.agrees t, kn.valid.small t)
+own-sectors g kn t = omega (arith, kn.valid.small t)
 
 -- e is an entry, b its bitmap and u the owned sectors of its track; k is how many bits are compared, and p their power
 pub sectors-found : {e : Bytes} {u n b k p x y : ℕ} → b ≡ bitmap_of e → k ≡ n → p ≡ 2 ^ k → x ≡ b % p → y ≡ p - 1 - u % p
     → TrackSectors e u n (record { marked = x; free = y })
 sectors-found bitmap own power marked free = rw (marked, free, power, own, bitmap) (record { marked = refl; free = refl })
 
--- e is the entry of track t and u its owned sectors; n is how many of its marks are counted
-module _ (g : Geometry) (kn : Known g) (e : Bytes) (u t : ℕ) {counts : List ℕ} (is : IsCounts g counts) {n : ℕ} (count : n ≡ free_on counts e t) {r : Sectors}
-    (found : TrackSectors e u (own_bits counts t) r) where
+-- e is the entry of track t, which has k sectors, and u its owned sectors; n is how many of its marks are counted
+module _ (g : Geometry) (kn : Known g) (e : Bytes) (u t : ℕ) {k n : ℕ} (has : k ≡ sectors_on g t) (count : n ≡ free_in e k) {r : Sectors}
+    (found : TrackSectors e u (own_bits k) r) where
   verdict-found : need (eqb r.marked r.free && eqb (byte e 0) n) (wrong_map_entry (address t (lowest_difference r.marked r.free)))
       ≡ track_verdict g e u t
   unfolding track_verdict
-  verdict-found = rw (found.marked, found.free, own-sectors g kn is t, count, is.agrees t)
+  verdict-found = rw (found.marked, found.free, count, has, own-sectors g kn t)
 
   -- the entry is right where both agree
   pub track-right : r.marked ≡ r.free → byte e 0 ≡ n → done tt ≡ track_verdict g e u t
@@ -206,10 +205,11 @@ module _ (g : Geometry) (kn : Known g) (e : Bytes) (u t : ℕ) {counts : List �
 -- ---- several tracks at once
 
 -- nothing differs in a number of differences that is 0: those before it, the bits x and y, the numbers c and n
-pub nothing-differs : (w x y c n : ℕ) → bit_or (bit_or w (bit_xor x y)) (bit_xor c n) ≡ 0 → (w ≡ 0) × (x ≡ y) × (c ≡ n)
+pub nothing-differs : (w x y c n : ℕ) → bit_or w (bit_or (bit_xor x y) (bit_xor c n)) ≡ 0 → (w ≡ 0) × (x ≡ y) × (c ≡ n)
 nothing-differs w x y c n none =
-    let all : bit_or w (bit_xor x y) ≡ 0 = (or-none (bit_or w (bit_xor x y)) (bit_xor c n) none).0 in
-    ((or-none w (bit_xor x y) all).0, xor-none x y (or-none w (bit_xor x y) all).1, xor-none c n (or-none (bit_or w (bit_xor x y)) (bit_xor c n) none).1)
+    let all = or-none w (bit_or (bit_xor x y) (bit_xor c n)) none in
+    let both = or-none (bit_xor x y) (bit_xor c n) all.1 in
+    (all.0, xor-none x y both.0, xor-none c n both.1)
   where
     or-none : (a b : ℕ) → bit_or a b ≡ 0 → (a ≡ 0) × (b ≡ 0)
     or-none a b e = (omega (arith, or_add_and a b, and_le_r a b), omega (arith, or_add_and a b, and_le_l a b))

@@ -4,25 +4,24 @@
 // differs is the sector that a refusal names (02, §3).
 #![tactic(auto)]
 
-ghost use Rattle.std.specs.Prelude.{◌≡◌, ℕ, ◌≤◌, ◌<◌, [], get_or};
+ghost use Rattle.std.specs.Prelude.{◌≡◌, ℕ, ◌<◌, [], get_or, unwrap_or};
 ghost use Rattle.d64spec.specs.Lists.{byte};
-ghost use Rattle.d64spec.specs.Geometry.{tracks};
 ghost use Rattle.answers.specs.Faults.{verdict_of};
-ghost use Rattle.geometry.specs.Layout.{geometry_of, IsCounts};
+ghost use Rattle.geometry.specs.Layout.{geometry_of};
 ghost use Rattle.bam.specs.MapEntry.{own_bits};
 ghost use Rattle.mapcheck.specs.MapChecks.{lowest_difference, TrackSectors, track_verdict, map_verdict, entries_verdict, EntriesPassed};
 
-use answers::{Fault, Verdict};
+use answers::Fault;
 use geometry::Layout;
 
-// The lowest bit in which two numbers differ, and 255 where they are equal.
-fn lowest_difference(a: u32, b: u32) -> u8
-    ensures { result ≡ lowest_difference a b }
+// The lowest bit in which two numbers differ, where they do.
+fn lowest_difference(a: u32, b: u32) -> Option<u8>
+    ensures { unwrap_or result 255 ≡ lowest_difference a b }
 {
     if a == b {
-        return 255;
+        return None;
     }
-    u32::trailing_zeros(a ^ b) as u8
+    Some((a ^ b).trailing_zeros() as u8)
 }
 
 // Sectors of a track as numbers, bit s for sector s: those that its entry marks free, and those that have no owner.
@@ -32,11 +31,11 @@ struct Sectors {
     free: u32,
 }
 
-// Both of them, with as many bits as the track has sectors.
-fn sectors_of(entry: [u8; 4], used: u32, track: u8, counts: &[u8; 40]) -> Sectors
-    ensures { TrackSectors entry used (own_bits counts.now track) result }
+// Both of them, with as many bits as the track has sectors: `own` of them.
+fn sectors_of(entry: [u8; 4], used: u32, own: u8) -> Sectors
+    ensures { TrackSectors entry used (own_bits own) result }
 {
-    let all: u32 = 1 << bam::own_bits(track, counts);
+    let all: u32 = 1 << bam::own_bits(own);
     Sectors {
         marked: bam::bitmap_of(entry) % all,
         free: all - 1 - used % all,
@@ -45,64 +44,56 @@ fn sectors_of(entry: [u8; 4], used: u32, track: u8, counts: &[u8; 40]) -> Sector
 
 // A track's entry: fine where it marks free exactly the sectors that have no owner, and counts its marks. Else it is refused, at the lowest sector
 // whose bit is wrong, or at 255 where only the count is.
-fn check_track(layout: Layout, entry: [u8; 4], used: u32, track: u8, counts: &[u8; 40]) -> Verdict
-    requires { (1 ≤ track) × (track ≤ tracks (geometry_of layout)) × IsCounts (geometry_of layout) counts.now }
+fn check_track(layout: Layout, entry: [u8; 4], used: u32, track: u8) -> Result<(), Fault>
     ensures { verdict_of result ≡ track_verdict (geometry_of layout) entry used track }
 {
-    let sectors = sectors_of(entry, used, track, counts);
-    if sectors.marked == sectors.free && entry[0] as u32 == bam::count_free(entry, track, counts) {
-        return Verdict::Fine;
+    let own = geometry::sectors_on(layout, track);
+    let sectors = sectors_of(entry, used, own);
+    if sectors.marked == sectors.free && entry[0] as u32 == bam::count_free(entry, own) {
+        return Ok(());
     }
-    let sector = lowest_difference(sectors.marked, sectors.free);
-    Verdict::Refused(Fault::WrongMapEntry { track, sector })
+    let sector = lowest_difference(sectors.marked, sectors.free).unwrap_or(255);
+    Err(Fault::WrongMapEntry { track, sector })
 }
 
 // The entries of track 1 to the last, one after the other: the first that is wrong is refused.
-fn check_tracks(layout: Layout, map: &[[u8; 4]; 40], used: &[u32; 40], counts: &[u8; 40]) -> Verdict
-    requires { IsCounts (geometry_of layout) counts.now }
+fn check_tracks(layout: Layout, map: &[[u8; 4]; 40], used: &[u32; 40]) -> Result<(), Fault>
     ensures { verdict_of result ≡ entries_verdict (geometry_of layout) map.now used.now }
 {
     let last = geometry::last_track(layout);
-    let mut track: u8 = 1;
-    while track <= last {
-        let i = (track - 1) as usize;
-        let entry = map[i];
-        match check_track(layout, entry, used[i], track, counts) {
-            Verdict::Fine => {}
-            Verdict::Refused(fault) => return Verdict::Refused(fault),
-        }
-        track += 1;
+    for track in 1..=last {
+        let i = track as usize - 1;
+        check_track(layout, map[i], used[i], track)?;
     }
-    Verdict::Fine
+    Ok(())
 }
 
 // Whether no entry is wrong, asked of all tracks at once: what differs is gathered in one number, with no branch from track to track, so that the
 // compiler takes several tracks in one step.
-fn none_wrong(layout: Layout, map: &[[u8; 4]; 40], used: &[u32; 40], counts: &[u8; 40]) -> bool
-    requires { IsCounts (geometry_of layout) counts.now × ((i : ℕ) → i < 40 → byte (get_or map.now i []) 0 < 256) }
+fn none_wrong(layout: Layout, map: &[[u8; 4]; 40], used: &[u32; 40]) -> bool
+    requires { (i : ℕ) → i < 40 → byte (get_or map.now i []) 0 < 256 }
     ensures { EntriesPassed (geometry_of layout) map.now used.now result }
 {
+    let last = geometry::last_track(layout) as usize;
     let mut wrong: u32 = 0;
-    let mut i: usize = 0;
-    while i < 40 {
+    for i in 0..last {
         let track = (i + 1) as u8;
         let entry = map[i];
-        let sectors = sectors_of(entry, used[i], track, counts);
-        let count = bam::count_free(entry, track, counts);
-        wrong = wrong | (sectors.marked ^ sectors.free) | (entry[0] as u32 ^ count);
-        i += 1;
+        // asked twice: with one name for both the compiler takes one track at a time, and an empty disk's check took a third longer
+        let sectors = sectors_of(entry, used[i], geometry::sectors_on(layout, track));
+        let count = bam::count_free(entry, geometry::sectors_on(layout, track));
+        wrong |= (sectors.marked ^ sectors.free) | (entry[0] as u32 ^ count);
     }
     wrong == 0
 }
 
 // The map of a map sector against the owned sectors of each track, from track 1 on. Only where an entry is wrong are they looked at one by one.
-pub fn check_map(layout: Layout, sector: &[u8], used: &[u32; 40]) -> Verdict
+pub fn check_map(layout: Layout, sector: &[u8], used: &[u32; 40]) -> Result<(), Fault>
     ensures { verdict_of result ≡ map_verdict (geometry_of layout) sector.now used.now }
 {
     let map = bam::load_map(layout, sector);
-    let counts = geometry::counts_of(layout);
-    if none_wrong(layout, &map, used, &counts) {
-        return Verdict::Fine;
+    if none_wrong(layout, &map, used) {
+        return Ok(());
     }
-    check_tracks(layout, &map, used, &counts)
+    check_tracks(layout, &map, used)
 }

@@ -14,13 +14,13 @@ use borrow.Author.Tests.{ne_eqb}
 use Rattle.d64spec.specs.Lists.{Bytes, byte, equal}
 use Rattle.d64spec.specs.Directory.{name_field, name_of, padded, valid_name}
 use Rattle.d64spec.specs.Reply.{valid_name_argument}
-use Rattle.names.specs.Names.{name_length, padded_once, RestFits}
+use Rattle.names.specs.Names.{padded_once, RestFits}
 use Rattle.d64spec.proofs.ListLaws.{eq-of-equal}
 use Rattle.d64spec.proofs.RuleLaws.{name-exact, name-argument-exact}
 use Rattle.parts.specs.Numbers.{four_of}
 use Rattle.parts.proofs.PartLaws.{drop-replicate}
 use Rattle.parts.proofs.EqualLaws.{equal-iff, equal-lengths-differ}
-use Rattle.names.proofs.PaddingLaws.{letters, count-letters, name_length-append-padding, letters-append-padding, letters-of-padding, length-take-name_length, name_length-drop-padding, name_length-drop-letter, padded_once-name_length, padded_once-last, padded_once-rest, four-padding}
+use Rattle.names.proofs.PaddingLaws.{name_length, letters, count-letters, name_length-append-padding, letters-append-padding, letters-of-padding, length-take-name_length, name_length-drop-padding, name_length-drop-letter, padded_once-name_length, padded_once-last, padded_once-rest, four-padding}
 
 -- ---- the field of a slot
 

@@ -1,5 +1,6 @@
 -- Bytes and $A0, the padding of names: which bytes are not $A0, and where the first $A0 is (01, The directory).
--- In order: the bytes that are not $A0; the first $A0; both where only padding follows it; the first $A0 from an index on; neighbours; four at once.
+-- In order: the bytes that are not $A0; whether one is; the first $A0; both where only padding follows it; the first $A0 from an index on; neighbours;
+-- four at once.
 -- Not here: names and the field that holds one (NameLaws). Assumes nothing.
 use mathlib.Core.Path.{◌≡◌, refl, sym, ap, ap₂, ◌∙◌}
 use mathlib.Core.Bool.{Bool, true, false, cond, not, ◌&&◌, ◌||◌, or-true}
@@ -8,13 +9,14 @@ use Prim.Native.Nat.{ℕ, zero, suc, ◌+◌, ◌-◌, ◌≤◌, ◌<◌}
 use native.Mathlib.Omega.{arith}
 use native.Mathlib.Numerals.{add-one}
 use lib.ListN.{length, get_or, take, drop, replicate, take-append-drop, drop_of_length-le}
-use lib.Seq.{drop-cons, take-length, length-take-le}
+use lib.Seq.{drop-cons, length-take-le}
 use lib.Dec.{eqb}
-use borrow.Author.Tests.{eq-eqb, ne_eqb, eqb-true, eqb-false}
+use borrow.Author.Tests.{eq-eqb, ne_eqb, eqb-false}
 use Rattle.d64spec.specs.Lists.{Bytes, byte, indicator, filter, count, equal}
 use Rattle.parts.specs.Numbers.{four_of}
 use Rattle.parts.proofs.NumberLaws.{bytes-of-four}
-use Rattle.names.specs.Names.{name_length, padded_once}
+use Rattle.std.specs.List.{list_any}
+use Rattle.names.specs.Names.{padded_once}
 
 -- ---- the bytes that are not $A0
 
@@ -55,7 +57,24 @@ letters-of-count : (s : Bytes) → count 0xA0 s ≡ 0 → letters s ≡ s
 letters-of-count [] h = refl
 letters-of-count (c ∷ l) h = rw (letter-of-count c l h) (ap (λ (m : Bytes). c ∷ m) (letters-of-count l (omega arith)))
 
+-- ---- whether one is
+
+-- no byte is $A0 exactly where $A0 is not counted
+pub no_padding : (s : Bytes) → not (list_any (λ y. eqb y 0xA0) s) ≡ eqb (count 0xA0 s) 0
+no_padding [] = refl
+no_padding (c ∷ l) = go (eqb c 0xA0) refl (no_padding l)
+  where
+    go : (t : Bool) → eqb c 0xA0 ≡ t → not (list_any (λ y. eqb y 0xA0) l) ≡ eqb (count 0xA0 l) 0
+        → not (t || list_any (λ y. eqb y 0xA0) l) ≡ eqb (count 0xA0 (c ∷ l)) 0
+    go true e h = sym (ne_eqb (count 0xA0 (c ∷ l)) 0 (λ z. let w : true ≡ false = sym e ∙ letter-of-count c l z in cc))
+    go false e h = h ∙ ap (λ (n : ℕ). eqb n 0) (sym (count-letter c l e))
+
 -- ---- the first $A0
+
+-- how many bytes stand before the first $A0: all of them, where there is none (01, The directory: a name, then only $A0)
+abbrev pub name_length : Bytes → ℕ
+name_length [] = 0
+name_length (c ∷ l) = cond (eqb c 0xA0) 0 (suc (name_length l))
 
 name_length-le : (s : Bytes) → name_length s ≤ length s
 name_length-le [] = omega arith
@@ -79,14 +98,6 @@ pub name_length-append-padding : (m : Bytes) (n : ℕ) → count 0xA0 m ≡ 0 �
 name_length-append-padding [] zero h = refl
 name_length-append-padding [] (suc n) h = refl
 name_length-append-padding (c ∷ m) n h = rw (letter-of-count c m h) (ap suc (name_length-append-padding m n (omega arith)))
-
--- it is found at no index exactly where $A0 is not counted
-pub name_length-all : (s : Bytes) → eqb (name_length s) (length s) ≡ eqb (count 0xA0 s) 0
-name_length-all s = go (eqb (count 0xA0 s) 0) refl
-  where
-    go : (t : Bool) → eqb (count 0xA0 s) 0 ≡ t → eqb (name_length s) (length s) ≡ t
-    go true e = eq-eqb (name_length s) (length s) (rw append-nil at (name_length-append-padding s 0 (eqb-true (count 0xA0 s) 0 e)))
-    go false e = ne_eqb (name_length s) (length s) (λ z. eqb-false (count 0xA0 s) 0 e (rw (z, take-length s) at (count-take-name_length s)))
 
 -- ---- where only padding follows
 

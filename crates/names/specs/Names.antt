@@ -1,13 +1,8 @@
 -- What the contracts of names cite beside document 01's own definitions (01, The directory).
 -- Not here: name_field, valid_name (d64spec, Directory), valid_name_argument (d64spec, Reply). Laws: proofs/PaddingLaws, NameLaws.
-use Rattle.std.specs.Prelude.{ℕ, suc, ◌≤◌, ◌≡◌, Bool, true, cond, not, ◌&&◌, ◌||◌, [], ◌∷◌, length, drop, eqb}
+use Rattle.std.specs.Prelude.{ℕ, ◌≤◌, ◌≡◌, Bool, true, not, ◌&&◌, ◌||◌, [], ◌∷◌, length, drop, eqb}
 use Rattle.d64spec.specs.Lists.{Bytes}
 use Rattle.d64spec.specs.Directory.{name_field}
-
--- how many bytes stand before the first $A0: all of them, where there is none (01, The directory: a name, then only $A0)
-abbrev pub name_length : Bytes → ℕ
-name_length [] = 0
-name_length (c ∷ l) = cond (eqb c 0xA0) 0 (suc (name_length l))
 
 -- no other byte stands right behind a $A0 (01, The directory: then only $A0)
 abbrev pub padded_once : Bytes → Bool

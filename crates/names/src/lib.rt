@@ -6,38 +6,21 @@
 ghost use Rattle.std.specs.Prelude.{◌≡◌, ◌≤◌, length, take};
 ghost use Rattle.d64spec.specs.Directory.{name_field, padded, valid_name};
 ghost use Rattle.d64spec.specs.Reply.{valid_name_argument};
-ghost use Rattle.names.specs.Names.{name_length, padded_once, RestFits};
+ghost use Rattle.names.specs.Names.{padded_once, RestFits};
 
 // What a name shorter than 16 bytes is filled up with.
 const PADDING: [u8; 16] = [0xA0; 16];
-
-// How many bytes of s stand before the first $A0.
-fn name_length(s: &[u8]) -> usize
-    ensures { result ≡ name_length s.now }
-{
-    let mut i: usize = 0;
-    while i < s.len() {
-        if s[i] == 0xA0 {
-            return i;
-        }
-        i += 1;
-    }
-    i
-}
 
 // Whether no other byte stands behind a $A0 in a slot's name, where none does from byte `end` of the name on: two neighbours are asked at a time.
 fn neighbours_fit(slot: &[u8], end: usize) -> bool
     requires { RestFits slot.now end }
     ensures { result ≡ padded_once (name_field slot.now) }
 {
-    let mut i: usize = 0;
-    while i < end {
-        if slot[i + 3] == 0xA0 {
-            if slot[i + 4] != 0xA0 {
-                return false;
-            }
+    // not by `windows(2)`: a loop of indices, whose bound is handed in, is as short
+    for i in 0..end {
+        if slot[i + 3] == 0xA0 && slot[i + 4] != 0xA0 {
+            return false;
         }
-        i += 1;
     }
     true
 }
@@ -47,10 +30,8 @@ fn padded_once(slot: &[u8]) -> bool
     requires { 19 ≤ length slot.now }
     ensures { result ≡ padded_once (name_field slot.now) }
 {
-    if parts::four_at(slot, 11) == 0xA0A0A0A0 {
-        if parts::four_at(slot, 15) == 0xA0A0A0A0 {
-            return neighbours_fit(slot, 7);
-        }
+    if parts::four_at(slot, 11) == 0xA0A0A0A0 && parts::four_at(slot, 15) == 0xA0A0A0A0 {
+        return neighbours_fit(slot, 7);
     }
     neighbours_fit(slot, 15)
 }
@@ -59,27 +40,21 @@ fn padded_once(slot: &[u8]) -> bool
 pub fn valid_name(slot: &[u8]) -> bool
     ensures { result ≡ valid_name slot.now }
 {
-    if slot.len() < 19 {
-        return false;
-    }
-    if slot[3] == 0xA0 {
+    if slot.len() < 19 || slot[3] == 0xA0 {
         return false;
     }
     padded_once(slot)
 }
 
 // Whether a call takes this name: 1 to 16 bytes, none of them $A0.
+#[tactic(auto, unfolding(d64spec::specs::Reply::valid_name_argument))]
 pub fn valid_name_argument(name: &[u8]) -> bool
     ensures { result ≡ valid_name_argument name.now }
 {
-    let size = name.len();
-    if size == 0 {
+    if name.is_empty() || 16 < name.len() {
         return false;
     }
-    if 16 < size {
-        return false;
-    }
-    name_length(name) == size
+    !name.contains(&0xA0)
 }
 
 // The name filled up to 16 bytes with $A0; of a longer one its first 16 bytes.

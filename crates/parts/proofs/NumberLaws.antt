@@ -1,5 +1,6 @@
 -- Four bytes and eight bytes as one number (`four_of`, `eight_of`): their digits to the base 256.
--- In order: one digit; a fact of four places; equal numbers are equal bytes: four, and sixteen by two numbers of eight. Assumes nothing.
+-- In order: one digit; a fact of four places; equal numbers are equal bytes: four, and sixteen by two numbers of eight; a part read as a number.
+-- Assumes nothing.
 use mathlib.Core.Path.{◌≡◌, sym, ap, ◌∙◌}
 use mathlib.Core.Bool.{Bool, ◌&&◌, and-true}
 use mathlib.Core.List.{List, [], ◌∷◌}
@@ -10,7 +11,8 @@ use lib.ListN.{length, take, drop, length-take, length-drop}
 use lib.Seq.{ext_get_or, get_or-take, get_or-drop}
 use lib.Dec.{eqb}
 use Rattle.d64spec.specs.Lists.{Bytes, byte, equal}
-use Rattle.parts.specs.Numbers.{four_of, eight_of}
+use Rattle.std.specs.Int.{w32, w64, from_le_bytes}
+use Rattle.parts.specs.Numbers.{four_of, eight_of, IsFour, IsEight}
 use Rattle.parts.proofs.EqualLaws.{equal-iff}
 
 -- a lowest digit, and the rest
@@ -50,6 +52,11 @@ four-lt : (s : Bytes) → ((i : ℕ) → byte s i < 256) → (a : ℕ) → four_
 unfolding four_of
 four-lt s small a = omega (arith, small a, small (a + 1), small (a + 2), small (a + 3))
 
+-- ---- bytes of a part
+
+byte-part : (s : Bytes) (n a k : ℕ) → k < n → byte (take n (drop a s)) k ≡ byte s (a + k)
+byte-part s n a k h = get_or-take n (drop a s) k 0 h ∙ get_or-drop a s k 0
+
 -- ---- sixteen bytes by two numbers
 
 -- the sixteen bytes from a on, and the two numbers of eight
@@ -58,9 +65,6 @@ sixteen s a = take 16 (drop a s)
 
 abbrev two : Bytes → ℕ → List ℕ
 two s a = eight_of s a ∷ eight_of s (a + 8) ∷ []
-
-byte-sixteen : (s : Bytes) (a k : ℕ) → k < 16 → byte (sixteen s a) k ≡ byte s (a + k)
-byte-sixteen s a k h = get_or-take 16 (drop a s) k 0 h ∙ get_or-drop a s k 0
 
 module _ (s t : Bytes) where
   -- the n bytes of s from a on are those of t from b on
@@ -124,11 +128,40 @@ module _ (s t : Bytes) where
             let long-s : length (sixteen s a) ≡ 16 = simp (length-take, length-drop) (omega arith) in
             let long-t : length (sixteen t b) ≡ 16 = simp (length-take, length-drop) (omega arith) in
             ext_get_or 0 (sixteen s a) (sixteen t b) (omega arith)
-            (λ k h. byte-sixteen s a k (omega arith) ∙ alike k (omega arith) ∙ sym (byte-sixteen t b k (omega arith)))
+            (λ k h. byte-part s 16 a k (omega arith) ∙ alike k (omega arith) ∙ sym (byte-part t 16 b k (omega arith)))
 
         back : sixteen s a ≡ sixteen t b → two s a ≡ two t b
         back same =
-            let alike : Alike a b 16 = λ k h. sym (byte-sixteen s a k h) ∙ ap (λ (l : Bytes). byte l k) same ∙ byte-sixteen t b k h in
+            let alike : Alike a b 16 = λ k h. sym (byte-part s 16 a k h) ∙ ap (λ (l : Bytes). byte l k) same ∙ byte-part t 16 b k h in
             let low = eight-alike a b (λ k h. alike k (omega arith)) in
             let high = eight-alike (a + 8) (b + 8) (alike-rest a b 8 8 alike) in
             cc
+
+-- ---- a part read as a number
+
+module _ (l : Bytes) where
+  four-is : {r : ℕ} → r ≡ from_le_bytes w32 l → r ≡ four_of l 0
+  unfolding four_of
+  four-is e = omega (arith, e)
+
+  eight-is : {r : ℕ} → r ≡ from_le_bytes w64 l → r ≡ eight_of l 0
+  unfolding four_of eight_of
+  eight-is e = omega (arith, e)
+
+  module _ (s : Bytes) (a : ℕ) where
+    part-alike : (n : ℕ) → l ≡ take n (drop a s) → Alike l s 0 a n
+    part-alike n front k h = let z : 0 + k ≡ k = omega arith in rw z (ap (λ (x : Bytes). byte x k) front ∙ byte-part s n a k h)
+
+    module _ (small : (i : ℕ) → byte s i < 256) {r : ℕ} where
+      -- WHAT `from_le_bytes` READS of four bytes is their number
+      pub four-read : a + 4 ≤ length s → l ≡ take 4 (drop a s) → r ≡ from_le_bytes w32 l → IsFour s a r
+      four-read inside front e =
+          let value : r ≡ four_of s a = four-is e ∙ four-alike l s 0 a (part-alike 4 front) in
+          record { value = λ h. value; none = λ h. absurd (omega arith); small = omega (arith, value, four-lt s small a) }
+
+      -- and of eight
+      pub eight-read : a + 8 ≤ length s → l ≡ take 8 (drop a s) → r ≡ from_le_bytes w64 l → IsEight s a r
+      unfolding eight_of
+      eight-read inside front e =
+          let value : r ≡ eight_of s a = eight-is e ∙ eight-alike l s 0 a (part-alike 8 front) in
+          record { value = λ h. value; none = λ h. absurd (omega arith); small = omega (arith, value, four-lt s small a, four-lt s small (a + 4)) }

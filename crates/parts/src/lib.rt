@@ -2,7 +2,7 @@
 // Nothing wraps and nothing is out of range: a byte past the end reads as 0, a part ends where the slice ends.
 #![tactic(auto)]
 
-ghost use Rattle.std.specs.Prelude.{◌≡◌, take, drop};
+ghost use Rattle.std.specs.Prelude.{◌≡◌, ◌+◌, ◌<◌, ◌≤◌, length, take, drop, MatchOption};
 ghost use Rattle.d64spec.specs.Lists.{byte};
 ghost use Rattle.parts.specs.Numbers.{IsFour, IsEight};
 ghost use Rattle.parts.specs.Overwrites.{overwritten};
@@ -11,49 +11,42 @@ ghost use Rattle.parts.specs.Overwrites.{overwritten};
 pub fn byte_at(bytes: &[u8], at: usize) -> u8
     ensures { result ≡ byte bytes.now at }
 {
-    if at < bytes.len() { bytes[at] } else { 0 }
+    bytes.get(at).copied().unwrap_or(0)
+}
+
+// The N bytes from index `at` on, where there are as many.
+fn array_at<const N: usize>(bytes: &[u8], at: usize) -> Option<&[u8; N]>
+    ensures { MatchOption result (length bytes.now < at + N) (λ found. (at + N ≤ length bytes.now) × (found.now ≡ take N (drop at bytes.now))) }
+{
+    bytes.get(at..)?.first_chunk()
 }
 
 // The number of the four bytes from index `at` on, low byte first, or 0 where there are not four: compiles to one load.
 pub fn four_at(bytes: &[u8], at: usize) -> u64
     ensures { IsFour bytes.now at result }
 {
-    if bytes.len() < 4 {
+    let Some(four) = array_at::<4>(bytes, at) else {
         return 0;
-    }
-    if bytes.len() - 4 < at {
-        return 0;
-    }
-    bytes[at] as u64
-        + 256 * (bytes[at + 1] as u64)
-        + 65536 * (bytes[at + 2] as u64)
-        + 16777216 * (bytes[at + 3] as u64)
+    };
+    u64::from(u32::from_le_bytes(*four))
 }
 
-// The number of the eight bytes from index `at` on, low byte first, or 0 where there are not eight: compiles to one load for each half.
+// The number of the eight bytes from index `at` on, low byte first, or 0 where there are not eight: compiles to one load.
 pub fn eight_at(bytes: &[u8], at: usize) -> u64
     ensures { IsEight bytes.now at result }
 {
-    if bytes.len() < 8 {
+    let Some(eight) = array_at::<8>(bytes, at) else {
         return 0;
-    }
-    if bytes.len() - 8 < at {
-        return 0;
-    }
-    four_at(bytes, at) + 4294967296 * four_at(bytes, at + 4)
+    };
+    u64::from_le_bytes(*eight)
 }
 
 // At most `count` bytes from index `start` on: fewer where the slice ends before.
 pub fn clipped(bytes: &[u8], start: usize, count: usize) -> &[u8]
     ensures { result.now ≡ take count (drop start bytes.now) }
 {
-    if bytes.len() <= start {
-        return &bytes[0..0];
-    }
-    if bytes.len() - start <= count {
-        return &bytes[start..];
-    }
-    &bytes[start..start + count]
+    let rest = bytes.get(start..).unwrap_or(&[]);
+    &rest[..count.min(rest.len())]
 }
 
 // Writes the content over as many bytes from index `at` on. Where the slice ends before, nothing is written.
@@ -61,11 +54,9 @@ pub fn overwrite(target: &mut [u8], at: usize, content: &[u8])
     ensures { target.new ≡ overwritten target.old at content.now }
 {
     let size = content.len();
-    if target.len() < size {
+    if target.len() < size || target.len() - size < at {
         return;
     }
-    if target.len() - size < at {
-        return;
-    }
+    // no get_mut: what comes back of its loan has names of the prover's own in the goal
     target[at..at + size].copy_from_slice(content);
 }

@@ -2,12 +2,14 @@
 -- In order: the order's tracks by index; a track's free sectors, by the map and by its entry; the loop; the directory's place. Assumes nothing.
 use Prim.Native.Nat.{ℕ, zero, suc, ◌+◌, ◌-◌, ◌≤◌, ◌<◌, min}
 use native.Mathlib.Omega.{arith}
+use native.Mathlib.Decide.{dec_le}
 use native.Mathlib.Numerals.{add-one}
+use Rattle.std.specs.Prelude.{None, Some}
 use mathlib.Core.Path.{◌≡◌, refl, sym, ap, ◌∙◌}
 use mathlib.Core.Bool.{Bool}
-use mathlib.Core.List.{List, [], ◌∷◌, ◌++◌, map}
-use lib.ListN.{length, drop, get_or, length-append, drop_of_length-le, get_or-append}
-use lib.Seq.{drop-cons, get_or-append-add}
+use mathlib.Core.List.{List, [], ◌∷◌, ◌++◌, map, append_assoc}
+use lib.ListN.{length, take, drop, get_or, length-append, length-take, length-drop, take-append-drop, drop_of_length-le, get_or-append}
+use lib.Seq.{drop-cons, get_or-append-add, take_all}
 use lib.Dec.{eqb}
 use borrow.Author.Tests.{eqb-true}
 use Rattle.d64spec.specs.Lists.{Bytes, ascending, descending, filter, join, range}
@@ -19,9 +21,10 @@ use Rattle.d64spec.proofs.SplitLaws.{filter-append}
 use Rattle.geometry.proofs.Every.{every-at}
 use Rattle.bam.specs.MapEntry.{Entries, bitmap_of}
 use Rattle.bam.specs.Bam.{entry_of, marked_free}
-use Rattle.placement.specs.Placements.{OrderTrack, PlacedBehind, TrackRoom, Placed, marked_in}
-use Rattle.placement.specs.Placements.{free_on_track, free_places, first_places, first_packed, directory_place}
-use Rattle.placement.proofs.BehindLaws.{placed-none, placed-both, room-placed, length-placed}
+use Rattle.geometry.specs.declared.Address.{Address as Place}
+use Rattle.placement.specs.Placements.{OrderTrack, PlacedFirst, Placed, put_first, marked_in}
+use Rattle.placement.specs.Placements.{free_on_track, free_places, first_places, first_place, directory_place}
+use Rattle.placement.proofs.BehindLaws.{taken-more, length-put, put-behind}
 
 -- ---- the order's tracks by index
 
@@ -93,61 +96,130 @@ module _ (g : Geometry) (es : Entries) where
 
 -- ---- the loop
 
--- the first i tracks of the order are passed: what the others still put behind the places that there are makes the whole
-pub record Placing (g : Geometry) (es : Entries) (at₀ : List ℕ) (want : ℕ) (at : List ℕ) (have i : ℕ) : Type 0 where
+-- the first i tracks of the order are passed: `have` of their free sectors stand at the start of the array, all where fewer than are wanted
+pub record Placing (g : Geometry) (es : Entries) (at₀ : List Place) (want : ℕ) (at : List Place) (have i : ℕ) : Type 0 where
   pub passed : i + 1 ≤ tracks g
-  pub room : TrackRoom at have want
-  pub size : length at ≡ length at₀
-  pub whole : (r : ℕ) (out : List ℕ) → PlacedBehind (free_on_tracks g es (drop i (allocation_tracks g))) at have want r out
-      → PlacedBehind (free_places g es) at₀ 0 want r out
+  pub room : want ≤ length at₀
+  pub few : have ≤ want
+  pub some : have ≤ length (free_places g es)
+  pub left : have < want → free_on_tracks g es (drop i (allocation_tracks g)) ≡ drop have (free_places g es)
+  pub places : at ≡ put_first (take have (free_places g es)) at₀
 
-pub placing-start : (g : Geometry) (kn : Known g) → (es : Entries) (at : List ℕ) (want : ℕ) → want ≤ length at → Placing g es at want at 0 0
+pub placing-start : (g : Geometry) (kn : Known g) → (es : Entries) (at : List Place) (want : ℕ) → want ≤ length at → Placing g es at want at 0 0
 unfolding free_places allocation_order
 placing-start g kn es at want h = record {
   passed = omega (arith, kn.many);
-  room = record { few = omega arith; room = h };
-  size = refl;
-  whole = λ r out p. p;
+  room = h;
+  few = omega arith;
+  some = omega arith;
+  left = λ below. refl;
+  places = refl;
 }
 
--- as many as are wanted, and as there is room for
-placed-at-start : (g : Geometry) {es : Entries} {wanted want : ℕ} {at out : List ℕ} {r : ℕ} → want ≡ min wanted (length at)
-    → PlacedBehind (free_places g es) at 0 want r out
-    → Placed g es wanted at r out
-unfolding first_places
-placed-at-start g {es} {wanted} {want} {at} e p =
-    let z : want - 0 ≡ min wanted (length at) = omega arith in
-    record { count = p.count ∙ rw z (omega arith); places = p.places ∙ rw z }
+module _ (g : Geometry) (kn : Known g) {es : Entries} {at₀ : List Place} {want : ℕ} {at : List Place} {have i : ℕ} (w : Placing g es at₀ want at have i) where
+  -- all free sectors off track 18
+  abbrev all : List Address
+  all = free_places g es
 
-module _ (g : Geometry) (kn : Known g) {es : Entries} {at₀ : List ℕ} {want : ℕ} {at : List ℕ} {have i : ℕ} (w : Placing g es at₀ want at have i) where
-  -- the next track's free sectors
-  pub placing-moved : (e : Bytes) {t have' : ℕ} {at' : List ℕ} → i + 1 < tracks g → OrderTrack g i t
-      → PlacedBehind (free_on_track g (bitmap_of e) t) at have want have' at' → e ≡ entry_of es t → Placing g es at₀ want at' have' (i + 1)
-  placing-moved e {t} h o p own = record {
-    passed = omega arith;
-    room = room-placed w.room p;
-    size = length-placed w.room p ∙ w.size;
-    whole = λ r out q. w.whole r out (rw (free-from g es kn i t h o, ← own) (placed-both w.room p q));
-  }
+  length-taken : length (take have all) ≡ have
+  length-taken = omega (arith, length-take have all, w.some)
 
-  -- as many as are wanted are there
+  pub length-placed : length at ≡ length at₀
+  length-placed = ap length w.places ∙ length-put (take have all) at₀ (omega (arith, length-taken, w.few, w.room))
+
+  -- the next track's free sectors, in the part of the array behind those that are there, up to as many as are wanted
+  module _ (e : Bytes) {t r : ℕ} {q at' : List Place} (below : have < want) (h : i + 1 < tracks g) (o : OrderTrack g i t)
+      (p : PlacedFirst (free_on_track g (bitmap_of e) t) (take (want - have) (drop have at)) r q)
+      (back : at' ≡ take have at ++ (q ++ drop (want - have) (drop have at))) (own : e ≡ entry_of es t) where
+    abbrev part : List Place
+    part = take (want - have) (drop have at)
+
+    abbrev free : List Address
+    free = free_on_track g (bitmap_of e) t
+
+    abbrev rest : List Address
+    rest = free_on_tracks g es (drop (i + 1) (allocation_tracks g))
+
+    -- those that have room
+    abbrev put : List Address
+    put = take (want - have) free
+
+    length-part : length part ≡ want - have
+    length-part = omega (arith, length-take (want - have) (drop have at), length-drop have at, length-placed, w.room)
+
+    count : r ≡ length put
+    count = p.count ∙ ap (λ (n : ℕ). length (take n free)) length-part
+
+    few-put : length put ≤ want - have
+    few-put = omega (arith, length-take (want - have) free)
+
+    behind : drop have all ≡ put ++ (drop (want - have) free ++ rest)
+    behind = sym (w.left below) ∙ rw own (free-from g es kn i t h o) ∙ ap (λ (l : List Address). l ++ rest) (sym (take-append-drop (want - have) free))
+        ∙ append_assoc put (drop (want - have) free) rest
+
+    more : (take (have + r) all ≡ take have all ++ put) × (drop (have + r) all ≡ drop (want - have) free ++ rest)
+    more = rw count (taken-more have all put (drop (want - have) free ++ rest) behind)
+
+    puts : q ≡ put_first put part
+    puts = p.places ∙ ap (λ (n : ℕ). put_first (take n free) part) length-part
+
+    stands : at' ≡ put_first (take have all ++ put) at₀
+    stands = back ∙ rw (puts, w.places) (put-behind (take have all) put (want - have) at₀ length-taken (omega (arith, w.few, w.room)) few-put)
+
+    pub placing-moved : Placing g es at₀ want at' (have + r) (i + 1)
+    placing-moved = record {
+      passed = omega arith;
+      room = w.room;
+      few = omega (arith, count, few-put);
+      some = omega (arith, count, w.some, ap length behind, length-drop have all, length-append put (drop (want - have) free ++ rest));
+      left = λ l.
+          let none : drop (want - have) free ≡ [] = drop_of_length-le free {i = want - have} (omega (arith, count, length-take (want - have) free)) in
+          sym (more.1 ∙ ap (λ (x : List Address). x ++ rest) none);
+      places = stands ∙ ap (λ (l : List Address). put_first l at₀) (sym more.0);
+    }
+
+  -- as many as are wanted, or all of them
+  placed : {wanted : ℕ} → want ≡ min wanted (length at₀) → take have all ≡ take want all → Placed g es wanted at₀ have at
+  unfolding first_places
+  placed {wanted} e same =
+      let first : take have all ≡ take (min wanted (length at₀)) all = same ∙ ap (λ (n : ℕ). take n all) e in
+      record { count = sym length-taken ∙ ap length first; places = w.places ∙ ap (λ (l : List Address). put_first l at₀) first }
+
   pub placing-full : {wanted : ℕ} → want ≡ min wanted (length at₀) → have ≡ want → Placed g es wanted at₀ have at
-  placing-full e z = placed-at-start g e (w.whole have at (placed-none w.room (free_on_tracks g es (drop i (allocation_tracks g))) (omega arith)))
+  placing-full e z = placed e (ap (λ (n : ℕ). take n all) z)
 
   -- all tracks are passed
   pub placing-finished : {wanted : ℕ} → want ≡ min wanted (length at₀) → tracks g ≤ i + 1 → Placed g es wanted at₀ have at
-  placing-finished e h =
-      let none : drop i (allocation_tracks g) ≡ [] = drop_of_length-le (allocation_tracks g) {i = i} (omega (arith, order-length g kn)) in
-      placed-at-start g e (w.whole have at (rw none (placed-none w.room [] (omega arith))))
+  placing-finished e h = elim (dec_le want have) [
+    | yes full ↦ placing-full e (omega (arith, w.few))
+    | no below ↦
+        let none : drop i (allocation_tracks g) ≡ [] = drop_of_length-le (allocation_tracks g) {i = i} (omega (arith, order-length g kn)) in
+        let end : length all ≤ have = omega (arith, ap length (rw none at (w.left (omega arith))), length-drop have all) in
+        placed e (take_all have all end ∙ sym (take_all want all (omega arith)))
+  ]
 
 -- ---- the directory's place
 
-first-placed : (l : List Address) {r : ℕ} {out : List ℕ} → PlacedBehind l (0 ∷ []) 0 1 r out → get_or out 0 0 ≡ first_packed l
-unfolding first_packed
-first-placed [] p = ap (λ (o : List ℕ). get_or o 0 0) p.places
-first-placed (x ∷ l) p = ap (λ (o : List ℕ). get_or o 0 0) p.places
+-- by the first of these sectors, put into one place
+first-placed : (l : List Address) (d : Place) {at : Place} {r : ℕ} {out : List Place} → PlacedFirst l (at ∷ []) r out → r ≡ 1
+    → Some (get_or out 0 d) ≡ first_place l
+unfolding first_place
+first-placed [] d p one = absurd (omega (arith, p.count))
+first-placed (x ∷ l) d p one = ap (λ (o : List Place). Some (get_or o 0 d)) p.places
 
-pub directory-placed : (g : Geometry) (es : Entries) (e : Bytes) (t : ℕ) {r : ℕ} {out : List ℕ}
-    → PlacedBehind (free_on_track g (bitmap_of e) t) (0 ∷ []) 0 1 r out → e ≡ entry_of es 18 → t ≡ 18 → get_or out 0 0 ≡ directory_place g es
-unfolding directory_place
-directory-placed g es e t p own track = first-placed _ p ∙ ap first_packed (rw (own, track) (sym (free-on-track g es 18)))
+none-placed : (l : List Address) {at : Place} {r : ℕ} {out : List Place} → PlacedFirst l (at ∷ []) r out → (r ≡ 1 → ⊥) → None ≡ first_place l
+unfolding first_place
+none-placed [] p none = refl
+none-placed (x ∷ l) p none = absurd (none p.count)
+
+module _ (g : Geometry) (es : Entries) (e : Bytes) (t : ℕ) {at : Place} {r : ℕ} {out : List Place}
+    (p : PlacedFirst (free_on_track g (bitmap_of e) t) (at ∷ []) r out) (own : e ≡ entry_of es 18) (track : t ≡ 18) where
+  directory-free : first_place (free_on_track g (bitmap_of e) t) ≡ directory_place g es
+  unfolding directory_place
+  directory-free = ap first_place (rw (own, track) (sym (free-on-track g es 18)))
+
+  pub directory-placed : (d : Place) → r ≡ 1 → Some (get_or out 0 d) ≡ directory_place g es
+  directory-placed d one = first-placed _ d p one ∙ directory-free
+
+  pub directory-full : (r ≡ 1 → ⊥) → None ≡ directory_place g es
+  directory-full none = none-placed _ p none ∙ directory-free

@@ -1,14 +1,14 @@
 -- What a store may rely on where the map's marks are the disk's free sectors (01, Store; The map: a bit is 1 exactly where nobody owns the sector).
--- In order: the same sectors pass both tests; a number is its address; the sectors for a file; the sector for the directory. Assumes nothing.
-use Prim.Native.Nat.{ℕ, zero, suc, ◌+◌, ◌-◌, ◌*◌, ◌/◌, ◌%◌, ◌≤◌, ◌<◌, min}
+-- In order: the same sectors pass both tests; a place is its address; the sectors for a file; the place for the directory. Assumes nothing.
+use Prim.Native.Nat.{ℕ, zero, suc, ◌+◌, ◌-◌, ◌≤◌, ◌<◌, min}
 use native.Mathlib.Omega.{arith}
-use mathlib.Core.Path.{◌≡◌, refl, ap, ap₂, ◌∙◌}
+use Rattle.std.specs.Prelude.{Option, None, Some}
+use mathlib.Core.Path.{◌≡◌, refl, sym, ap, ap₂, ◌∙◌}
 use mathlib.Core.Bool.{Bool, true, cond}
 use mathlib.Core.Logic.{◌↔◌}
 use mathlib.Core.List.{List, [], ◌∷◌, ◌++◌, map, Memᴰ}
 use lib.ListN.{length, take, get_or, length-append, length-take, length-map}
 use lib.Seq.{take_at, take-length}
-use borrow.Author.Tests.{ltb-true}
 use Rattle.d64spec.specs.Lists.{All, filter, join, range, sum, ascending, descending}
 use Rattle.d64spec.specs.Answers.{Address, address}
 use Rattle.d64spec.specs.Geometry.{Geometry, tracks, total, sectors_on, first_on, on_disk, sectors_of_track, allocation_tracks, allocation_order}
@@ -19,12 +19,12 @@ use Rattle.d64spec.specs.Store.{placement}
 use Rattle.d64spec.proofs.AllocationLaws.{order-on, sectors-on}
 use Rattle.d64spec.proofs.ListingLaws.{filter-length}
 use Rattle.d64spec.proofs.SplitLaws.{mem-filter, all-mem}
-use Rattle.d64spec.proofs.StoreStep.{placement-taken}
-use Rattle.geometry.specs.Layout.{packed, unpacked}
+use Rattle.geometry.specs.Layout.{address_of}
+use Rattle.geometry.specs.declared.Address.{Address as Place}
 use Rattle.bam.specs.MapEntry.{Entries}
 use Rattle.bam.specs.Bam.{marked_free}
 use Rattle.bam.proofs.FillLaws.{length-map-range}
-use Rattle.placement.specs.Placements.{Placed, free_places, first_places, first_packed, directory_place}
+use Rattle.placement.specs.Placements.{Placed, place_of, free_places, first_places, first_place, directory_place}
 
 -- ---- the same sectors
 
@@ -36,19 +36,11 @@ filter_alike {A} P p q same (x ∷ l) a = ap₂ (λ (b : Bool) (m : List A). con
 pub record MarksFree (g : Geometry) (es : Entries) (d : Disk) : Type 0 where
   pub agrees : (r : Address) → on_disk g r ≡ true → marked_free es r ≡ is_free g d r
 
--- ---- a number is its address
+-- ---- a place is its address
 
-unpacked-packed : (g : Geometry) (kn : Known g) → (r : Address) → on_disk g r ≡ true → unpacked (packed r) ≡ r
-unfolding on_disk
-unpacked-packed g kn r h =
-    let small : r.sector < 24 = omega (arith, kn.valid.small r.track, ltb-true r.sector (sectors_on g r.track) h) in
-    let t : packed r / 256 ≡ r.track = omega arith in
-    let s : packed r % 256 ≡ r.sector = omega arith in
-    ap₂ (λ (x y : ℕ). address x y) t s
-
-unpacked-all : (g : Geometry) (kn : Known g) → (l : List Address) → All (λ r. on_disk g r ≡ true) l → map unpacked (map packed l) ≡ l
-unpacked-all g kn [] a = refl
-unpacked-all g kn (r ∷ l) a = ap₂ (λ (x : Address) (m : List Address). x ∷ m) (unpacked-packed g kn r a.0) (unpacked-all g kn l a.1)
+places-address : (l : List Address) → map address_of (map place_of l) ≡ l
+places-address [] = refl
+places-address (r ∷ l) = ap (λ (m : List Address). r ∷ m) (places-address l)
 
 -- ---- the sectors for a file
 
@@ -126,7 +118,7 @@ module _ (g : Geometry) (kn : Known g) {es : Entries} {d : Disk} (marks : MarksF
   unfolding first_places placement
   places-taken wanted room h = let z : min wanted room ≡ wanted = omega arith in rw (z, free-places)
 
-  module _ {wanted : ℕ} {at : List ℕ} {r : ℕ} {at' : List ℕ} (room : wanted ≤ length at) (p : Placed g es wanted at r at') where
+  module _ {wanted : ℕ} {at : List Place} {r : ℕ} {at' : List Place} (room : wanted ≤ length at) (p : Placed g es wanted at r at') where
     pub places_count : r ≡ min wanted (length (free_for_files g d))
     unfolding placement
     places_count = p.count ∙ ap length (places-taken wanted (length at) room) ∙ length-take wanted (free_for_files g d)
@@ -135,16 +127,15 @@ module _ (g : Geometry) (kn : Known g) {es : Entries} {d : Disk} (marks : MarksF
     pub places-few : (r < wanted) ↔ (length (free_for_files g d) < wanted)
     places-few = ((λ h. omega (arith, places_count)), (λ h. omega (arith, places_count)))
 
-    -- else the numbers at the start of the array name the sectors that a store takes
-    pub places-named : wanted ≤ length (free_for_files g d) → map unpacked (take wanted at') ≡ placement g d wanted
+    -- else the places at the start of the array are the sectors that a store takes
+    pub places-named : wanted ≤ length (free_for_files g d) → map address_of (take wanted at') ≡ placement g d wanted
     unfolding placement
     places-named h =
         let l : List Address = placement g d wanted in
-        let many : length (map packed l) ≡ wanted = length-map l packed ∙ length-take wanted (free_for_files g d) ∙ omega arith in
-        rw (p.places, places-taken wanted (length at) room) (
-        ap (map unpacked) (take_at (map packed l) _ wanted many) ∙ unpacked-all g kn l (placement-taken g d wanted).on)
+        let many : length (map place_of l) ≡ wanted = length-map l place_of ∙ length-take wanted (free_for_files g d) ∙ omega arith in
+        rw (p.places, places-taken wanted (length at) room) (ap (map address_of) (take_at (map place_of l) _ wanted many) ∙ places-address l)
 
--- ---- the sector for the directory
+-- ---- the place for the directory
 
 -- a sector of track 18
 abbrev Of18 : Address → Type 0
@@ -158,46 +149,40 @@ all-18 : (g : Geometry) (kn : Known g) → All Of18 (sectors_of_track g 18)
 unfolding sectors_of_track
 all-18 g kn = sectors-18 0 (sectors_on g 18) (omega (arith, kn.on18))
 
--- n is the number of the lowest free sector of track 18
-pub record LowestPlace (g : Geometry) (d : Disk) (n : ℕ) : Type 0 where
-  pub sector : ℕ
+-- this place is the lowest free sector of track 18
+pub record LowestPlace (g : Geometry) (d : Disk) (at : Place) : Type 0 where
   pub others : List Address
-  pub free : free_for_directory g d ≡ address 18 sector ∷ others
-  pub small : sector < 19
-  pub number : n ≡ 256 * 18 + sector
+  pub free : free_for_directory g d ≡ address_of at ∷ others
+  pub track : at.track ≡ 18
+  pub small : at.sector < 19
 
 module _ (g : Geometry) (kn : Known g) {es : Entries} {d : Disk} (marks : MarksFree g es d) where
-  directory-first : directory_place g es ≡ first_packed (free_for_directory g d)
+  directory-first : directory_place g es ≡ first_place (free_for_directory g d)
   unfolding directory_place free_for_directory
-  directory-first = ap first_packed (filter_alike (λ r. on_disk g r ≡ true) (marked_free es) (is_free g d) marks.agrees (sectors_of_track g 18) (sectors-on g 18))
+  directory-first =
+      ap first_place (filter_alike (λ r. on_disk g r ≡ true) (marked_free es) (is_free g d) marks.agrees (sectors_of_track g 18) (sectors-on g 18))
 
-  lowest : (r : Address) (l : List Address) → free_for_directory g d ≡ r ∷ l → LowestPlace g d (directory_place g es)
-  unfolding first_packed free_for_directory
+  lowest : (r : Address) (l : List Address) → free_for_directory g d ≡ r ∷ l → LowestPlace g d (place_of r)
+  unfolding free_for_directory
   lowest r l e =
       let at : Memᴰ r (r ∷ l) = mathlib.Core.List.Memᴰ.head refl in
       let of : Of18 r = all-mem Of18 (mem-filter (is_free g d) (sectors_of_track g 18) (rw e at)).0 (all-18 g kn) in
-      let is : r ≡ address 18 r.sector = ap (λ (t : ℕ). address t r.sector) of.0 in
-      record {
-        sector = r.sector;
-        others = l;
-        free = e ∙ ap (λ (x : Address). x ∷ l) is;
-        small = of.1;
-        number = directory-first ∙ rw e (omega (arith, of.0));
-      }
+      record { others = l; free = e; track = of.0; small = of.1 }
 
-  -- 0 exactly where none is free
-  pub directory-none : (directory_place g es ≡ 0) ↔ (free_for_directory g d ≡ [])
-  unfolding first_packed
-  directory-none = ((λ z. go (free_for_directory g d) refl z), (λ e. directory-first ∙ rw e))
+  -- none exactly where none is free
+  pub directory-none : (directory_place g es ≡ None) ↔ (free_for_directory g d ≡ [])
+  unfolding first_place
+  directory-none = ((λ z. go (free_for_directory g d) refl (sym directory-first ∙ z)), (λ e. directory-first ∙ rw e))
     where
-      go : (l : List Address) → free_for_directory g d ≡ l → directory_place g es ≡ 0 → free_for_directory g d ≡ []
+      go : (l : List Address) → free_for_directory g d ≡ l → first_place (free_for_directory g d) ≡ None → free_for_directory g d ≡ []
       go [] e z = e
-      go (r ∷ l) e z = absurd (omega (arith, (lowest r l e).number))
+      go (r ∷ l) e z = let y : Some (place_of r) ≡ None = rw e at z in absurd (cc)
 
-  -- else the lowest one's number
-  pub directory-lowest : (directory_place g es ≡ 0 → ⊥) → LowestPlace g d (directory_place g es)
-  directory-lowest some = go (free_for_directory g d) refl
+  -- else the lowest one
+  pub directory-lowest : {at : Place} → directory_place g es ≡ Some at → LowestPlace g d at
+  unfolding first_place
+  directory-lowest {at} some = go (free_for_directory g d) refl (sym directory-first ∙ some)
     where
-      go : (l : List Address) → free_for_directory g d ≡ l → LowestPlace g d (directory_place g es)
-      go [] e = absurd (some (directory-none.1 e))
-      go (r ∷ l) e = lowest r l e
+      go : (l : List Address) → free_for_directory g d ≡ l → first_place (free_for_directory g d) ≡ Some at → LowestPlace g d at
+      go [] e z = let y : ◌≡◌ {A = Option Place} None (Some at) = rw e at z in absurd (cc)
+      go (r ∷ l) e z = let y : Some (place_of r) ≡ Some at = rw e at z in let q : place_of r ≡ at = cc in rw (← q) (lowest r l e)

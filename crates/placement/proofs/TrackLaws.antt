@@ -1,13 +1,14 @@
 -- One track's free sectors, taken by its bitmap (01, The map): what the loop over its sectors keeps.
 -- In order: the bitmap halved from sector to sector; how many sectors are free; the loop. Assumes nothing.
-use Prim.Native.Nat.{ℕ, zero, suc, ◌+◌, ◌-◌, ◌*◌, ◌/◌, ◌%◌, ◌^◌, ◌≤◌, ◌<◌, min}
+use Prim.Native.Nat.{ℕ, zero, suc, ◌+◌, ◌-◌, ◌/◌, ◌%◌, ◌^◌, ◌≤◌, ◌<◌, min}
 use native.Mathlib.Omega.{arith}
-use native.Mathlib.Decide.{ℕ_discrete}
+use native.Mathlib.Decide.{ℕ_discrete, dec_le}
 use native.Mathlib.Numerals.{add-one}
-use mathlib.Core.Path.{◌≡◌, refl, sym, ap, ◌∙◌}
-use mathlib.Core.List.{List, [], ◌∷◌, map}
-use lib.ListN.{length, set}
+use mathlib.Core.Path.{◌≡◌, refl, sym, ap, ap₂, ◌∙◌}
+use mathlib.Core.List.{List, [], ◌∷◌, ◌++◌, map}
+use lib.ListN.{length, take, drop, set, length-take, length-drop}
 use lib.Pow.{shr-shr}
+use lib.Seq.{take_all}
 use borrow.Author.Tests.{ne_eqb}
 use Rattle.d64spec.specs.Lists.{Bytes, filter, range, sum}
 use Rattle.d64spec.specs.Bits.{bit_of}
@@ -15,12 +16,12 @@ use Rattle.d64spec.specs.Answers.{Address, address}
 use Rattle.d64spec.specs.Geometry.{Geometry, sectors_on, sectors_of_track}
 use Rattle.d64spec.specs.Layouts.{Known}
 use Rattle.d64spec.proofs.SumLaws.{sum_same}
-use Rattle.geometry.specs.Layout.{IsCounts}
+use Rattle.geometry.specs.declared.Address.{Address as Place}
 use Rattle.bam.specs.MapEntry.{entry_bit, bitmap_of, free_in, free_on}
 use Rattle.bam.proofs.ShapeLaws.{EntryShape}
 use Rattle.bam.proofs.BitmapLaws.{bit-bitmap}
-use Rattle.placement.specs.Placements.{PlacedBehind, TrackRoom, marked_in, free_on_track}
-use Rattle.placement.proofs.BehindLaws.{placed-none, placed_one, placed-both, room-placed, length-placed}
+use Rattle.placement.specs.Placements.{PlacedFirst, put_first, place_of, marked_in, free_on_track}
+use Rattle.placement.proofs.BehindLaws.{taken-more, put_one}
 
 -- ---- the bitmap halved
 
@@ -58,52 +59,55 @@ module _ (m t : ℕ) where
 abbrev free_left : Geometry → ℕ → ℕ → ℕ → List Address
 free_left g m t s = free_from m t s (sectors_on g t - s)
 
--- THE TRACK'S COUNT, by a table of the layout's counts, is how many of its sectors are free
-counted-free : (g : Geometry) (kn : Known g) {counts : List ℕ} (e : Bytes) (t : ℕ) → IsCounts g counts → EntryShape e
-    → free_on counts e t ≡ length (free_left g (bitmap_of e) t 0)
+-- THE TRACK'S COUNT is how many of its sectors are free
+counted-free : (g : Geometry) (kn : Known g) (e : Bytes) (t : ℕ) → EntryShape e → free_on g e t ≡ length (free_left g (bitmap_of e) t 0)
 unfolding free_in
-counted-free g kn e t table shape =
+counted-free g kn e t shape =
     let n : ℕ = sectors_on g t in
     let all : n - 0 ≡ n = omega arith in
     let ones : free_in e n ≡ sum (map (bit_of (bitmap_of e)) (range 0 n))
     = sum_same (entry_bit e) (bit_of (bitmap_of e)) 0 n (λ s l u. sym (bit-bitmap e shape s (omega (arith, kn.valid.small t)))) in
-    rw (table.agrees t, all) (ones ∙ sym (length-free (bitmap_of e) t 0 n))
+    rw all (ones ∙ sym (length-free (bitmap_of e) t 0 n))
 
 -- ---- the loop
 
--- the sectors below s are passed: what the others still put behind the n places makes the whole, and there are `end` places then
-pub record Taking (g : Geometry) (m t : ℕ) (at₀ : List ℕ) (have want end : ℕ) (at : List ℕ) (bits n s : ℕ) : Type 0 where
-  pub room : TrackRoom at n want
-  pub size : length at ≡ length at₀
+-- the sectors below s are passed: n of them are free, and stand at the start of the array; in all it will be as many as the count and the room say
+pub record Taking (g : Geometry) (m t : ℕ) (at₀ : List Place) (end : ℕ) (at : List Place) (bits n s : ℕ) : Type 0 where
+  pub few : n ≤ end
+  pub ends : end ≡ min (length (free_left g m t 0)) (length at₀)
   pub halved : bits ≡ m / 2 ^ s
-  pub ends : end ≡ min (n + length (free_left g m t s)) want
-  pub whole : (r : ℕ) (out : List ℕ) → PlacedBehind (free_left g m t s) at n want r out → PlacedBehind (free_left g m t 0) at₀ have want r out
+  pub left : free_left g m t s ≡ drop n (free_left g m t 0)
+  pub places : at ≡ put_first (take n (free_left g m t 0)) at₀
 
--- a place is still to come: a sector is left for it, and it is wanted
-pub record Coming (g : Geometry) (t want n s : ℕ) : Type 0 where
+-- a place is still to come: a sector is left for it, and there is room
+pub record Coming (g : Geometry) (t : ℕ) (at₀ : List Place) (n s : ℕ) : Type 0 where
   pub sector : s < sectors_on g t
   pub small : s < 24
-  pub few : n < want
+  pub room : n < length at₀
 
-module _ (g : Geometry) (kn : Known g) {e : Bytes} (shape : EntryShape e) {counts : List ℕ} (table : IsCounts g counts)
-    {at : List ℕ} {have want : ℕ} (room : TrackRoom at have want) where
-  pub taking-start : {m t u free end n s : ℕ} → m ≡ bitmap_of e → free ≡ free_on counts e u → u ≡ t → end ≡ min (have + free) want → n ≡ have → s ≡ 0
-      → Taking g m t at have want end at m n s
+module _ (g : Geometry) (kn : Known g) {e : Bytes} (shape : EntryShape e) {at : List Place} where
+  pub taking-start : {m t k free end n s : ℕ} → m ≡ bitmap_of e → free ≡ free_in e k → k ≡ sectors_on g t → end ≡ min free (length at) → n ≡ 0 → s ≡ 0
+      → Taking g m t at end at m n s
   taking-start {m} {t} bitmap count own ends none first = rw (none, first, bitmap) (record {
-    room = room;
-    size = refl;
+    few = omega arith;
+    ends = ends ∙ rw (count, own, counted-free g kn e t shape);
     halved = omega arith;
-    ends = ends ∙ rw (count, own, counted-free g kn e t table shape);
-    whole = λ r out p. p;
+    left = refl;
+    places = refl;
   })
 
-module _ (g : Geometry) (kn : Known g) {m t : ℕ} {at₀ : List ℕ} {have want end : ℕ} {at : List ℕ} {bits n s : ℕ}
-    (w : Taking g m t at₀ have want end at bits n s) where
+module _ (g : Geometry) (kn : Known g) {m t : ℕ} {at₀ : List Place} {end : ℕ} {at : List Place} {bits n s : ℕ}
+    (w : Taking g m t at₀ end at bits n s) where
+  -- all of them
+  abbrev all : List Address
+  all = free_left g m t 0
+
   -- below the end, so that the loop never asks a sector that the track has not
-  pub taking-coming : n < end → Coming g t want n s
+  pub taking-coming : n < end → Coming g t at₀ n s
   taking-coming h =
-      let none : sectors_on g t ≤ s → ⊥ = λ l. (let z : sectors_on g t - s ≡ 0 = omega arith in omega (arith, rw z at w.ends)) in
-      record { sector = omega arith; small = omega (arith, kn.valid.small t); few = omega (arith, w.ends) }
+      let none : sectors_on g t ≤ s → ⊥
+      = λ l. (let z : sectors_on g t - s ≡ 0 = omega arith in omega (arith, w.ends, length-drop n all, ap length (rw z at w.left))) in
+      record { sector = omega arith; small = omega (arith, kn.valid.small t); room = omega (arith, w.ends) }
 
   left-free : s < sectors_on g t → bits % 2 ≡ 1 → free_left g m t s ≡ address t s ∷ free_left g m t (s + 1)
   left-free h bit =
@@ -115,36 +119,48 @@ module _ (g : Geometry) (kn : Known g) {m t : ℕ} {at₀ : List ℕ} {have want
       let more : sectors_on g t - s ≡ suc (sectors_on g t - (s + 1)) = omega arith in
       rw more (used-first m t s (sectors_on g t - (s + 1)) (rw w.halved at bit))
 
-  module _ {at' : List ℕ} {bits' n' : ℕ} (h : Coming g t want n s) where
-    -- the next sector is free: its place is put behind the others
-    pub taking-free : {v : ℕ} → bits % 2 ≡ 1 → at' ≡ set at n v → v ≡ 256 * t + s → n' ≡ n + 1 → bits' ≡ bits / 2
-        → Taking g m t at₀ have want end at' bits' n' (s + 1)
-    taking-free bit stored place next half =
-        let one : PlacedBehind (address t s ∷ []) at n want n' at' = rw (stored, place, next) (placed_one w.room (address t s) h.few) in
-        let first = left-free h.sector bit in
-        record {
-          room = room-placed w.room one;
-          size = length-placed w.room one ∙ w.size;
+  module _ {at' : List Place} {bits' n' s' : ℕ} (below : n < end) (h : Coming g t at₀ n s) where
+    -- the next sector is free: it is put behind the others
+    pub taking-free : {v : Place} → bits % 2 ≡ 1 → at' ≡ set at n v → v.track ≡ t → v.sector ≡ s → n' ≡ n + 1 → bits' ≡ bits / 2
+        → s' ≡ s + 1 → Taking g m t at₀ end at' bits' n' s'
+    taking-free {v = v} bit stored track sector next half after =
+        let more = taken-more n all (address t s ∷ []) (free_left g m t (s + 1)) (sym w.left ∙ left-free h.sector bit) in
+        let size : length (take n all) ≡ n = omega (arith, length-take n all, w.ends) in
+        let put : set at n (place_of (address t s)) ≡ put_first (take n all ++ (address t s ∷ [])) at₀
+        = rw w.places (put_one (take n all) (address t s) at₀ size h.room) in
+        rw (next, after) (record {
+          few = omega arith;
+          ends = w.ends;
           halved = half ∙ rw w.halved (halved-more m s);
-          ends = omega (arith, w.ends, ap length first);
-          whole = λ r out p. w.whole r out (rw first (placed-both w.room one p));
-        }
-
-    -- it is not: nothing is put
-    pub taking-used : (bits % 2 ≡ 1 → ⊥) → at' ≡ at → n' ≡ n → bits' ≡ bits / 2 → Taking g m t at₀ have want end at' bits' n' (s + 1)
-    taking-used bit same none half =
-        let first = left-used h.sector bit in
-        rw (same, none) (record {
-          room = w.room;
-          size = w.size;
-          halved = half ∙ rw w.halved (halved-more m s);
-          ends = omega (arith, w.ends, ap length first);
-          whole = λ r out p. w.whole r out (rw first p);
+          left = sym more.1;
+          places = stored ∙ ap₂ (λ (x y : ℕ). set at n (record { track = x; sector = y })) track sector ∙ put
+              ∙ ap (λ (l : List Address). put_first l at₀) (sym more.0);
         })
 
-  -- at the end all places are there
-  pub taking-finished : {b : ℕ} → m ≡ b → end ≤ n → PlacedBehind (free_on_track g b t) at₀ have want n at
+    -- it is not: nothing is put
+    pub taking-used : (bits % 2 ≡ 1 → ⊥) → at' ≡ at → n' ≡ n → bits' ≡ bits / 2 → s' ≡ s + 1 → Taking g m t at₀ end at' bits' n' s'
+    taking-used bit same none half after =
+        rw (same, none, after) (record {
+          few = w.few;
+          ends = w.ends;
+          halved = half ∙ rw w.halved (halved-more m s);
+          left = sym (left-used h.sector bit) ∙ w.left;
+          places = w.places;
+        })
+
+  -- as many of them as there is room for
+  all-taken : end ≤ n → take n all ≡ take (length at₀) all
+  all-taken h = elim (dec_le (length all) (length at₀)) [
+    | yes few ↦ take_all n all (omega (arith, w.ends)) ∙ sym (take_all (length at₀) all few)
+    | no many ↦ let z : n ≡ length at₀ = omega (arith, w.ends, w.few) in ap (λ (k : ℕ). take k all) z
+  ]
+
+  -- at the end all are there
+  pub taking-finished : {b : ℕ} → m ≡ b → end ≤ n → PlacedFirst (free_on_track g b t) at₀ n at
   unfolding free_on_track sectors_of_track
   taking-finished bitmap h =
-      let all : sectors_on g t - 0 ≡ sectors_on g t = omega arith in
-      rw (← bitmap, ← all) (w.whole n at (placed-none w.room (free_left g m t s) (omega (arith, w.ends))))
+      let whole : sectors_on g t - 0 ≡ sectors_on g t = omega arith in
+      rw (← bitmap, ← whole) (record {
+        count = omega (arith, w.ends, w.few, length-take (length at₀) all);
+        places = w.places ∙ ap (λ (l : List Address). put_first l at₀) (all-taken h);
+      })

@@ -1,11 +1,11 @@
 -- Where a store puts a file, by the map's marks (01, Store: the first k free ones in house order; the lowest free sector of track 18).
--- In order: the allocation order by index; places put behind others in an array; those of one track; the free sectors; the first of them; a
--- sector for the directory. Laws: proofs/BehindLaws, TrackLaws, OrderLaws, PlaceLaws.
-use Rattle.std.specs.Prelude.{ℕ, ◌+◌, ◌-◌, ◌/◌, ◌%◌, ◌^◌, ◌≤◌, min, ◌≡◌, Bool, List, [], ◌∷◌, map, length, take, get_or, eqb}
-use Rattle.d64spec.specs.Lists.{Bytes, filter, splice}
+-- In order: the allocation order by index; sectors put at the start of an array; those of one track; the free sectors; the first of them; a
+-- place for the directory. Laws: proofs/TrackLaws, OrderLaws, PlaceLaws.
+use Rattle.std.specs.Prelude.{ℕ, ◌/◌, ◌%◌, ◌^◌, ◌≤◌, min, ◌≡◌, Bool, List, [], ◌∷◌, ◌++◌, map, length, take, drop, get_or, eqb, Option, Some, None}
+use Rattle.d64spec.specs.Lists.{Bytes, filter}
 use Rattle.d64spec.specs.Answers.{Address}
 use Rattle.d64spec.specs.Geometry.{Geometry, tracks, sectors_of_track, allocation_tracks, allocation_order}
-use Rattle.geometry.specs.Layout.{packed}
+use Rattle.geometry.specs.declared.Address.{Address as Place}
 use Rattle.bam.specs.MapEntry.{Entries, bitmap_of}
 use Rattle.bam.specs.Bam.{marked_free}
 
@@ -15,11 +15,18 @@ pub record OrderTrack (g : Geometry) (i t : ℕ) : Type 0 where
   pub low : 1 ≤ t
   pub high : t ≤ tracks g
 
--- the first of these sectors stand in the array behind the `have` places that it has, up to `want` places in all; the rest of it is as it was, and it
--- has r places then
-pub record PlacedBehind (l : List Address) (at : List ℕ) (have want r : ℕ) (at' : List ℕ) : Type 0 where
-  pub count : r ≡ have + length (take (want - have) l)
-  pub places : at' ≡ splice at have (map packed (take (want - have) l))
+-- the code's struct for an address (01, Tracks and sectors)
+abbrev pub place_of : Address → Place
+place_of r = record { track = r.track; sector = r.sector }
+
+-- the array with these sectors at its start, the rest of it as it is
+abbrev pub put_first : List Address → List Place → List Place
+put_first l at = map place_of l ++ drop (length l) at
+
+-- the first of these sectors stand at the start of the array, as many as it has room for, the rest of it as it was; r is how many they are
+pub record PlacedFirst (l : List Address) (at : List Place) (r : ℕ) (at' : List Place) : Type 0 where
+  pub count : r ≡ length (take (length at) l)
+  pub places : at' ≡ put_first (take (length at) l) at
 
 -- whether a track's bitmap, as a number, marks a sector of it free: its bit is 1 (01, The map)
 unfoldable pub marked_in : ℕ → Address → Bool
@@ -29,14 +36,9 @@ marked_in m r = eqb (m / 2 ^ r.sector % 2) 1
 unfoldable pub free_on_track : Geometry → ℕ → ℕ → List Address
 free_on_track g m t = filter (marked_in m) (sectors_of_track g t)
 
--- the array has room for `want` places, and has `have` of them
-pub record TrackRoom (at : List ℕ) (have want : ℕ) : Type 0 where
-  pub few : have ≤ want
-  pub room : want ≤ length at
-
--- a track's free sectors stand behind the places that there are
-abbrev pub TrackPlaced : Geometry → Bytes → ℕ → List ℕ → ℕ → ℕ → ℕ → List ℕ → Type 0
-TrackPlaced g e t at have want r at' = PlacedBehind (free_on_track g (bitmap_of e) t) at have want r at'
+-- a track's free sectors stand at the start of the array
+abbrev pub TrackPlaced : Geometry → Bytes → ℕ → List Place → ℕ → List Place → Type 0
+TrackPlaced g e t at r at' = PlacedFirst (free_on_track g (bitmap_of e) t) at r at'
 
 -- the sectors off track 18 that the map marks free, in the order in which a store takes them
 unfoldable pub free_places : Geometry → Entries → List Address
@@ -47,15 +49,15 @@ unfoldable pub first_places : Geometry → Entries → ℕ → ℕ → List Addr
 first_places g es wanted room = take (min wanted room) (free_places g es)
 
 -- they stand at the start of the array, the rest of it as it was, and r is how many they are
-pub record Placed (g : Geometry) (es : Entries) (wanted : ℕ) (at : List ℕ) (r : ℕ) (at' : List ℕ) : Type 0 where
+pub record Placed (g : Geometry) (es : Entries) (wanted : ℕ) (at : List Place) (r : ℕ) (at' : List Place) : Type 0 where
   pub count : r ≡ length (first_places g es wanted (length at))
-  pub places : at' ≡ splice at 0 (map packed (first_places g es wanted (length at)))
+  pub places : at' ≡ put_first (first_places g es wanted (length at)) at
 
--- the first of these sectors as a number, or 0 where there is none
-unfoldable pub first_packed : List Address → ℕ
-first_packed [] = 0
-first_packed (r ∷ l) = packed r
+-- the first of these addresses, as the code's struct
+unfoldable pub first_place : List Address → Option Place
+first_place [] = None
+first_place (r ∷ l) = Some (place_of r)
 
--- the lowest sector of track 18 that the map marks free, or 0 where none is
-unfoldable pub directory_place : Geometry → Entries → ℕ
-directory_place g es = first_packed (filter (marked_free es) (sectors_of_track g 18))
+-- the lowest sector of track 18 that the map marks free (01, Store)
+unfoldable pub directory_place : Geometry → Entries → Option Place
+directory_place g es = first_place (filter (marked_free es) (sectors_of_track g 18))

@@ -16,7 +16,6 @@ use Rattle.d64spec.proofs.ChainLaws.{chain-follow}
 use Rattle.sectors.specs.Sectors.{Inside}
 use Rattle.sectors.proofs.SectorLaws.{length-disk, sector-lent}
 use Rattle.links.proofs.LinkLaws.{file-bad, file-ends, file-to}
-use Rattle.geometry.specs.Layout.{number_by, IsFirsts}
 use Rattle.reading.specs.ChainReads.{link_of, sectors_from, ChainFrom}
 
 pub follow-length : (g : Geometry) (link : Bytes → Link) (d : Disk) (n : ℕ) (k : Link) → length (follow g link d n k) ≤ n
@@ -77,11 +76,9 @@ module _ {g : Geometry} {img : Bytes} {r : Address} (c : ChainFrom g img r) wher
   pub number_lt : sector_number g r < total g
   number_lt = sector_number-lt g r c.on
 
-  -- the sector at hand, by a table of the tracks' first numbers
-  pub visited : {firsts : List ℕ} {n : ℕ} → IsFirsts g firsts → n ≡ number_by firsts r → Visited g img r n
-  visited {firsts} {n} numbers e =
-      let is : n ≡ sector_number g r = e ∙ numbers.agrees r c.on in
-      record { number = is; inside = omega (arith, number_lt, c.size) }
+  -- the sector at hand
+  pub visited : {n : ℕ} → n ≡ sector_number g r → Visited g img r n
+  visited is = record { number = is; inside = omega (arith, number_lt, c.size) }
 
   -- its sectors are r, and the rest of the chain
   pub sectors-first : (m : List Address) × (sectors_from g img r ≡ r ∷ m)

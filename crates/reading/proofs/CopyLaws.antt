@@ -3,7 +3,7 @@
 -- The output is always the bytes copied so far, put at the start of the output as it was.
 use Prim.Native.Nat.{ℕ, ◌+◌, ◌-◌, ◌≤◌, ◌<◌}
 use native.Mathlib.Omega.{arith}
-use mathlib.Core.Path.{◌≡◌, refl, sym, ap, ap₂, ◌∙◌}
+use mathlib.Core.Path.{◌≡◌, sym, ap, ap₂, ◌∙◌}
 use mathlib.Core.List.{[], ◌∷◌, ◌++◌, append_assoc, append-nil}
 use lib.ListN.{length, take, drop, length-append, length-take, length-drop}
 use lib.Seq.{length-take-le, drop_at, take-add, drop-append-add, take-append_seam, drop-drop, take-length}
@@ -12,7 +12,7 @@ use Rattle.d64spec.specs.Answers.{Address}
 use Rattle.d64spec.specs.Geometry.{Geometry, sector_number}
 use Rattle.d64spec.specs.Image.{disk}
 use Rattle.d64spec.proofs.SpliceLaws.{length-splice}
-use Rattle.reading.specs.ChainReads.{link_of, sectors_from, data_from, ChainFrom, CopyFits, ChainCopied}
+use Rattle.reading.specs.ChainReads.{link_of, sectors_from, data_from, ChainFrom, ChainCopied}
 use Rattle.reading.proofs.ChainStepLaws.{Follows, sectors-first, sector-full, last-alone, follows}
 
 -- ---- the data of one sector
@@ -35,6 +35,13 @@ module _ {g : Geometry} {img : Bytes} {r : Address} (c : ChainFrom g img r) {s :
   unfolding data_from
   data-more f = rw (f.sectors, (sectors-first f.rest).1, ← is)
 
+  -- their number: one less than the last sector's second byte, or 254 more than those of the rest
+  pub length-last : sectors_from g img r ≡ r ∷ [] → byte s 1 ≤ 255 → length (data_from g img r) ≡ byte s 1 - 1
+  length-last alone small = ap length (data-last alone) ∙ length-data_of (byte s 1 - 1) (omega arith)
+
+  pub length-more : {q : Address} → Follows g img r q → length (data_from g img r) ≡ 254 + length (data_from g img q)
+  length-more {q} f = ap length (data-more f) ∙ length-append (data_of s 254) (data_from g img q) ∙ ap (λ (n : ℕ). n + length (data_from g img q)) (length-data_of 254 (omega arith))
+
 -- ---- the copy
 
 -- more bytes behind those at the start
@@ -53,9 +60,6 @@ pub record Copying (g : Geometry) (img out : Bytes) (first at : Address) (out' :
   pub rest : drop n (data_from g img first) ≡ data_from g img at
   pub output : out' ≡ splice out 0 (take n (data_from g img first))
   pub visited : k + length (sectors_from g img at) ≡ length (sectors_from g img first)
-
-pub copying-start : {g : Geometry} {img out : Bytes} {first : Address} → CopyFits g img out first → Copying g img out first first out 0 0
-copying-start f = record { chain = f.chain; room = f.room; within = omega arith; rest = refl; output = refl; visited = omega arith }
 
 module _ {g : Geometry} {img out : Bytes} {first at : Address} {out' : Bytes} {n k : ℕ} (w : Copying g img out first at out' n k) where
   -- what is still to be copied has room
@@ -131,7 +135,3 @@ module _ {g : Geometry} {img out : Bytes} {first at : Address} {out' : Bytes} {n
                 ∙ ap (splice out 0) (ap (λ (m : ℕ). take m (data_from g img first)) end ∙ take-length (data_from g img first));
             sectors = omega (arith, w.visited, ap length alone);
           }
-
-pub length-copied : {g : Geometry} {img out : Bytes} {r : Address} {k : ℕ} {out' : Bytes} → CopyFits g img out r → ChainCopied g img out r k out'
-    → length out' ≡ length out
-length-copied {g} {img} {out} {r} f k = ap length k.output ∙ length-splice out 0 (data_from g img r) (omega (arith, f.room))

@@ -4,27 +4,26 @@ use Prim.Native.Nat.{ℕ, ◌*◌, ◌≤◌, ◌<◌}
 use mathlib.Core.Path.{◌≡◌, refl, sym, ap, ◌∙◌}
 use mathlib.Core.Bool.{Bool, true, false}
 use lib.ListN.{length, drop}
+use Rattle.std.specs.Prelude.{Result, Ok, Err}
 use borrow.Author.Tests.{le-leb, lt-leb}
 use Rattle.d64spec.specs.Lists.{Bytes, byte}
-use Rattle.d64spec.specs.Answers.{Address, Fault, refused, done, wrong_size, bad_name_argument, not_found, wrong_buffer, unplaced, ◌>>◌, need, first}
+use Rattle.d64spec.specs.Answers.{Address, Fault, refused, done, wrong_size, bad_name_argument, not_found, wrong_buffer, ◌>>◌, need, first}
 use Rattle.d64spec.specs.Geometry.{Geometry, total}
 use Rattle.d64spec.specs.Image.{disk}
 use Rattle.d64spec.specs.Directory.{File, files, name_field, count_of}
 use Rattle.d64spec.specs.Check.{DirectoryContents, right_size, check_disk, check_image}
 use Rattle.d64spec.specs.Reply.{Reply, reply, valid_name_argument, files_named}
-use Rattle.d64spec.specs.Read.{call_read, FileInformation as Information, call_tell, tell_reply, no_information}
+use Rattle.d64spec.specs.Read.{call_read, FileInformation as Information, call_tell, tell_reply}
 use Rattle.d64spec.specs.Call.{read, perform, attempt, output_buffer}
 use Rattle.d64spec.proofs.ResultLaws.{need-done}
 use Rattle.answers.specs.declared.Fault as code
-use Rattle.answers.specs.declared.Verdict.TheVariants.{Fine, Refused}
-use Rattle.answers.specs.declared.Report.{Report}
-use Rattle.answers.specs.Faults.{fault_of, verdict_of, answer_to, reply_of}
+use Rattle.answers.specs.declared.Done.{Done}
+use Rattle.answers.specs.Faults.{fault_of, result_of, called_answer, reported, reply_of}
 use Rattle.answers.proofs.RefusedLaws.{refused-reply, call-refused, size-true, size-false, check-sized}
 use Rattle.reading.specs.declared.FileInformation.{FileInformation}
-use Rattle.reading.specs.declared.Told.{Told}
 use Rattle.reading.specs.FileSlots.{first_of}
 use Rattle.reading.specs.ChainReads.{sectors_from, data_from, ChainCopied}
-use Rattle.reading.specs.Replies.{read_from, told_of, nothing_told, information_of, tell_reply_of}
+use Rattle.reading.specs.Replies.{read_from, told_of, information_of, tell_reply_of}
 
 -- ---- the reading of a chain
 
@@ -34,15 +33,14 @@ module _ (g : Geometry) (img out : Bytes) (r : Address) where
   read_short h = rw (lt-leb (length (data_from g img r)) (length out) h)
 
   -- an output too short for the data
-  pub short-reply : {rep : Report} → rep ≡ record { verdict = Refused code.TheVariants.WrongBuffer; length = 0; sectors = 0 }
-      → length out < length (data_from g img r) → reply_of rep img out ≡ reply img out (read_from g img out r)
+  pub short-reply : length out < length (data_from g img r) → reply_of (Err code.TheVariants.WrongBuffer) img out ≡ reply img out (read_from g img out r)
   unfolding fault_of
-  short-reply e h = refused-reply code.TheVariants.WrongBuffer e (read_short h)
+  short-reply h = refused-reply code.TheVariants.WrongBuffer refl (read_short h)
 
   -- an output with room for them
   pub whole-reply : {size k : ℕ} {out' : Bytes} → length (data_from g img r) ≤ length out → ChainCopied g img out r k out' → size ≡ length (data_from g img r)
-      → reply_of (record { verdict = Fine; length = size; sectors = k }) img out' ≡ reply img out (read_from g img out r)
-  unfolding read_from reply verdict_of answer_to
+      → reply_of (Ok (record { length = size; sectors = k })) img out' ≡ reply img out (read_from g img out r)
+  unfolding read_from reply called_answer reported
   whole-reply h copied long = rw (le-leb (length (data_from g img r)) (length out) h) (rw (copied.output, copied.sectors, long))
 
 -- ---- the telling of an entry
@@ -81,10 +79,10 @@ module _ (g : Geometry) (img name out : Bytes) where
         read_some r e sectors = rw (size-true g img size, asked, check-sized g img (size-true g img size) checked, e, sectors)
 
   -- THE REPLY TO A READ that is refused
-  pub read-refused : {rep : Report} (f : code.Fault) → rep ≡ record { verdict = Refused f; length = 0; sectors = 0 }
-      → call_read g img name out ≡ refused (fault_of f) → reply_of rep img out ≡ perform g img (read name out)
+  pub read-refused : {r : Result Done code.Fault} (f : code.Fault) → r ≡ Err f → call_read g img name out ≡ refused (fault_of f)
+      → reply_of r img out ≡ perform g img (read name out)
   unfolding attempt output_buffer
-  read-refused f e r = call-refused g img (read name out) f e r
+  read-refused f e k = call-refused g img (read name out) f e k
 
   -- THE REPLY TO A READ of the chain that starts at r
   pub read-replied : {x : Reply} (r : Address) → call_read g img name out ≡ read_from g img out r → x ≡ reply img out (read_from g img out r)
@@ -118,14 +116,19 @@ module _ (g : Geometry) (img : Bytes) (position : ℕ) where
     unfolding call_tell told_of data_from
     tell_some e sectors = rw (sound.0, sound.1, e, sectors)
 
-  -- THE REPLY TO A TELL that is refused
-  pub tell-refused : {told : Told} (f : code.Fault) → told ≡ record { verdict = Refused f; information = nothing_told }
-      → call_tell g img position ≡ refused (fault_of f) → tell_reply_of told ≡ tell_reply (call_tell g img position)
-  unfolding tell_reply no_information verdict_of answer_to
-  tell-refused f e r = rw (e, r)
+  -- A TELL that is refused
+  pub tell-refused : {r : Result FileInformation code.Fault} (f : code.Fault) → r ≡ Err f → call_tell g img position ≡ refused (fault_of f)
+      → result_of information_of r ≡ call_tell g img position
+  unfolding result_of
+  tell-refused f e k = rw e (sym k)
 
-  -- THE REPLY TO A TELL that is done
-  pub tell-replied : (i : FileInformation) {x : Information} → call_tell g img position ≡ done x → information_of i ≡ x
-      → tell_reply_of (record { verdict = Fine; information = i }) ≡ tell_reply (call_tell g img position)
-  unfolding tell_reply verdict_of answer_to
-  tell-replied i e k = rw e (ap (λ (y : Information). record { answer = unplaced 0; information = y }) k)
+  -- A TELL that is done
+  pub tell-done : (i : FileInformation) {x : Information} → call_tell g img position ≡ done x → information_of i ≡ x
+      → result_of information_of (Ok i) ≡ call_tell g img position
+  unfolding result_of
+  tell-done i e k = ap done k ∙ sym e
+
+  -- THE REPLY TO A TELL, of a result that is what the definition tells: all zero if refused
+  pub tell-replied : (r : Result FileInformation code.Fault) → result_of information_of r ≡ call_tell g img position
+      → tell_reply_of r ≡ tell_reply (call_tell g img position)
+  tell-replied r e = ap tell_reply e

@@ -6,7 +6,6 @@ use Rattle.d64spec.specs.Answers.{Address, address}
 use Rattle.d64spec.specs.Geometry.{Geometry, total, on_disk}
 use Rattle.d64spec.specs.Image.{disk}
 use Rattle.d64spec.specs.Chain.{to, file_link, steps, Chain, follow, chain_data}
-use Rattle.geometry.specs.Layout.{IsFirsts}
 
 -- the address that a sector's first two bytes name (01, Chains)
 abbrev pub link_of : Bytes → Address
@@ -30,11 +29,6 @@ pub record ChainFrom (g : Geometry) (img : Bytes) (r : Address) : Type 0 where
 pub record CopyFits (g : Geometry) (img out : Bytes) (r : Address) : Type 0 where
   pub chain : ChainFrom g img r
   pub room : length (data_from g img r) ≤ length out
-
--- what the copy relies on: besides, a table of the tracks' first numbers
-pub record CopyReady (g : Geometry) (img out firsts : List ℕ) (r : Address) : Type 0 where
-  pub fits : CopyFits g img out r
-  pub numbers : IsFirsts g firsts
 
 -- `size` bytes behind a sector's link lie in the sector s, and as many from index `at` on in the output
 pub record DataFits (s out : Bytes) (size at : ℕ) : Type 0 where

@@ -1,10 +1,11 @@
 -- The file that a directory entry of a checked image starts (01, The directory; Chains; Read; Tell). Laws: proofs/FileLaws, FoundLaws.
-use Rattle.std.specs.Prelude.{ℕ, ◌+◌, ◌*◌, ◌-◌, ◌≤◌, ◌≡◌, List, length}
+use Rattle.std.specs.Prelude.{ℕ, ◌+◌, ◌*◌, ◌-◌, ◌≤◌, ◌≡◌, length}
 use Rattle.d64spec.specs.Lists.{Bytes}
 use Rattle.d64spec.specs.Answers.{Address, address}
 use Rattle.d64spec.specs.Geometry.{Geometry}
 use Rattle.d64spec.specs.Image.{disk}
 use Rattle.d64spec.specs.Directory.{entry_byte, count_of, files}
+use Rattle.diskcheck.specs.declared.Checked.{Checked}
 use Rattle.diskcheck.specs.EndTable.{end_table}
 use Rattle.finding.specs.FileSlots.{CheckedSlots}
 use Rattle.reading.specs.ChainReads.{sectors_from, data_from, ChainFrom}
@@ -24,6 +25,6 @@ pub record FileEntry (g : Geometry) (img b : Bytes) (last : ℕ) : Type 0 where
   pub bytes : length (data_from g img (first_of b)) ≡ 254 * (count_of b - 1) + last - 1
 
 -- the slots of a checked image, and where each file's data end, as the check hands them back (01, Order of the check; Chains)
-pub record CheckedFiles (g : Geometry) (img ss es : List ℕ) (end : ℕ) : Type 0 where
-  pub slots : CheckedSlots g img ss end
-  pub ends : es ≡ end_table g img (files g (disk img))
+pub record CheckedFiles (g : Geometry) (img : Bytes) (c : Checked) : Type 0 where
+  pub slots : CheckedSlots g img c.sectors (8 * c.count)
+  pub ends : c.ends ≡ end_table g img (files g (disk img))

@@ -1,16 +1,16 @@
 -- What read and tell give of a file whose entry is found (01, Read; Tell).
-use Rattle.std.specs.Prelude.{length, leb}
+use Rattle.std.specs.Prelude.{length, leb, Result as CodeResult}
 use Rattle.d64spec.specs.Geometry.{Geometry}
-use Rattle.d64spec.specs.Lists.{Bytes, splice, zeros}
+use Rattle.d64spec.specs.Lists.{Bytes, splice}
 use Rattle.d64spec.specs.Answers.{Address, wrong_buffer, Result, done, ◌>>◌, need}
 use Rattle.d64spec.specs.Directory.{entry_byte, name_field, count_of}
 use Rattle.d64spec.specs.Reply.{Change}
-use Rattle.d64spec.specs.Read.{FileInformation as Information, TellReply}
-use Rattle.answers.specs.Faults.{verdict_of, answer_to}
+use Rattle.d64spec.specs.Read.{FileInformation as Information, TellReply, tell_reply}
+use Rattle.answers.specs.declared.Fault.{Fault}
+use Rattle.answers.specs.Faults.{result_of}
 use Rattle.reading.specs.ChainReads.{sectors_from, data_from}
 use Rattle.reading.specs.FileSlots.{first_of}
 use Rattle.reading.specs.declared.FileInformation.{FileInformation}
-use Rattle.reading.specs.declared.Told.{Told}
 
 -- a read of the chain that starts at r: 16 where the output is too short, else its data (01, Read)
 unfoldable pub read_from : Geometry → Bytes → Bytes → Address → Result Change
@@ -34,10 +34,6 @@ told_of g img b = record {
   byte_length = length (data_from g img (first_of b));
 }
 
--- the code's struct with nothing in it: all zero if refused (01, Tell)
-abbrev pub nothing_told : FileInformation
-nothing_told = record { type_byte = 0; name = zeros 16; track = 0; sector = 0; count = 0; length = 0 }
-
 -- the information that the code's struct means
 abbrev pub information_of : FileInformation → Information
 information_of i = record {
@@ -49,6 +45,6 @@ information_of i = record {
   byte_length = i.length;
 }
 
--- the reply that the code's answer means
-abbrev pub tell_reply_of : Told → TellReply
-tell_reply_of t = record { answer = answer_to (verdict_of t.verdict); information = information_of t.information }
+-- the reply that the code's result means: all zero if refused (01, Tell)
+abbrev pub tell_reply_of : CodeResult FileInformation Fault → TellReply
+tell_reply_of r = tell_reply (result_of information_of r)

@@ -1,9 +1,8 @@
 // A chain of a checked image, walked for its data (01, Chains). Each sector is lent on as a part of the image.
-// The table of first numbers is lent to the loops: a constant is built anew at each use.
 ghost use Rattle.std.specs.Prelude.{◌≡◌, take, drop};
 ghost use Rattle.d64spec.specs.Lists.{splice};
 ghost use Rattle.geometry.specs.Layout.{geometry_of, address_of};
-ghost use Rattle.reading.specs.ChainReads.{CopyFits, CopyReady, DataFits, ChainCopied};
+ghost use Rattle.reading.specs.ChainReads.{CopyFits, DataFits, ChainCopied};
 
 use geometry::{Address, Layout};
 
@@ -16,20 +15,15 @@ fn copy_data(sector: &[u8], size: usize, out: &mut [u8], at: usize)
 }
 
 // Copies the data of the chain that starts at `first` to the start of the output, which has room for them. Gives how many sectors it visited.
-fn copy_from(
-    layout: Layout,
-    img: &[u8],
-    first: Address,
-    out: &mut [u8],
-    firsts: &[u16; 40],
-) -> usize
-    requires { CopyReady (geometry_of layout) img.now out.old firsts.now (address_of first) }
+pub(crate) fn copy_chain(layout: Layout, img: &[u8], first: Address, out: &mut [u8]) -> usize
+    requires { CopyFits (geometry_of layout) img.now out.old (address_of first) }
     ensures { ChainCopied (geometry_of layout) img.now out.old (address_of first) result out.new }
 {
     let mut at = first;
     let mut sectors: usize = 0;
+    // no plainer: where the chain ends is met on the way, and its sectors are counted for the report
     loop {
-        let n = geometry::number_by(firsts, at);
+        let n = geometry::number_of(at);
         let part = &img[256 * n..256 * n + 256];
         let track = part[0];
         let sector = part[1];
@@ -42,12 +36,4 @@ fn copy_from(
         copy_data(part, 254, out, copied);
         at = Address { track, sector };
     }
-}
-
-// The same, over the layout's own table.
-pub(crate) fn copy_chain(layout: Layout, img: &[u8], first: Address, out: &mut [u8]) -> usize
-    requires { CopyFits (geometry_of layout) img.now out.old (address_of first) }
-    ensures { ChainCopied (geometry_of layout) img.now out.old (address_of first) result out.new }
-{
-    copy_from(layout, img, first, out, &geometry::FIRST)
 }

@@ -4,25 +4,21 @@
 
 mod copying;
 
-ghost use Rattle.std.specs.Prelude.{◌≡◌, true, ◌*◌, ◌<◌, length};
+ghost use Rattle.std.specs.Prelude.{◌≡◌, true, ◌+◌, ◌-◌, ◌*◌};
 ghost use Rattle.geometry.specs.Layout.{geometry_of};
-ghost use Rattle.d64spec.specs.Lists.{All};
-ghost use Rattle.d64spec.specs.Geometry.{total};
-ghost use Rattle.d64spec.specs.Listing.{bytes_of_track18};
-ghost use Rattle.d64spec.specs.Read.{call_tell, tell_reply};
+ghost use Rattle.d64spec.specs.Read.{call_tell};
 ghost use Rattle.d64spec.specs.Reply.{reply, valid_name_argument};
 ghost use Rattle.d64spec.specs.Call.{read, perform};
-ghost use Rattle.answers.specs.Faults.{reply_of};
-ghost use Rattle.diskcheck.specs.SlotChecks.{LentSlot};
-ghost use Rattle.finding.specs.FileSlots.{slot_named, slot_placed};
+ghost use Rattle.answers.specs.Faults.{result_of, reply_of};
 ghost use Rattle.reading.specs.FileSlots.{first_of, FileEntry, CheckedFiles};
-ghost use Rattle.reading.specs.Replies.{read_from, told_of, nothing_told, information_of, tell_reply_of};
+ghost use Rattle.reading.specs.Replies.{read_from, told_of, information_of};
 
-use answers::{Fault, Report, Verdict};
+use answers::{Done, Fault};
+use diskcheck::Checked;
 use geometry::{Address, Layout};
 
 // What tell gives of a file: its type byte, its 16 name bytes, its first sector, its count of sectors, its length in bytes.
-#[derive(Clone, Copy)]
+#[derive(Clone, Copy, Debug, PartialEq, Eq)]
 pub struct FileInformation {
     pub type_byte: u8,
     pub name: [u8; 16],
@@ -32,125 +28,75 @@ pub struct FileInformation {
     pub length: u32,
 }
 
-// A verdict and the information, all zero if refused.
-#[derive(Clone, Copy)]
-pub struct Told {
-    pub verdict: Verdict,
-    pub information: FileInformation,
-}
-
-// A refused tell: all zero.
-fn tell_nothing(fault: Fault) -> Told
-    ensures { result ≡ record { verdict = Verdict.Refused fault; information = nothing_told } }
+// The length of a file of `count` sectors that ends at byte `last` of its last sector: 254 bytes in each sector before that one, and those from
+// byte 2 on in it (01, Chains). Any numbers are taken: it is 0 where they are too small for a file.
+pub fn file_length(count: u16, last: u8) -> u32
+    ensures { result ≡ 254 * count + last - 255 }
 {
-    Told {
-        verdict: Verdict::Refused(fault),
-        information: FileInformation {
-            type_byte: 0,
-            name: [0u8; 16],
-            track: 0,
-            sector: 0,
-            count: 0,
-            length: 0,
-        },
-    }
-}
-
-// Bytes 02 to 1F of slot k of an image.
-fn slot_of<'a>(layout: Layout, img: &'a [u8], sectors: &[u8; 18], k: usize) -> &'a [u8]
-    requires { (length img.now ≡ 256 * total (geometry_of layout)) × All (λ s. s < 19) sectors.now }
-    ensures { LentSlot (geometry_of layout) img.now sectors.now k result.now }
-{
-    directory::slot_at(&img[91392..96256], sectors, k)
-}
-
-// The first of the slots 0 to end - 1 that holds the name, or `end` where none does.
-fn slot_named(layout: Layout, img: &[u8], name: &[u8], sectors: &[u8; 18], end: usize) -> usize
-    requires { length img.now ≡ 256 * total (geometry_of layout) }
-    ensures { result ≡ slot_named (bytes_of_track18 (geometry_of layout) img.now) sectors.now name.now 0 end }
-{
-    finding::find_named(&img[91392..96256], sectors, name, end)
-}
-
-// The slot of the file at a position among the slots 0 to end - 1, or `end` where there are not so many.
-fn slot_placed(layout: Layout, img: &[u8], position: usize, sectors: &[u8; 18], end: usize) -> usize
-    requires { length img.now ≡ 256 * total (geometry_of layout) }
-    ensures { result ≡ slot_placed (bytes_of_track18 (geometry_of layout) img.now) sectors.now position 0 end }
-{
-    finding::find_placed(&img[91392..96256], sectors, position, end)
+    (254 * count as u32 + last as u32).saturating_sub(255)
 }
 
 // Copies the file of an occupied slot of a checked image, which ends at byte `last` of its last sector, or refuses it with 16 where the output
 // is too short.
-fn read_slot(layout: Layout, img: &[u8], slot: &[u8], last: u8, out: &mut [u8]) -> Report
+fn read_slot(
+    layout: Layout,
+    img: &[u8],
+    slot: &[u8],
+    last: u8,
+    out: &mut [u8],
+) -> Result<Done, Fault>
     requires { FileEntry (geometry_of layout) img.now slot.now last }
     ensures { reply_of result img.now out.new
         ≡ reply img.now out.old (read_from (geometry_of layout) img.now out.old (first_of slot.now)) }
 {
+    // two bytes of the slot, read where they are needed: a function for them would have to know slots and addresses
     let first = Address {
         track: slot[1],
         sector: slot[2],
     };
-    let count = entry::sector_count(slot) as usize;
-    let length = 254 * (count - 1) + last as usize - 1;
-    if out.len() < length {
-        return answers::refuse(Fault::WrongBuffer);
+    let length = file_length(entry::sector_count(slot), last);
+    if out.len() < length as usize {
+        return Err(Fault::WrongBuffer);
     }
-    let sectors = copying::copy_chain(layout, img, first, out);
-    Report {
-        verdict: Verdict::Fine,
-        length: length as u32,
-        sectors: sectors as u16,
-    }
+    let sectors = copying::copy_chain(layout, img, first, out) as u16;
+    Ok(Done { length, sectors })
 }
 
-// The same for the file of this name, looked for among the slots 0 to end - 1 of a checked image; refused with 13 where none has it.
-fn read_found<'a>(
+// The same for the file of this name on a checked image; refused with 13 where no slot has it.
+fn read_found(
     layout: Layout,
     img: &[u8],
     name: &[u8],
-    sectors: &'a [u8; 18],
-    ends: &'a [u8; 144],
-    end: usize,
+    checked: &Checked,
     out: &mut [u8],
-) -> Report
-    requires { CheckedFiles (geometry_of layout) img.now sectors.now ends.now end × (valid_name_argument name.now ≡ true) }
+) -> Result<Done, Fault>
+    requires { CheckedFiles (geometry_of layout) img.now checked.now × (valid_name_argument name.now ≡ true) }
     ensures { reply_of result img.now out.new
         ≡ perform (geometry_of layout) img.now (read name.now out.old) }
 {
-    let k = slot_named(layout, img, name, sectors, end);
-    if k == end {
-        return answers::refuse(Fault::NotFound);
-    }
-    read_slot(layout, img, slot_of(layout, img, sectors, k), ends[k], out)
+    let track18 = sectors::track18(img);
+    let Some(k) = finding::find_named(track18, &checked.sectors, name, 8 * checked.count) else {
+        return Err(Fault::NotFound);
+    };
+    let slot = directory::slot_at(track18, &checked.sectors, k);
+    read_slot(layout, img, slot, checked.ends[k], out)
 }
 
 // Reads the file of this name: its bytes at the start of the output, the rest of it as it was; its length and its chain's length.
-// Refused with 1, 9, 2 to 8, 13 or 16, in this order; a refusal leaves the output as it was and reports 0 and 0.
-pub fn read_file(layout: Layout, img: &[u8], name: &[u8], out: &mut [u8]) -> Report
+// Refused with 1, 9, 2 to 8, 13 or 16, in this order; a refusal leaves the output as it was.
+pub fn read_file(layout: Layout, img: &[u8], name: &[u8], out: &mut [u8]) -> Result<Done, Fault>
     ensures { reply_of result img.now out.new
         ≡ perform (geometry_of layout) img.now (read name.now out.old) }
 {
+    // size and name are asked alike in four calls, and what comes next differs: a store asks the kind, a format runs no check
     if img.len() != geometry::image_size(layout) {
-        return answers::refuse(Fault::WrongSize);
+        return Err(Fault::WrongSize);
     }
     if !names::valid_name_argument(name) {
-        return answers::refuse(Fault::BadNameArgument);
+        return Err(Fault::BadNameArgument);
     }
-    let checked = diskcheck::check_image(layout, img);
-    let verdict = checked.verdict;
-    match verdict {
-        Verdict::Refused(fault) => answers::refuse(fault),
-        Verdict::Fine => read_found(
-            layout,
-            img,
-            name,
-            &checked.sectors,
-            &checked.ends,
-            8 * checked.count,
-            out,
-        ),
-    }
+    let checked = diskcheck::check_image(layout, img)?;
+    read_found(layout, img, name, &checked, out)
 }
 
 // What the slot of a file of a checked image says, and the file's length; the file ends at byte `last` of its last sector.
@@ -167,47 +113,33 @@ fn tell_slot(layout: Layout, img: &[u8], slot: &[u8], last: u8) -> FileInformati
         track: slot[1],
         sector: slot[2],
         count,
-        length: 254 * (count as u32 - 1) + last as u32 - 1,
+        length: file_length(count, last),
     }
 }
 
-// The same for the file at a position, looked for among the slots 0 to end - 1 of a checked image; refused with 13 where there are not so many.
-fn tell_found<'a>(
+// The same for the file at a position on a checked image; refused with 13 where there are not so many.
+fn tell_found(
     layout: Layout,
     img: &[u8],
     position: usize,
-    sectors: &'a [u8; 18],
-    ends: &'a [u8; 144],
-    end: usize,
-) -> Told
-    requires { CheckedFiles (geometry_of layout) img.now sectors.now ends.now end }
-    ensures { tell_reply_of result ≡ tell_reply (call_tell (geometry_of layout) img.now position) }
+    checked: &Checked,
+) -> Result<FileInformation, Fault>
+    requires { CheckedFiles (geometry_of layout) img.now checked.now }
+    ensures { result_of information_of result ≡ call_tell (geometry_of layout) img.now position }
 {
-    let k = slot_placed(layout, img, position, sectors, end);
-    if k == end {
-        return tell_nothing(Fault::NotFound);
-    }
-    Told {
-        verdict: Verdict::Fine,
-        information: tell_slot(layout, img, slot_of(layout, img, sectors, k), ends[k]),
-    }
+    let track18 = sectors::track18(img);
+    let Some(k) = finding::find_placed(track18, &checked.sectors, position, 8 * checked.count)
+    else {
+        return Err(Fault::NotFound);
+    };
+    let slot = directory::slot_at(track18, &checked.sectors, k);
+    Ok(tell_slot(layout, img, slot, checked.ends[k]))
 }
 
 // Tells about the file at a position, counted from 0 among the occupied slots. Refused with 1, 2 to 8 or 13, in this order.
-pub fn tell_file(layout: Layout, img: &[u8], position: usize) -> Told
-    ensures { tell_reply_of result ≡ tell_reply (call_tell (geometry_of layout) img.now position) }
+pub fn tell_file(layout: Layout, img: &[u8], position: usize) -> Result<FileInformation, Fault>
+    ensures { result_of information_of result ≡ call_tell (geometry_of layout) img.now position }
 {
-    let checked = diskcheck::check_image(layout, img);
-    let verdict = checked.verdict;
-    match verdict {
-        Verdict::Refused(fault) => tell_nothing(fault),
-        Verdict::Fine => tell_found(
-            layout,
-            img,
-            position,
-            &checked.sectors,
-            &checked.ends,
-            8 * checked.count,
-        ),
-    }
+    let checked = diskcheck::check_image(layout, img)?;
+    tell_found(layout, img, position, &checked)
 }

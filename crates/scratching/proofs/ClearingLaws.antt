@@ -1,7 +1,7 @@
 -- The loop that clears a chain (01, Scratch; Chains): what it keeps, from its start through each sector to the last.
--- In order: one sector cleared; sectors cleared in another order; where a chain ends; what is kept (`Clearing`); the sector at hand is as it was; it is
--- cleared, and its mark moved.
-use Prim.Native.Nat.{ℕ, ◌+◌, ◌-◌, ◌*◌, ◌/◌, ◌%◌, ◌≤◌, ◌<◌}
+-- In order: one sector cleared; sectors cleared in another order; what is kept (`Clearing`); the sector at hand is as it was; it is cleared, and its
+-- mark moved.
+use Prim.Native.Nat.{ℕ, ◌+◌, ◌-◌, ◌*◌, ◌≤◌, ◌<◌}
 use native.Mathlib.Omega.{arith}
 use native.Mathlib.Decide.{dec_lt}
 use mathlib.Core.Path.{◌≡◌, refl, sym, ap, ap₂, ◌∙◌, fun_ext}
@@ -16,23 +16,19 @@ use Rattle.d64spec.specs.Geometry.{Geometry, sector_number, map_address}
 use Rattle.d64spec.specs.Layouts.{Known}
 use Rattle.d64spec.specs.Image.{Disk, disk, put}
 use Rattle.d64spec.specs.Owner.{claim_count, is_free}
-use Rattle.d64spec.specs.Store.{last_of}
 use Rattle.d64spec.specs.Scratch.{clear_sectors}
 use Rattle.d64spec.proofs.ClearLaws.{clear_in, clear-other}
-use Rattle.d64spec.proofs.SpliceLaws.{splice_all}
-use Rattle.geometry.specs.Layout.{packed, unpacked}
-use Rattle.parts.specs.Overwrites.{overwritten}
-use Rattle.parts.proofs.OverwriteLaws.{overwritten-inside}
+use Rattle.answers.specs.declared.Done.{Done}
 use Rattle.sectors.specs.Sectors.{Inside}
-use Rattle.sectors.proofs.SectorLaws.{length-with_sector, disk-with_sector, sector-lent, sector-back}
+use Rattle.sectors.proofs.SectorLaws.{length-disk, length-with_sector, disk-with_sector, sector-lent, sector-back}
 use Rattle.bam.specs.MapEntry.{Entries}
 use Rattle.bam.specs.Bam.{moved_mark}
 use Rattle.bam.specs.Expected.{Expects, free_after}
 use Rattle.bam.proofs.FollowLaws.{expects-start, expects-moved, expects-agree}
-use Rattle.diskcheck.specs.EndTable.{end_of}
-use Rattle.reading.specs.ChainReads.{link_of, sectors_from, ChainFrom}
-use Rattle.reading.proofs.ChainStepLaws.{Visited, Follows, sectors-first, last-alone, follows}
-use Rattle.scratching.specs.Scratches.{Unlinked, SectorCleared, ChainOwned, ChainCleared}
+use Rattle.reading.specs.ChainReads.{link_of, sectors_from, data_from, ChainFrom}
+use Rattle.reading.proofs.ChainStepLaws.{Visited, Follows, sectors-first, last-used, last-alone, follows}
+use Rattle.reading.proofs.CopyLaws.{length-last, length-more}
+use Rattle.scratching.specs.Scratches.{SectorCleared, ChainOwned, ChainCleared}
 
 -- how often sector n stands among these
 abbrev times : Geometry → ℕ → List Address → ℕ
@@ -40,23 +36,16 @@ times g n l = count n (map (sector_number g) l)
 
 -- ---- one sector
 
--- zeros over a whole sector
-pub unlinked : (s : Bytes) {s' blank : Bytes} {i : ℕ} → length s ≡ 256 → s' ≡ overwritten s i blank → i ≡ 0 → blank ≡ zeros 256
-    → {link : Address} → link ≡ link_of s → Unlinked s link s'
-unlinked s full e start all had = record {
-  zeroed = e ∙ ap₂ (overwritten s) start all ∙ overwritten-inside s 0 (zeros 256) (omega arith) ∙ splice_all s (zeros 256) (sym full);
-  had = had;
-}
-
--- a sector of the image lent on, and cleared there
+-- a sector of the image lent, and filled with zeros there
 pub sector-cleared : (img : Bytes) (n : ℕ) {a : ℕ} (start : a ≡ 256 * n) {p : Bytes} {link : Address} → Inside img n
-    → Unlinked (take (a + 256 - a) (drop a img)) link p → SectorCleared img n link (take a img ++ (p ++ drop (a + 256 - a) (drop a img)))
-sector-cleared img n start inside u =
-    let back = sector-back img n start inside u.zeroed refl in
+    → p ≡ zeros (length (take (a + 256 - a) (drop a img))) → link ≡ link_of (take (a + 256 - a) (drop a img)) → SectorCleared img n link (take a img ++ (p ++ drop (a + 256 - a) (drop a img)))
+sector-cleared img n start inside zeroed had =
+    let lent = sector-lent img n start in
+    let back = sector-back img n start inside (zeroed ∙ ap zeros (ap length lent ∙ length-disk img n inside)) refl in
     record {
       zeroed = ap disk back ∙ disk-with_sector img n (zeros 256) inside refl;
       size = ap length back ∙ length-with_sector img n (zeros 256);
-      had = u.had ∙ ap link_of (sector-lent img n start);
+      had = had ∙ ap link_of lent;
     }
 
 -- ---- the same sectors in another order
@@ -72,18 +61,6 @@ module _ (g : Geometry) (l m : List Address) (same : (n : ℕ) → times g n l �
   unfolding free_after
   free-same v before r = ap (λ (k : ℕ). cond (ltb 0 k) v (before r)) (same (sector_number g r))
 
--- ---- where a chain ends
-
--- at its last sector's second byte
-end-alone : (g : Geometry) (img : Bytes) (r : Address) → sectors_from g img r ≡ r ∷ [] → byte (disk img (sector_number g r)) 1 ≡ end_of g img (sectors_from g img r)
-unfolding end_of last_of
-end-alone g img r e = rw e
-
--- as it does from the next sector on
-end-follows : (g : Geometry) (img : Bytes) {r q : Address} → Follows g img r q → end_of g img (sectors_from g img q) ≡ end_of g img (sectors_from g img r)
-unfolding end_of last_of
-end-follows g img f = rw (f.sectors, (sectors-first f.rest).1)
-
 -- ---- what the loop keeps
 
 -- k sectors of the chain from `first` on are zeroed and free in the map, and the chain goes on at `at`, as it was in the image at the start
@@ -95,13 +72,11 @@ pub record Clearing (g : Geometry) (img : Bytes) (first at : Address) (img' : By
   pub marks : Expects g (free_after g true cleared (is_free g (disk img))) (disk img (sector_number g map_address)) es'
   pub apart : (n : ℕ) → times g n cleared + times g n (sectors_from g img at) ≡ times g n (sectors_from g img first)
   pub left : k + length (sectors_from g img at) ≡ length (sectors_from g img first)
-  pub same : end_of g img (sectors_from g img at) ≡ end_of g img (sectors_from g img first)
-  pub track : at.track < 256
-  pub sector : at.sector < 256
+  pub bytes : 254 * k + length (data_from g img at) ≡ length (data_from g img first)
 
-pub clearing-start : (g : Geometry) (kn : Known g) {img : Bytes} {es : Entries} {first : Address} {k : ℕ} → ChainOwned g img es first
-    → first.track < 256 → first.sector < 256 → k ≡ 0 → Clearing g img first first img es k
-clearing-start g kn o t s none = record {
+pub clearing-start : (g : Geometry) (kn : Known g) {img : Bytes} {es : Entries} {first : Address} → ChainOwned g img es first
+    → Clearing g img first first img es 0
+clearing-start g kn o = record {
   chain = o.chain;
   cleared = [];
   sectors = refl;
@@ -109,9 +84,7 @@ clearing-start g kn o t s none = record {
   marks = expects-start g kn true o.marks;
   apart = λ n. omega arith;
   left = omega arith;
-  same = refl;
-  track = t;
-  sector = s;
+  bytes = omega arith;
 }
 
 module _ (g : Geometry) (kn : Known g) {img : Bytes} {es : Entries} {first at : Address} {img' : Bytes} {es' : Entries} {k : ℕ}
@@ -137,14 +110,6 @@ module _ (g : Geometry) (kn : Known g) {img : Bytes} {es : Entries} {first at : 
   unfolding free_after
   used = rw not_yet (ne_eqb (claim_count g (disk img) own) 0 (λ e. omega (arith, among, w.apart own, o.owned own)))
 
-  -- its mark moved, as the code names it: by its address as one number
-  pub marked-free : {es'' : Entries} {place : ℕ} {mark : Bool} → es'' ≡ moved_mark mark (unpacked place) es' → place ≡ packed at → mark ≡ true
-      → es'' ≡ moved_mark true at es'
-  marked-free {place = place} moved is free =
-      let t : place / 256 ≡ at.track = omega (arith, w.sector) in
-      let s : place % 256 ≡ at.sector = omega (arith, w.sector) in
-      rw (t, s, free) at moved
-
   module _ {n : ℕ} (v : Visited g img at n) where
     pub inside' : Inside img' n
     inside' = omega (arith, v.inside, w.size)
@@ -164,6 +129,11 @@ module _ (g : Geometry) (kn : Known g) {img : Bytes} {es : Entries} {first at : 
       pub alone : link.track < 1 → sectors_from g img at ≡ at ∷ []
       alone h = last-alone w.chain refl (omega (arith, ap (λ (r : Address). r.track) link-as-was))
 
+      -- whose second byte is then 1 or more
+      pub used-last : link.track < 1 → 1 ≤ link.sector
+      used-last h =
+          omega (arith, last-used w.chain refl (omega (arith, ap (λ (r : Address). r.track) link-as-was)), ap (λ (r : Address). r.sector) link-as-was)
+
       sectors'' : disk img'' ≡ clear_sectors g (at ∷ w.cleared) (disk img)
       sectors'' = step.zeroed ∙ ap₂ (λ (d : Disk) (m : ℕ). put d m (zeros 256)) w.sectors v.number
 
@@ -174,8 +144,8 @@ module _ (g : Geometry) (kn : Known g) {img : Bytes} {es : Entries} {first at : 
         marks'' : Expects g (free_after g true (at ∷ w.cleared) (is_free g (disk img))) (disk img (sector_number g map_address)) es''
         marks'' = rw marked (expects-moved g kn true w.cleared (is_free g (disk img)) w.marks at w.chain.on used)
 
-        pub clearing-moved : Follows g img at link → link.track < 256 → link.sector < 256 → Clearing g img first link img'' es'' k'
-        clearing-moved f t s = record {
+        pub clearing-moved : Follows g img at link → Clearing g img first link img'' es'' k'
+        clearing-moved f = record {
           chain = f.rest;
           cleared = at ∷ w.cleared;
           sectors = sectors'';
@@ -183,19 +153,19 @@ module _ (g : Geometry) (kn : Known g) {img : Bytes} {es : Entries} {first at : 
           marks = marks'';
           apart = λ m. omega (arith, w.apart m, ap (times g m) f.sectors);
           left = omega (arith, w.left, ap length f.sectors);
-          same = end-follows g img f ∙ w.same;
-          track = t;
-          sector = s;
+          bytes = omega (arith, w.bytes, length-more w.chain refl f);
         }
 
-        pub clearing-finished : {last : ℕ} → sectors_from g img at ≡ at ∷ [] → last ≡ link.sector
-            → ChainCleared g img first (record { count = k'; last = last }) img'' es''
-        clearing-finished e is =
+        pub clearing-finished : {d : Done} → link.track < 1 → link.sector ≤ 255 → d.length ≡ 254 * k' + link.sector - 255 → d.sectors ≡ k'
+            → ChainCleared g img first d img'' es''
+        clearing-finished {d} end small long many =
+            let e = alone end in
+            let last : link.sector ≡ byte (disk img own) 1 = ap (λ (r : Address). r.sector) link-as-was in
             let all : (m : ℕ) → times g m (at ∷ w.cleared) ≡ times g m (sectors_from g img first) = λ m. omega (arith, w.apart m, ap (times g m) e) in
             record {
               sectors = sectors'' ∙ clear-same g (at ∷ w.cleared) (sectors_from g img first) all (disk img);
               size = size'';
               marks = expects-agree g kn marks'' (λ r on. free-same g (at ∷ w.cleared) (sectors_from g img first) all true (is_free g (disk img)) r);
+              bytes = omega (arith, w.bytes, length-last w.chain refl e (omega (arith, last)), last, used-last end);
               number = omega (arith, w.left, ap length e);
-              last = is ∙ ap (λ (r : Address). r.sector) link-as-was ∙ end-alone g img at e ∙ w.same;
             }

@@ -4,6 +4,7 @@ use mathlib.Core.Path.{◌≡◌, sym, ap, ◌∙◌}
 use mathlib.Core.Bool.{true, false}
 use mathlib.Core.List.{[]}
 use lib.ListN.{length}
+use Rattle.std.specs.Prelude.{Result, Err}
 use Rattle.d64spec.specs.Lists.{Bytes}
 use Rattle.d64spec.specs.Answers.{Fault, refused, done, wrong_size, bad_name_argument, write_forbidden, not_found, first}
 use Rattle.d64spec.specs.Geometry.{Geometry, total}
@@ -14,8 +15,7 @@ use Rattle.d64spec.specs.Reply.{Change, Reply, reply, valid_name_argument, writa
 use Rattle.d64spec.specs.Scratch.{call_scratch, scratch_change}
 use Rattle.d64spec.specs.Call.{scratch, perform, attempt, output_buffer}
 use Rattle.answers.specs.declared.Fault as code
-use Rattle.answers.specs.declared.Verdict.TheVariants.{Refused}
-use Rattle.answers.specs.declared.Report.{Report}
+use Rattle.answers.specs.declared.Done.{Done}
 use Rattle.answers.specs.Faults.{fault_of, reply_of}
 use Rattle.answers.proofs.RefusedLaws.{call-refused, size-true, size-false, check-sized}
 
@@ -51,10 +51,10 @@ module _ (g : Geometry) where
             scratch-some f e = rw (size-true g img size, asked, check-sized g img (size-true g img size) checked, allowed, e)
 
     -- THE REPLY TO A SCRATCH that is refused
-    pub scratch-refused : {rep : Report} (f : code.Fault) → rep ≡ record { verdict = Refused f; length = 0; sectors = 0 }
-        → call_scratch g img name ≡ refused (fault_of f) → reply_of rep img [] ≡ perform g img (scratch name)
+    pub scratch-refused : {r : Result Done code.Fault} (f : code.Fault) → r ≡ Err f → call_scratch g img name ≡ refused (fault_of f)
+        → reply_of r img [] ≡ perform g img (scratch name)
     unfolding attempt output_buffer
-    scratch-refused f e r = call-refused g img (scratch name) f e r
+    scratch-refused f e k = call-refused g img (scratch name) f e k
 
     -- THE REPLY TO A SCRATCH that is done
     pub scratch-done : {x : Reply} (c : Change) → call_scratch g img name ≡ done c → x ≡ reply img [] (done c) → x ≡ perform g img (scratch name)

@@ -1,6 +1,6 @@
 -- The file of a slot scratched in the image (01, Scratch): its chain as the code reads it, and that what is written is document 01's disk.
 -- In order: the map put into its sector; the first sector of a slot's file; the slot; the file; its chain is owned; the image after; the report.
-use Prim.Native.Nat.{ℕ, zero, suc, ◌+◌, ◌-◌, ◌*◌, ◌≤◌, ◌<◌}
+use Prim.Native.Nat.{ℕ, zero, suc, ◌+◌, ◌*◌, ◌<◌}
 use native.Mathlib.Omega.{arith}
 use mathlib.Core.Path.{◌≡◌, refl, sym, ap, ap₂, ◌∙◌, subst}
 use mathlib.Core.Bool.{true, cond}
@@ -29,30 +29,19 @@ use Rattle.d64spec.proofs.ScratchLaws
 use Rattle.d64spec.proofs.ScratchStep.{sound-of, Found, found}
 use Rattle.sectors.specs.Sectors.{overwritten_in}
 use Rattle.sectors.proofs.SectorLaws.{disk-overwritten_in, length-overwritten_in}
-use Rattle.answers.specs.declared.Verdict.TheVariants.{Fine}
-use Rattle.answers.specs.Faults.{verdict_of, answer_to, reply_of}
+use Rattle.std.specs.Prelude.{Ok}
+use Rattle.answers.specs.declared.Done.{Done}
+use Rattle.answers.specs.Faults.{called_answer, reported, reply_of}
 use Rattle.bam.specs.MapEntry.{Entries}
-use Rattle.bam.specs.MapSector.{stored_entries}
+use Rattle.bam.specs.MapSector.{map_entries, stored_entries}
 use Rattle.bam.specs.Expected.{Expects, free_after}
 use Rattle.bam.proofs.FollowLaws.{expects-loaded, expects-agree, map-follows}
 use Rattle.directory.proofs.Track18Laws.{number-18}
-use Rattle.diskcheck.specs.EndTable.{end_of}
-use Rattle.diskcheck.proofs.CheckedLaws.{end-tells}
-use Rattle.reading.specs.ChainReads.{sectors_from, ChainFrom}
+use Rattle.reading.specs.ChainReads.{sectors_from, data_from, ChainFrom}
 use Rattle.reading.specs.FileSlots.{first_of}
-use Rattle.reading.proofs.ChainStepLaws.{sectors_from-le, sectors-first}
 use Rattle.reading.proofs.FileLaws.{sectors-of, chain-of}
-use Rattle.scratching.specs.declared.Cleared.{Cleared}
 use Rattle.bam.specs.ImageMaps.{MapWritten}
-use Rattle.scratching.specs.Scratches.{ChainCleared, start_of, EntryOwned, FileCleared, slot_on, file_on, FileThere}
-
--- what a scratch counts of a chain cleared: at least one sector, a last byte as a file's has it, and so the file's length (01, Chains)
-pub record LengthTold (c : Cleared) (n : ℕ) : Type 0 where
-  pub some : 1 ≤ c.count
-  pub few : c.count ≤ 769
-  pub low : 1 ≤ c.last
-  pub high : c.last ≤ 255
-  pub bytes : 254 * (c.count - 1) + c.last - 1 ≡ n
+use Rattle.scratching.specs.Scratches.{ChainOwned, ChainCleared, start_of, slot_on, file_on, FileThere}
 
 -- the map put into an image whose slot is zeroed
 pub slot-cleared : (g : Geometry) (es : Entries) (img : Bytes) (holder index : ℕ) {img' img'' bs : Bytes} {k i : ℕ} → img' ≡ overwritten_in img k i bs
@@ -69,13 +58,6 @@ first_found g kn img holder index {slot = slot} lent there at track number =
     let is : slot ≡ (slot_on g img holder 0 index).bytes
     = at ∙ ap (λ (b : Bytes). part 0x02 0x1F (drop (32 * index) b)) (lent ∙ ap (disk img) (there ∙ sym (number-18 g kn holder))) in
     ap₂ address (track ∙ ap (λ (b : Bytes). byte b 1) is) (number ∙ ap (λ (b : Bytes). byte b 2) is)
-
--- the chain from there on cleared, and then the slot
-pub file-cleared : {g : Geometry} {img : Bytes} {holder index : ℕ} {r : Address} → r ≡ start_of g img holder index
-    → {c : Cleared} {before : Bytes} {marked : Entries} → ChainCleared g img r c before marked
-    → {img' : Bytes} → MapWritten g (overwritten_in before (357 + holder) (32 * index + 2) (zeros 30)) marked img'
-    → FileCleared g img holder index c img'
-file-cleared e {before = before} {marked = marked} chain written = record { before = before; marked = marked; chain = rw e at chain; written = written }
 
 -- the map's sector
 abbrev m : Geometry → ℕ
@@ -141,16 +123,17 @@ module _ (g : Geometry) (kn : Known g) {img : Bytes} {holder index : ℕ} (t : F
   unfolding file_on slot_on slot_in
   chain-there = chain-of g kn img t.accepted s t.element
 
-  pub entry-owned : ((i : ℕ) → byte img i < 256) → EntryOwned g img holder index
-  entry-owned small = record {
-    place = t.place;
-    chain = record {
-      chain = chain-there;
-      owned = λ k. omega (arith, claims k, ap (λ (l : List Address). count k (map (sector_number g) l)) sectors-are);
-      once = t.accepted.content.once;
-      marks = expects-loaded g kn d t.accepted.content (whole.full (m g) (omega (arith, kn.map357, kn.past18))) (byte_small img small (m g));
-    };
-  }
+  -- from the slot's first sector on, with the map as it is loaded
+  pub chain-owned : ((i : ℕ) → byte img i < 256) → {r : Address} {es : Entries} → r ≡ start_of g img holder index → es ≡ map_entries g (d (m g))
+      → ChainOwned g img es r
+  chain-owned small start loaded =
+      let owned : ChainOwned g img (map_entries g (d (m g))) (first_of b) = record {
+        chain = chain-there;
+        owned = λ k. omega (arith, claims k, ap (λ (l : List Address). count k (map (sector_number g) l)) sectors-are);
+        once = t.accepted.content.once;
+        marks = expects-loaded g kn d t.accepted.content (whole.full (m g) (omega (arith, kn.map357, kn.past18))) (byte_small img small (m g));
+      } in
+      rw (start, loaded) owned
 
   -- ---- the image after
 
@@ -166,15 +149,11 @@ module _ (g : Geometry) (kn : Known g) {img : Bytes} {holder index : ℕ} (t : F
       go zero e = let same : claim_count g d k ≡ claim_count g d2 k = omega (arith, claims k) in ap (λ (x : ℕ). eqb x 0) same
       go (suc c) e = rw (lt-ltb 0 (suc c) (omega arith)) (sym (eq-eqb (claim_count g d2 k) 0 (omega (arith, claims k, t.accepted.content.once k))))
 
-  module _ {c : Cleared} {img'' : Bytes} (scratched : FileCleared g img holder index c img'') where
-    abbrev img' : Bytes
-    img' = scratched.before
-
-    abbrev es' : Entries
-    es' = scratched.marked
-
+  -- its chain cleared from r on, then the slot, and the map as it then is put into its sector
+  module _ {r : Address} (start : r ≡ start_of g img holder index) {c : Done} {img' img'' : Bytes} {es' : Entries} (chain : ChainCleared g img r c img' es')
+      (written : MapWritten g (overwritten_in img' (357 + holder) (32 * index + 2) (zeros 30)) es' img'') where
     cleared : ChainCleared g img (start_of g img holder index) c img' es'
-    cleared = scratched.chain
+    cleared = rw start at chain
 
     first-disk : disk img' ≡ clear_sectors g f.sectors d
     first-disk = cleared.sectors ∙ ap (λ (l : List Address). clear_sectors g l d) (sym sectors-are)
@@ -203,30 +182,16 @@ module _ (g : Geometry) (kn : Known g) {img : Bytes} {holder index : ℕ} (t : F
     image-scratched =
         let size2 : length img₂ ≡ 256 * total g = length-overwritten_in img' n (32 * index + 2) (zeros 30) ∙ cleared.size ∙ size-there in
         let same : disk img'' ≡ rewrite_map g d2
-        = scratched.written.laid (omega (arith, size2, kn.past18)) ∙ ap (λ (x : Disk). put x (m g) (stored_entries g es' (x (m g)))) second-disk ∙ follows in
-        sym (disk-image g img'' (scratched.written.size ∙ size2)) ∙ ap (image g) same
+        = written.laid (omega (arith, size2, kn.past18)) ∙ ap (λ (x : Disk). put x (m g) (stored_entries g es' (x (m g)))) second-disk ∙ follows in
+        sym (disk-image g img'' (written.size ∙ size2)) ∙ ap (image g) same
 
     -- ---- the report
 
-    number_is : c.count ≡ length f.sectors
-    number_is = cleared.number ∙ ap length (sym sectors-are)
-
-    -- what the length of the file is counted from
-    pub told : ((i : ℕ) → byte img i < 256) → LengthTold c (length (chain_data g d f.sectors))
-    told small =
-        let e = end-tells g kn img t.accepted small f t.element in
-        let last : c.last ≡ end_of g img f.sectors = cleared.last ∙ ap (end_of g img) (sym sectors-are) in
-        record {
-          some = omega (arith, cleared.number, ap length (sectors-first chain-there).1);
-          few = omega (arith, cleared.number, sectors_from-le g img (first_of b), kn.most);
-          low = omega (arith, last, e.low);
-          high = omega (arith, last, e.high);
-          bytes = omega (arith, number_is, last, e.bytes);
-        }
+    bytes_is : c.length ≡ length (chain_data g d f.sectors)
+    unfolding data_from
+    bytes_is = cleared.bytes ∙ ap (λ (l : List Address). length (chain_data g d l)) (sym sectors-are)
 
     -- THE REPLY OF A SCRATCH that is done
-    pub scratch-replied : ((i : ℕ) → byte img i < 256)
-        → reply_of (record { verdict = Fine; length = 254 * (c.count - 1) + c.last - 1; sectors = c.count }) img'' []
-        ≡ reply img [] (done (scratch_change g img (file_on g img holder 0 index)))
-    unfolding reply verdict_of answer_to file_on slot_on slot_in file_of first_link scratched_disk
-    scratch-replied small = rw (image-scratched, (told small).bytes, number_is)
+    pub scratch-replied : reply_of (Ok c) img'' [] ≡ reply img [] (done (scratch_change g img (file_on g img holder 0 index)))
+    unfolding reply called_answer reported file_on slot_on slot_in file_of first_link scratched_disk
+    scratch-replied = rw (image-scratched, bytes_is, cleared.number ∙ ap length (sym sectors-are))

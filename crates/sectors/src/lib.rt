@@ -3,7 +3,7 @@
 // `n` is held to the sectors that lie whole in the image before it is multiplied, so that nothing wraps.
 #![tactic(auto)]
 
-ghost use Rattle.std.specs.Prelude.{◌≡◌};
+ghost use Rattle.std.specs.Prelude.{◌≡◌, take, drop};
 ghost use Rattle.d64spec.specs.Format.{empty_directory_sector};
 ghost use Rattle.sectors.specs.Sectors.{IsSector, with_sector, overwritten_in};
 
@@ -11,6 +11,7 @@ ghost use Rattle.sectors.specs.Sectors.{IsSector, with_sector, overwritten_in};
 pub fn sector(img: &[u8], n: usize) -> &[u8]
     ensures { IsSector img.now n result.now }
 {
+    // not by `clipped` twice: three cases in one place, each a slice, are as plain
     let whole = img.len() / 256;
     if whole < n {
         return &img[0..0];
@@ -22,15 +23,20 @@ pub fn sector(img: &[u8], n: usize) -> &[u8]
     &img[start..start + 256]
 }
 
+// The bytes of track 18: fewer where the image ends before.
+pub fn track18(img: &[u8]) -> &[u8]
+    ensures { result.now ≡ take 4864 (drop 91392 img.now) }
+{
+    parts::clipped(img, 91392, 4864)
+}
+
 // Writes 256 bytes over sector n. With another length, or a sector that is not whole in the image, nothing is written.
 pub fn write_sector(img: &mut [u8], n: usize, content: &[u8])
     ensures { img.new ≡ with_sector img.old n content.now }
 {
-    if n < img.len() / 256 {
-        if content.len() == 256 {
-            let from = 256 * n;
-            img[from..from + 256].copy_from_slice(content);
-        }
+    if n < img.len() / 256 && content.len() == 256 {
+        let from = 256 * n;
+        img[from..from + 256].copy_from_slice(content);
     }
 }
 

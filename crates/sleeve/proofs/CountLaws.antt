@@ -1,6 +1,6 @@
 -- The occupied slots, asked one by one and counted (01, Order of the check, 3; Sleeve listing).
 -- In order: the names below a slot; the invariant; one slot; the end. Assumes nothing.
-use Prim.Native.Nat.{ℕ, ◌+◌, ◌-◌, ◌/◌, ◌≤◌, ◌<◌}
+use Prim.Native.Nat.{ℕ, ◌+◌, ◌*◌, ◌-◌, ◌/◌, ◌≤◌, ◌<◌}
 use native.Mathlib.Omega.{arith}
 use native.Mathlib.Numerals.{add-one}
 use native.Mathlib.Decide.{ℕ_discrete}
@@ -15,15 +15,18 @@ use Rattle.d64spec.specs.Answers.{address, Result, done, ◌>>◌, need, bad_typ
 use Rattle.d64spec.specs.Directory.{is_empty, entry_byte, name_of, valid_type, valid_name}
 use Rattle.d64spec.specs.Check.{check_entry}
 use Rattle.d64spec.specs.Listing.{list_slots}
-use Rattle.d64spec.proofs.ResultLaws.{need-done, need-true}
-use Rattle.answers.specs.Faults.{verdict_of, where_fine}
+use Rattle.d64spec.proofs.ResultLaws.{need-done, need-true, then-done, done_inj}
+use Rattle.std.specs.Option.{option_eq}
+use Rattle.std.specs.Prelude.{Err, Ok, Option, Some}
+use Rattle.answers.specs.Faults.{result_of, verdict_of}
 use Rattle.answers.specs.declared.Fault.{Fault}
-use Rattle.answers.specs.declared.Verdict.TheVariants.{Fine, Refused}
-use Rattle.directory.specs.Directories.{IsSlot, slot_at, slot_bytes, names_below, first_repeated, entry_verdict, occupied_from}
+use Rattle.directory.specs.declared.Directory.{Directory}
+use Rattle.directory.specs.Directories.{IsSlot, slot_at, slot_bytes, names_below, first_repeated, found, entry_verdict, occupied_from}
 use Rattle.directory.proofs.RepeatLaws.{ValidBelow, past-empty}
 use Rattle.directory.proofs.EntryLaws.{entry_at}
-use Rattle.sleeve.specs.Texts.{SlotsCounted, count_slots}
-use Rattle.sleeve.proofs.OccupiedLaws.{occupied-empty, occupied-here, occupied-none}
+use Rattle.directory.proofs.FoundLaws.{found-is}
+use Rattle.sleeve.specs.Texts.{count_slots, occupied_of}
+use Rattle.sleeve.proofs.OccupiedLaws.{occupied-empty, occupied-here, occupied-none, occupied-few}
 
 -- ---- the names below a slot
 
@@ -52,36 +55,28 @@ entry-fine s holder number repeated e =
 -- ---- the invariant
 
 -- the slots below k are without fault, and `files` of them are occupied
-pub record Counting (b : Bytes) (ss : List ℕ) (end files k : ℕ) : Type 0 where
-  pub passed : k ≤ end
+pub record Counting (b : Bytes) (d : Directory) (files k : ℕ) : Type 0 where
   pub small : files ≤ k
-  pub valid : ValidBelow b ss k
-  pub new : k ≤ first_repeated b ss 0 end
-  pub found : list_slots (names_below b ss k) (occupied_from b ss k (end - k)) ≡ list_slots [] (occupied_from b ss 0 end)
-  pub counted : files + length (occupied_from b ss k (end - k)) ≡ length (occupied_from b ss 0 end)
+  pub valid : ValidBelow b d.sectors k
+  pub new : k ≤ first_repeated b d.sectors 0 (8 * d.count)
+  pub found : list_slots (names_below b d.sectors k) (occupied_from b d.sectors k (8 * d.count - k)) ≡ list_slots [] (occupied_of b d)
+  pub counted : files + length (occupied_from b d.sectors k (8 * d.count - k)) ≡ length (occupied_of b d)
 
-pub counting-start : (b : Bytes) (ss : List ℕ) (end : ℕ) → Counting b ss end 0 0
-counting-start b ss end =
-    let all : end - 0 ≡ end = omega arith in
-    record {
-      passed = omega arith;
-      small = omega arith;
-      valid = λ i h. absurd (omega arith);
-      new = omega arith;
-      found = ap (λ (n : ℕ). list_slots [] (occupied_from b ss 0 n)) all;
-      counted = rw all (omega arith);
-    }
+module _ {b : Bytes} {d : Directory} {files k : ℕ} (w : Counting b d files k) where
+  abbrev ss : List ℕ
+  ss = d.sectors
 
-module _ {b : Bytes} {ss : List ℕ} {end files k : ℕ} (w : Counting b ss end files k) where
+  abbrev end : ℕ
+  end = 8 * d.count
+
   -- ---- slot k, as the code has its bytes
 
   module _ (h : k < end) {s : Bytes} (is : IsSlot b ss k s) where
-    pub counting-empty : is_empty s ≡ true → {files' : ℕ} → files' ≡ files → Counting b ss end files' (k + 1)
+    pub counting-empty : is_empty s ≡ true → {files' : ℕ} → files' ≡ files → Counting b d files' (k + 1)
     counting-empty vacant same =
         let empty : is_empty (slot_bytes b ss k) ≡ true = ap is_empty (sym is.bytes) ∙ vacant in
         let none = occupied-empty b ss h empty in
         record {
-          passed = omega arith;
           small = omega (arith, w.small);
           valid = valid-more b ss k w.valid (λ e. let z : ◌≡◌ {A = ℕ} 0 1 = cc in absurd (omega arith));
           new = omega (arith, past-empty b ss end k h w.new empty);
@@ -89,34 +84,38 @@ module _ {b : Bytes} {ss : List ℕ} {end files k : ℕ} (w : Counting b ss end 
           counted = rw same (rw none at w.counted);
         }
 
-    module _ {repeated : ℕ} (first : repeated ≡ first_repeated b ss 0 end) (taken : is_empty s ≡ false) where
+    module _ (first : d.repeated ≡ found (8 * d.count) (first_repeated b ss 0 end)) (taken : is_empty s ≡ false) {repeated : Bool}
+        (same : repeated ≡ option_eq eqb d.repeated (Some k)) where
       occupied : is_empty (slot_bytes b ss k) ≡ false
       occupied = ap is_empty (sym is.bytes) ∙ taken
 
+      repeats-here : repeated ≡ eqb k (first_repeated b ss 0 end)
+      repeats-here = same ∙ (ap (λ (o : Option ℕ). option_eq eqb o (Some k)) first ∙ found-is end (first_repeated b ss 0 end) k h)
+
       -- the definition's verdict of the slot is the code's
-      asked : check_entry (names_below b ss k) (slot_at b ss k) ≡ entry_verdict s (address 18 (get_or ss (k / 8) 0)) k (eqb k repeated)
+      asked : check_entry (names_below b ss k) (slot_at b ss k) ≡ entry_verdict s (address 18 (get_or ss (k / 8) 0)) k repeated
       asked =
           entry_at b ss end k h w.new w.valid occupied
-          ∙ ap₂ (λ (x : Bytes) (r : ℕ). entry_verdict x (address 18 (get_or ss (k / 8) 0)) k (eqb k r)) (sym is.bytes) (sym first)
+          ∙ ap₂ (λ (x : Bytes) (r : Bool). entry_verdict x (address 18 (get_or ss (k / 8) 0)) k r) (sym is.bytes) (sym repeats-here)
 
       -- the slots' verdict is this one's, then that of those behind it
-      listed : list_slots [] (occupied_from b ss 0 end) ≡ (entry_verdict s (address 18 (get_or ss (k / 8) 0)) k (eqb k repeated) >> list_slots (names_below b ss (k + 1)) (occupied_from b ss (k + 1) (end - (k + 1))))
+      listed : list_slots [] (occupied_of b d) ≡ (entry_verdict s (address 18 (get_or ss (k / 8) 0)) k repeated >> list_slots (names_below b ss (k + 1)) (occupied_from b ss (k + 1) (end - (k + 1))))
       listed =
           sym w.found ∙ ap (list_slots (names_below b ss k)) (occupied-here b ss h occupied)
           ∙ ap₂ (λ (v : Result (Unit {0})) (names : List Bytes). v >> list_slots names (occupied_from b ss (k + 1) (end - (k + 1)))) asked (sym (names-here b ss k occupied))
 
-      pub counting-refused : (f : Fault) → verdict_of (Refused f) ≡ entry_verdict s (address 18 (get_or ss (k / 8) 0)) k (eqb k repeated) → SlotsCounted (occupied_from b ss 0 end) end (record { verdict = Refused f; files = files })
-      unfolding verdict_of where_fine count_slots
-      counting-refused f e = record { counted = rw (listed, sym e); few = omega (arith, w.small) }
+      pub counting-refused : (f : Fault) → verdict_of (Err f) ≡ entry_verdict s (address 18 (get_or ss (k / 8) 0)) k repeated
+          → result_of (λ (n : ℕ). n) (Err f) ≡ count_slots (occupied_of b d)
+      unfolding verdict_of result_of count_slots
+      counting-refused f e = rw (listed, sym e)
 
-      pub counting-moved : verdict_of Fine ≡ entry_verdict s (address 18 (get_or ss (k / 8) 0)) k (eqb k repeated) → {files' : ℕ} → files' ≡ files + 1 → Counting b ss end files' (k + 1)
+      pub counting-moved : verdict_of (Ok tt) ≡ entry_verdict s (address 18 (get_or ss (k / 8) 0)) k repeated → {files' : ℕ} → files' ≡ files + 1 → Counting b d files' (k + 1)
       unfolding verdict_of
       counting-moved e more =
-          let fine = entry-fine s (address 18 (get_or ss (k / 8) 0)) k (eqb k repeated) e in
-          let other = eqb-false k repeated (not-true (eqb k repeated) fine.1) in
+          let fine = entry-fine s (address 18 (get_or ss (k / 8) 0)) k repeated e in
+          let other = eqb-false k (first_repeated b ss 0 end) (sym repeats-here ∙ not-true repeated fine.1) in
           let here = ap length (occupied-here b ss h occupied) in
           record {
-            passed = omega arith;
             small = omega (arith, w.small);
             valid = valid-more b ss k w.valid (λ z. ap valid_name (sym is.bytes) ∙ fine.0);
             new = omega (arith, w.new);
@@ -126,10 +125,17 @@ module _ {b : Bytes} {ss : List ℕ} {end files k : ℕ} (w : Counting b ss end 
 
   -- ---- the end
 
-  pub counting-finished : end ≤ k → SlotsCounted (occupied_from b ss 0 end) end (record { verdict = Fine; files = files })
-  unfolding where_fine count_slots
+  pub counting-finished : end ≤ k → result_of (λ (n : ℕ). n) (Ok files) ≡ count_slots (occupied_of b d)
+  unfolding result_of count_slots
   counting-finished h =
       let none = occupied-none b ss end k h in
-      let all : files ≡ length (occupied_from b ss 0 end) = omega (arith, w.counted, ap length none) in
-      let fine : list_slots [] (occupied_from b ss 0 end) ≡ done tt = sym w.found ∙ ap (list_slots (names_below b ss k)) none in
-      record { counted = rw (fine, all); few = omega (arith, w.small, w.passed) }
+      let all : files ≡ length (occupied_of b d) = omega (arith, w.counted, ap length none) in
+      let fine : list_slots [] (occupied_of b d) ≡ done tt = sym w.found ∙ ap (list_slots (names_below b ss k)) none in
+      rw (fine, all)
+
+-- they are no more than a directory has slots
+pub counted-few : (b : Bytes) (d : Directory) {files : ℕ} → d.count ≤ 18 → result_of (λ (n : ℕ). n) (Ok files) ≡ count_slots (occupied_of b d) → files ≤ 144
+unfolding result_of count_slots
+counted-few b d {files} few counted =
+    let h = then-done (list_slots [] (occupied_of b d)) (done (length (occupied_of b d))) files (sym counted) in
+    omega (arith, done_inj h.2, occupied-few b d.sectors 0 (8 * d.count))

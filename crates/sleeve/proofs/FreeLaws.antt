@@ -7,6 +7,7 @@ use mathlib.Core.Path.{◌≡◌, refl, sym, ap, ap₂, ◌∙◌}
 use mathlib.Core.Bool.{not}
 use mathlib.Core.List.{List, [], ◌∷◌, ◌++◌, map}
 use lib.Dec.{eqb}
+use Rattle.std.specs.Prelude.{None, Some}
 use Rattle.d64spec.specs.Lists.{Bytes, byte, filter, range, sum}
 use Rattle.d64spec.specs.Geometry.{Geometry, tracks}
 use Rattle.d64spec.specs.Listing.{free_total}
@@ -48,24 +49,20 @@ unfolding counts_from
 counts-small m small at zero = omega arith
 counts-small m small at (suc n) = omega (arith, sum-map-last (λ i. byte m (at + 4 * i)) 0 n, counts-small m small at n, small (at + 4 * (0 + n)))
 
--- the first i of n entries are added
-pub record Adding (m : Bytes) (at n sum i : ℕ) : Type 0 where
-  pub passed : i ≤ n
+-- the first i entries are added
+pub record Adding (m : Bytes) (at sum i : ℕ) : Type 0 where
   pub small : sum ≤ 255 * i
   pub added : sum ≡ counts_from m at i
 
-pub adding-start : (m : Bytes) (at n : ℕ) → Adding m at n 0 0
+pub adding-start : (m : Bytes) (at : ℕ) → Adding m at 0 0
 unfolding counts_from
-adding-start m at n = record { passed = omega arith; small = omega arith; added = refl }
+adding-start m at = record { small = omega arith; added = refl }
 
-module _ {m : Bytes} {at n sum i : ℕ} (a : Adding m at n sum i) where
-  pub adding-moved : {sum' k : ℕ} → i < n → k ≡ at + 4 * i → byte m k < 256 → sum' ≡ sum + byte m k → Adding m at n sum' (i + 1)
-  adding-moved {sum'} {k} h e b more =
+module _ {m : Bytes} {at sum i : ℕ} (a : Adding m at sum i) where
+  pub adding-moved : {sum' k : ℕ} → k ≡ at + 4 * i → byte m k < 256 → sum' ≡ sum + byte m k → Adding m at sum' (i + 1)
+  adding-moved {sum'} {k} e b more =
       let same : byte m k ≡ byte m (at + 4 * i) = ap (byte m) e in
-      record { passed = omega arith; small = omega (arith, a.small); added = omega (arith, a.added, counts-next m at i) }
-
-  pub adding-finished : n ≤ i → sum ≡ counts_from m at n
-  adding-finished h = a.added ∙ ap (counts_from m at) (omega (arith, a.passed))
+      record { small = omega (arith, a.small); added = omega (arith, a.added, counts-next m at i) }
 
 -- ---- runs of a layout's tracks
 
@@ -103,16 +100,15 @@ module _ (layout : Layout) (m : Bytes) where
       (run g m 19 76 17 (λ i h. place-low layout (19 + i) (omega arith) ∙ omega arith))
 
   -- 35 TRACKS: two runs
-  pub free-without : {a b : ℕ} → extra_of layout ≡ 0 → a ≡ counts_from m 4 17 → b ≡ counts_from m 76 17 → a + b ≡ free_total g m
+  pub free-without : {a b : ℕ} → extra_of layout ≡ None → a ≡ counts_from m 4 17 → b ≡ counts_from m 76 17 → a + b ≡ free_total g m
   free-without none first second =
       ap₂ (λ (x y : ℕ). x + y) first second ∙ sym most ∙ sym (total_of 35 (range 1 17 ++ range 19 17) (tracks-without layout none) tracks-of-35)
 
   -- 40 TRACKS: a third
-  pub free-with : {a b c extra : ℕ} → (extra_of layout ≡ 0 → ⊥) → a ≡ counts_from m 4 17 → b ≡ counts_from m 76 17 → c ≡ counts_from m extra 5
-      → extra ≡ extra_of layout → a + b + c ≡ free_total g m
-  free-with some first second third at =
+  pub free-with : {a b c extra : ℕ} → extra_of layout ≡ Some extra → a ≡ counts_from m 4 17 → b ≡ counts_from m 76 17 → c ≡ counts_from m extra 5
+      → a + b + c ≡ free_total g m
+  free-with {a} {b} {c} {extra} some first second third =
       ap₂ (λ (x y : ℕ). x + y) (ap₂ (λ (x y : ℕ). x + y) first second ∙ sym most)
-      (third ∙ ap (λ (x : ℕ). counts_from m x 5) at
-      ∙ sym (run g m 36 (extra_of layout) 5 (λ i h. place-high layout (36 + i) some (omega arith) ∙ omega arith)))
+      (third ∙ sym (run g m 36 extra 5 (λ i h. place-high layout (36 + i) some (omega arith) ∙ omega arith)))
       ∙ sym (sum_both counted (range 1 17 ++ range 19 17) (range 36 5))
       ∙ sym (total_of 40 ((range 1 17 ++ range 19 17) ++ range 36 5) (tracks-with layout some) tracks-of-40)

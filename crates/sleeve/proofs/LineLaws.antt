@@ -4,13 +4,13 @@ use native.Mathlib.Omega.{arith}
 use native.Mathlib.Numerals.{add-one}
 use mathlib.Core.Path.{◌≡◌, refl, sym, ap, ◌∙◌}
 use mathlib.Core.List.{[], ◌∷◌, ◌++◌, append_assoc}
-use lib.ListN.{length, take, drop, set, length-append, length-set, drop_of_length-le}
+use lib.ListN.{length, take, drop, set, length-append, length-set}
 use lib.Seq.{drop-cons, set_split, sets-eq}
 use Rattle.d64spec.specs.Lists.{Bytes, byte, splice}
 use Rattle.d64spec.specs.Listing.{digit, line}
 use Rattle.d64spec.proofs.ListingLaws.{line-length}
 use Rattle.sleeve.specs.Texts.{digits_of}
-use Rattle.sleeve.proofs.WriteLaws.{Writing, writing_start, writing-moved, writing-finished, writing-lent}
+use Rattle.sleeve.proofs.WriteLaws.{Writing, writing_start, writing-moved, writing-finished, writing-front, writing-lent}
 
 pub length_digits : (b : Bytes) → length (digits_of b) ≡ 2 * length b
 unfolding digits_of
@@ -57,10 +57,6 @@ module _ {bytes text : Bytes} {i : ℕ} (d : Digits bytes text i) where
         writing = rw (stored-two text (2 * i) x y room) moved;
       }
 
-  pub digits-finished : length bytes ≤ i → text ≡ digits_of bytes
-  unfolding digits_of
-  digits-finished h = writing-finished d.writing (ap digits_of (drop_of_length-le bytes {i = i} h))
-
 -- ---- a line
 
 -- one store
@@ -77,7 +73,7 @@ module _ (a b text : Bytes) (size : length text ≡ 2 * (length a + length b) + 
 
   -- the text when the first part's digits p are back, and when the second's, q, are
   abbrev half : Bytes → Bytes
-  half p = p ++ drop (middle - 0) text
+  half p = p ++ drop middle text
 
   abbrev whole : Bytes → Bytes → Bytes
   whole p q = take middle (half p) ++ (q ++ drop (end - middle) (drop middle (half p)))
@@ -85,7 +81,7 @@ module _ (a b text : Bytes) (size : length text ≡ 2 * (length a + length b) + 
   pub line-written : {p q : Bytes} → p ≡ digits_of a → q ≡ digits_of b → set (whole p q) end 10 ≡ line (a ++ b)
   line-written {p} {q} first second =
       let start : Writing (line (a ++ b)) (line (a ++ b)) text 0 = writing_start (line (a ++ b)) text (omega (arith, line-length (a ++ b), length-append a b)) in
-      let one : Writing (line (a ++ b)) (digits_of b ++ (10 ∷ [])) (half p) middle = writing-lent start (digits_of a) (digits_of b ++ (10 ∷ [])) (line-append a b) middle (omega (arith, length_digits a)) first in
+      let one : Writing (line (a ++ b)) (digits_of b ++ (10 ∷ [])) (half p) middle = writing-front start (digits_of a) (digits_of b ++ (10 ∷ [])) (line-append a b) middle (omega (arith, length_digits a)) first in
       let two : Writing (line (a ++ b)) (10 ∷ []) (whole p q) end = writing-lent one (digits_of b) (10 ∷ []) refl end (omega (arith, length_digits b)) second in
       let room : end < length (whole p q) = omega (arith, two.size) in
       rw (stored_one (whole p q) end 10 room) (writing-finished (writing-moved two (10 ∷ []) [] refl) refl)

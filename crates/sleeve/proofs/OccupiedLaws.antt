@@ -4,19 +4,23 @@ use Prim.Native.Nat.{ℕ, zero, suc, ◌+◌, ◌*◌, ◌-◌, ◌/◌, ◌≤�
 use native.Mathlib.Omega.{arith}
 use native.Mathlib.Numerals.{add-one}
 use mathlib.Core.Path.{◌≡◌, refl, sym, ap, ◌∙◌}
-use mathlib.Core.Bool.{Bool, true, false}
-use mathlib.Core.List.{List, [], ◌∷◌, ◌++◌}
-use lib.ListN.{length, take, drop, length-append, length-take, length-drop}
-use Rattle.d64spec.specs.Lists.{Bytes, All}
+use mathlib.Core.Bool.{Bool, true, false, not}
+use mathlib.Core.List.{List, [], ◌∷◌, ◌++◌, map}
+use lib.ListN.{length, take, drop, length-append, length-map, length-take, length-drop}
+use Rattle.d64spec.specs.Lists.{Bytes, All, range}
 use Rattle.d64spec.specs.Directory.{Slot, is_empty}
 use Rattle.d64spec.specs.Listing.{line, slot_frame}
-use Rattle.d64spec.proofs.ListingLaws.{line-length}
+use Rattle.d64spec.proofs.ListingLaws.{filter-length, line-length}
 use Rattle.directory.specs.Directories.{slot_at, slot_bytes, occupied_from}
 use Rattle.directory.proofs.SlotBytesLaws.{is_slot-part, slot_bytes-part}
 use Rattle.directory.proofs.SearchLaws.{sector-lt}
 use Rattle.sleeve.specs.Texts.{lines_of}
 
 -- ---- slot k and those behind it
+
+length_range : (a n : ℕ) → length (range a n) ≡ n
+length_range a zero = refl
+length_range a (suc n) = ap suc (length_range (suc a) n)
 
 module _ (b : Bytes) (ss : List ℕ) where
   occupied-skip : (k n : ℕ) → is_empty (slot_bytes b ss k) ≡ true → occupied_from b ss k (suc n) ≡ occupied_from b ss (suc k) n
@@ -42,6 +46,13 @@ module _ (b : Bytes) (ss : List ℕ) where
   pub occupied-none : (end k : ℕ) → end ≤ k → occupied_from b ss k (end - k) ≡ []
   unfolding occupied_from
   occupied-none end k h = let z : end - k ≡ 0 = omega arith in rw z
+
+  -- they are no more than the slots that they are of
+  pub occupied-few : (k n : ℕ) → length (occupied_from b ss k n) ≤ n
+  unfolding occupied_from
+  occupied-few k n =
+      let slots = map (slot_at b ss) (range k n) in
+      omega (arith, filter-length (λ s. not (is_empty s.bytes)) slots, length-map (range k n) (slot_at b ss), length_range k n)
 
 -- ---- a slot's line
 

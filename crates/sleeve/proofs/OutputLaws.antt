@@ -13,20 +13,19 @@ use Rattle.d64spec.specs.Geometry.{Geometry, total, sector_number, sectors_on, m
 use Rattle.d64spec.specs.Check.{right_size}
 use Rattle.d64spec.specs.Listing.{Listed, ListingReply, bytes_of_track18, call_listing, listing_output, listing_reply, refusal_line, sleeve_output}
 use Rattle.d64spec.specs.Facts.{text_of}
+use Rattle.d64spec.specs.Reply.{Reply}
 use Rattle.d64spec.proofs.RefusalLaws.{fault-number}
 use Rattle.d64spec.specs.Layouts.{Known}
 use Rattle.d64spec.proofs.ListingTheorem.{listing-done}
-use Rattle.answers.specs.Faults.{answer_to, fault_of, meant, verdict_of}
+use Rattle.std.specs.Prelude.{Err, None, Ok, Option, Some}
+use Rattle.answers.specs.Faults.{called_answer, fault_of, meant, reported}
 use Rattle.geometry.specs.Layout.{geometry_of}
 use Rattle.geometry.specs.declared.Layout.{Layout}
 use Rattle.layouts.specs.Named.{named_by}
-use Rattle.layouts.specs.declared.Named.{Named}
-use Rattle.layouts.specs.declared.Named.TheVariants.{Known as Numbered, Unknown}
-use Rattle.answers.specs.declared.Fault.TheVariants.{UnknownLayout}
+use Rattle.answers.specs.declared.Fault.TheVariants.{UnknownLayout, WrongSize}
 use Rattle.answers.specs.declared.Answer as given
 use Rattle.answers.specs.declared.Fault as code
-use Rattle.answers.specs.declared.Report.{Report}
-use Rattle.answers.specs.declared.Verdict.TheVariants.{Fine, Refused}
+use Rattle.answers.specs.declared.Done.{Done}
 use Rattle.parts.proofs.PartLaws.{drop-replicate}
 use Rattle.sleeve.specs.declared.Printed.{Printed}
 use Rattle.sleeve.specs.Texts.{Prints, blank_text, program_output}
@@ -83,26 +82,31 @@ module _ (g : Geometry) (kn : Known g) (b text text' : Bytes) (n : ℕ) (blank :
 
 -- ---- the listing of these bytes, with the program's buffer
 
-module _ (g : Geometry) (kn : Known g) (b : Bytes) {text text' : Bytes} (blank : text ≡ blank_text) {r : Report} (listed : SleeveListed g b text r text') where
+-- what of a call's reply a listing's has
+abbrev listed_of : Reply → ListingReply
+listed_of r = record { answer = r.answer; listed = record { output_after = r.change.output_after; reported_length = r.change.reported_length } }
+
+module _ (g : Geometry) (kn : Known g) (b : Bytes) {text : Bytes} (blank : text ≡ blank_text) where
   same : listing_output (call_listing g b text) ≡ listing_output (call_listing g b blank_text)
   same = ap (λ (t : Bytes). listing_output (call_listing g b t)) blank
 
-  pub prints-listing : r.verdict ≡ Fine → Prints (listing_output (call_listing g b blank_text)) (record { text = text'; length = r.length })
-  unfolding verdict_of answer_to
-  prints-listing fine = prints-as same (listed-prints g kn b text text' r.length blank (call_listing g b text) refl (rw fine at listed.reply))
+  pub prints-listing : (d : Done) {text' : Bytes} → SleeveListed g b text (Ok d) text'
+      → Prints (listing_output (call_listing g b blank_text)) (record { text = text'; length = d.length })
+  unfolding called_answer reported
+  prints-listing d {text'} listed = prints-as same (listed-prints g kn b text text' d.length blank (call_listing g b text) refl (ap listed_of listed.reply))
 
-  pub prints-refusal : (f : code.Fault) → r.verdict ≡ Refused f → {p : Printed} → Prints (refusal_line (answer_of (fault_of f)).number) p
+  pub prints-refusal : (f : code.Fault) {text' : Bytes} → SleeveListed g b text (Err f) text' → {p : Printed} → Prints (refusal_line (answer_of (fault_of f)).number) p
       → Prints (listing_output (call_listing g b blank_text)) p
-  unfolding verdict_of answer_to
-  prints-refusal f verdict p = prints-as (refused-line g kn b text text' r.length blank (fault_of f) (call_listing g b text) (rw verdict at listed.reply)
-      ∙ same) p
+  unfolding called_answer reported
+  prints-refusal f {text'} listed p =
+      prints-as (refused-line g kn b text text' 0 blank (fault_of f) (call_listing g b text) (ap listed_of listed.reply) ∙ same) p
 
 -- ---- the program
 
 module _ (g : Geometry) (kn : Known g) (input : Bytes) {r : Printed} where
   -- an input of another size
-  pub printed-size : (length input ≡ 256 * total g → ⊥) → Prints (refusal_line 1) r → Prints (sleeve_output g input) r
-  unfolding sleeve_output right_size
+  pub printed-size : (length input ≡ 256 * total g → ⊥) → Prints (refusal_line (answer_of (fault_of WrongSize)).number) r → Prints (sleeve_output g input) r
+  unfolding sleeve_output right_size fault_of
   printed-size other p = prints-as (rw (ne_eqb (length input) (256 * total g) other) refl) p
 
   -- an image: the part that the code lends is track 18
@@ -117,11 +121,11 @@ module _ (g : Geometry) (kn : Known g) (input : Bytes) {r : Printed} where
 
 -- ---- the layout that it is asked for
 
-module _ (input : Bytes) {v : Named} {r : Printed} where
-  pub printed-unknown : v ≡ Unknown → Prints (refusal_line (answer_of (fault_of UnknownLayout)).number) r → Prints (program_output (named_by v) input) r
+module _ (input : Bytes) {v : Option Layout} {r : Printed} where
+  pub printed-unknown : v ≡ None → Prints (refusal_line (answer_of (fault_of UnknownLayout)).number) r → Prints (program_output (named_by v) input) r
   unfolding program_output fault_of
   printed-unknown is p = rw is p
 
-  pub printed-known : (l : Layout) → v ≡ Numbered l → Prints (sleeve_output (geometry_of l) input) r → Prints (program_output (named_by v) input) r
+  pub printed-known : (l : Layout) → v ≡ Some l → Prints (sleeve_output (geometry_of l) input) r → Prints (program_output (named_by v) input) r
   unfolding program_output
   printed-known l is p = rw is p

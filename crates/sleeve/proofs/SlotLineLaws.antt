@@ -1,5 +1,5 @@
 -- The lines of the occupied slots, written one behind the other. Assumes nothing.
-use Prim.Native.Nat.{ℕ, ◌+◌, ◌-◌, ◌≤◌, ◌<◌}
+use Prim.Native.Nat.{ℕ, ◌+◌, ◌*◌, ◌-◌, ◌≤◌, ◌<◌}
 use native.Mathlib.Omega.{arith}
 use mathlib.Core.Path.{◌≡◌, sym, ap, ◌∙◌}
 use mathlib.Core.Bool.{true, false}
@@ -8,38 +8,43 @@ use lib.ListN.{length, take, drop, length-append}
 use Rattle.d64spec.specs.Lists.{Bytes}
 use Rattle.d64spec.specs.Directory.{is_empty}
 use Rattle.d64spec.specs.Listing.{line, slot_frame}
+use Rattle.directory.specs.declared.Directory.{Directory}
 use Rattle.directory.specs.Directories.{IsSlot, slot_at, occupied_from}
-use Rattle.sleeve.specs.Texts.{RoomFor, lines_of}
+use Rattle.sleeve.specs.Texts.{RoomFor, lines_of, occupied_of}
 use Rattle.sleeve.proofs.WriteLaws.{Writing, writing_start, writing-lent, writing-finished}
 use Rattle.sleeve.proofs.OccupiedLaws.{occupied-empty, occupied-here, occupied-none, length-slot, length-slot-line, length-lines, lines_cons}
 
 -- the lines of the slots below k are written
-pub record Lines (b : Bytes) (ss : List ℕ) (end : ℕ) (text : Bytes) (at k : ℕ) : Type 0 where
-  pub passed : k ≤ end
-  pub room : RoomFor b ss end text 0
-  pub writing : Writing (lines_of (occupied_from b ss 0 end)) (lines_of (occupied_from b ss k (end - k))) text at
+pub record Lines (b : Bytes) (d : Directory) (text : Bytes) (at k : ℕ) : Type 0 where
+  pub room : RoomFor b d text 0
+  pub writing : Writing (lines_of (occupied_of b d)) (lines_of (occupied_from b d.sectors k (8 * d.count - k))) text at
 
-module _ {b : Bytes} {ss : List ℕ} {end : ℕ} {text : Bytes} where
-  pub lines_start : RoomFor b ss end text 0 → Lines b ss end text 0 0
+module _ {b : Bytes} {d : Directory} {text : Bytes} where
+  pub lines_start : RoomFor b d text 0 → Lines b d text 0 0
   lines_start r =
-      let all : end - 0 ≡ end = omega arith in
+      let all : 8 * d.count - 0 ≡ 8 * d.count = omega arith in
       record {
-        passed = omega arith;
         room = r;
-        writing = rw all (writing_start (lines_of (occupied_from b ss 0 end)) text (omega (arith, length-lines b ss r.whole r.inside 0 end, r.size)));
+        writing = rw all (writing_start (lines_of (occupied_of b d)) text (omega (arith, length-lines b d.sectors r.whole r.inside 0 (8 * d.count), r.size)));
       }
 
-module _ {b : Bytes} {ss : List ℕ} {end : ℕ} {text : Bytes} {at k : ℕ} (w : Lines b ss end text at k) where
+module _ {b : Bytes} {d : Directory} {text : Bytes} {at k : ℕ} (w : Lines b d text at k) where
+  abbrev ss : List ℕ
+  ss = d.sectors
+
+  abbrev end : ℕ
+  end = 8 * d.count
+
   -- slot k, as the code has its bytes
   module _ (h : k < end) {s : Bytes} (is : IsSlot b ss k s) where
     pub lines-full : length s ≡ 30
     lines-full = ap length is.bytes ∙ length-slot b ss w.room.whole w.room.inside k
 
     -- an empty slot has no line
-    pub lines-empty : is_empty s ≡ true → {text' : Bytes} {at' : ℕ} → text' ≡ text → at' ≡ at → Lines b ss end text' at' (k + 1)
+    pub lines-empty : is_empty s ≡ true → {text' : Bytes} {at' : ℕ} → text' ≡ text → at' ≡ at → Lines b d text' at' (k + 1)
     lines-empty empty same here =
         let none = occupied-empty b ss h (ap is_empty (sym is.bytes) ∙ empty) in
-        rw (same, here) (record { passed = omega arith; room = w.room; writing = rw none at w.writing })
+        rw (same, here) (record { room = w.room; writing = rw none at w.writing })
 
     module _ (occupied : is_empty s ≡ false) where
       -- what is still to be written behind this slot's line
@@ -62,15 +67,14 @@ module _ {b : Bytes} {ss : List ℕ} {end : ℕ} {text : Bytes} {at k : ℕ} (w 
       lines_fit = omega (arith, w.writing.size, length-next)
 
       -- and it is written through a part that was lent
-      pub lines-moved : {part text' : Bytes} {at' : ℕ} → part ≡ line (slot_frame s) → text' ≡ take at text ++ (part ++ drop (at + 43 - at) (drop at text)) → at' ≡ at + 43 → Lines b ss end text' at' (k + 1)
+      pub lines-moved : {part text' : Bytes} {at' : ℕ} → part ≡ line (slot_frame s) → text' ≡ take at text ++ (part ++ drop (at + 43 - at) (drop at text)) → at' ≡ at + 43 → Lines b d text' at' (k + 1)
       lines-moved {part} filled back further =
           let moved = writing-lent w.writing (line (slot_frame s)) rest next (at + 43) (omega (arith, long)) filled in
           rw (back, further) (record {
-            passed = omega arith;
-            room = record { whole = w.room.whole; inside = w.room.inside; size = omega (arith, moved.size, w.room.size, w.writing.size, length-next) };
+            room = record { whole = w.room.whole; inside = w.room.inside; few = w.room.few; size = omega (arith, moved.size, w.room.size, w.writing.size, length-next) };
             writing = moved;
           })
 
-  pub lines-finished : end ≤ k → text ≡ lines_of (occupied_from b ss 0 end)
+  pub lines-finished : end ≤ k → text ≡ lines_of (occupied_of b d)
   unfolding lines_of
   lines-finished h = writing-finished w.writing (ap lines_of (occupied-none b ss end k h))

@@ -1,5 +1,5 @@
 -- The whole text: how long it is, and its three pieces written one behind the other (01, Sleeve listing). Assumes nothing.
-use Prim.Native.Nat.{ℕ, ◌+◌, ◌*◌, ◌-◌, ◌/◌, ◌%◌}
+use Prim.Native.Nat.{ℕ, ◌<◌, ◌+◌, ◌*◌, ◌-◌, ◌/◌, ◌%◌}
 use native.Mathlib.Omega.{arith}
 use mathlib.Core.Path.{◌≡◌, refl, sym, ap, ◌∙◌}
 use mathlib.Core.List.{List, [], ◌∷◌, ◌++◌, append-nil}
@@ -14,10 +14,12 @@ use Rattle.directory.proofs.SlotListLaws.{disk-of-track18}
 use Rattle.sleeve.specs.Texts.{free_line, lines_of}
 use Rattle.sleeve.proofs.WriteLaws.{Writing, writing_start, writing-lent, writing-finished}
 
--- the last line, from a sum that is the map's
-pub free-line : (g : Geometry) (m : Bytes) {n : ℕ} → n ≡ free_total g m → {r : Bytes} → r ≡ line (n / 256 ∷ n % 256 ∷ []) → r ≡ free_line g m
+-- the last line, from a sum that is the map's: the two bytes of a number of two bytes
+pub free-line : (g : Geometry) (m : Bytes) {n : ℕ} → n < 65536 → n ≡ free_total g m → {r : Bytes} → r ≡ line (n / 256 % 256 ∷ n % 256 ∷ [])
+    → r ≡ free_line g m
 unfolding free_line
-free-line g m total written = written ∙ ap (λ (n : ℕ). line (n / 256 ∷ n % 256 ∷ [])) total
+free-line g m {n} fits total written =
+    written ∙ ap (λ (k : ℕ). line (k ∷ n % 256 ∷ [])) (omega (arith, fits)) ∙ ap (λ (k : ℕ). line (k / 256 ∷ k % 256 ∷ [])) total
 
 module _ (g : Geometry) (b : Bytes) (l : List Slot) where
   -- the map sector
@@ -72,11 +74,6 @@ module _ (g : Geometry) (b : Bytes) (l : List Slot) where
       after_first filled =
           let start = writing_start (first ++ (lines_of l ++ last)) text (omega (arith, length-text, ap length text-pieces)) in
           writing-lent start first (lines_of l ++ last) refl 37 (omega (arith, length-first)) filled
-
-      -- the part that is left for the slots' lines
-      pub room-for-lines : {p : Bytes} → p ≡ first → length (take (end - 37) (drop 37 (one p))) ≡ 43 * length l
-      room-for-lines {p} filled =
-          omega (arith, (after_first filled).size, length-append (lines_of l) last, length_last, length-take (end - 37) (drop 37 (one p)), length-drop 37 (one p))
 
       pub text-written : {p q r : Bytes} → p ≡ first → q ≡ lines_of l → r ≡ last → three p q r ≡ listing_text g (disk_of_track18 g b) l
       text-written {p} {q} filled between ended =

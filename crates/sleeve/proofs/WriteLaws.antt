@@ -47,3 +47,10 @@ module _ {whole rest text : Bytes} {at : ℕ} (w : Writing whole rest text at) (
   writing-lent end reached {part} same =
       let behind : at + (end - at) ≡ at + length piece = omega arith in
       rw (same, drop-drop (end - at) at text, behind, reached) writing-moved
+
+-- the same for the first piece
+pub writing-front : {whole rest text : Bytes} → Writing whole rest text 0 → (piece more : Bytes) → rest ≡ piece ++ more → (end : ℕ)
+    → end ≡ length piece → {part : Bytes} → part ≡ piece → Writing whole more (part ++ drop end text) end
+writing-front w piece more e end reached same =
+    let all : end - 0 ≡ end = omega arith in
+    rw all at (writing-lent w piece more e end (omega arith) same)

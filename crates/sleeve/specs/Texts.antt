@@ -1,16 +1,18 @@
 -- The parts of the listing's text that the code writes one by one (01, Sleeve listing). The whole text is d64spec's `listing_text`.
--- In order: digits; lines of slots; the last line, and the counts in it; what the code knows of a directory that was read; the listing of its slots; the
+-- In order: digits; lines of slots; the last line, and the counts in it; what the code knows of a directory that was read; the reply to its slots; the
 -- program's buffer, and what it prints.
-use Rattle.std.specs.Prelude.{ℕ, ◌+◌, ◌-◌, ◌*◌, ◌/◌, ◌%◌, ◌≤◌, ◌<◌, ◌≡◌, List, [], ◌∷◌, ◌++◌, map, length, leb}
+use Rattle.std.specs.Prelude.{ℕ, ◌+◌, ◌-◌, ◌*◌, ◌/◌, ◌%◌, ◌≤◌, ◌<◌, ◌≡◌, List, [], ◌∷◌, ◌++◌, map, length, leb, Result as CodeResult}
 use Rattle.d64spec.specs.Lists.{Bytes, All, byte, join, range, splice, sum, zeros}
 use Rattle.d64spec.specs.Answers.{Result, refused, done, answer_of, wrong_buffer, ◌>>◌, need}
 use Rattle.d64spec.specs.Geometry.{Geometry}
 use Rattle.d64spec.specs.Directory.{Slot}
-use Rattle.d64spec.specs.Listing.{Listed, digit, disk_of_track18, free_total, line, list_slots, listing_reply, listing_text, refusal_line, sleeve_output, slot_frame}
-use Rattle.answers.specs.Faults.{verdict_of, answer_to, where_fine}
-use Rattle.answers.specs.declared.Report.{Report}
-use Rattle.directory.specs.Directories.{first_repeated, occupied_from}
-use Rattle.sleeve.specs.declared.slots.Checked.{Checked}
+use Rattle.d64spec.specs.Listing.{Listed, ListingReply, digit, disk_of_track18, free_total, line, list_slots, listing_reply, listing_text, refusal_line, sleeve_output, slot_frame}
+use Rattle.d64spec.specs.Reply.{Reply}
+use Rattle.answers.specs.Faults.{reply_of}
+use Rattle.answers.specs.declared.Done.{Done}
+use Rattle.answers.specs.declared.Fault.{Fault}
+use Rattle.directory.specs.Directories.{first_repeated, found, occupied_from}
+use Rattle.directory.specs.declared.Directory.{Directory}
 use Rattle.sleeve.specs.declared.Printed.{Printed}
 
 -- each byte as two digits: a line without its end
@@ -41,29 +43,34 @@ list_found g b l out = do
   need (leb (length text) (length out)) wrong_buffer
   done (record { output_after = splice out 0 text; reported_length = length text })
 
--- track 18 is whole, the directory's sectors are its own, and the text has room for `more` bytes and a line for each occupied slot below `end`
-pub record RoomFor (b : Bytes) (ss : List ℕ) (end : ℕ) (text : Bytes) (more : ℕ) : Type 0 where
-  pub whole : length b ≡ 4864
-  pub inside : All (λ s. s < 19) ss
-  pub size : length text ≡ more + 43 * length (occupied_from b ss 0 end)
+-- the occupied slots of a directory that was read
+abbrev pub occupied_of : Bytes → Directory → List Slot
+occupied_of b d = occupied_from b d.sectors 0 (8 * d.count)
 
--- a directory that was read: its slots are those below `end`, and `repeated` is the first that repeats a name
-pub record ReadySlots (b : Bytes) (ss : List ℕ) (end repeated : ℕ) : Type 0 where
+-- track 18 is whole, the directory's sectors are its own, and the text has room for `more` bytes and a line for each occupied slot
+pub record RoomFor (b : Bytes) (d : Directory) (text : Bytes) (more : ℕ) : Type 0 where
   pub whole : length b ≡ 4864
-  pub inside : All (λ s. s < 19) ss
-  pub few : end ≤ 144
-  pub first : repeated ≡ first_repeated b ss 0 end
+  pub inside : All (λ s. s < 19) d.sectors
+  pub few : d.count ≤ 18
+  pub size : length text ≡ more + 43 * length (occupied_of b d)
 
--- these slots' first fault, or how many they are: no more than there are slots below `end`
-pub record SlotsCounted (l : List Slot) (end : ℕ) (r : Checked) : Type 0 where
-  pub counted : where_fine r.verdict r.files ≡ count_slots l
-  pub few : r.files ≤ end
+-- a directory that was read from track 18, which is whole: the first slot that repeats a name is known
+pub record ReadySlots (b : Bytes) (d : Directory) : Type 0 where
+  pub whole : length b ≡ 4864
+  pub inside : All (λ s. s < 19) d.sectors
+  pub few : d.count ≤ 18
+  pub first : d.repeated ≡ found (8 * d.count) (first_repeated b d.sectors 0 (8 * d.count))
+
+-- a listing's reply with the bytes of track 18 beside it; it visits no file's sector
+abbrev pub with_track : Bytes → ListingReply → Reply
+with_track b l = record {
+  answer = l.answer;
+  change = record { image_after = b; output_after = l.listed.output_after; reported_length = l.listed.reported_length; reported_sectors = 0 };
+}
 
 -- the reply to these slots, and the text buffer after it
-pub record SlotsListed (g : Geometry) (b : Bytes) (l : List Slot) (text : Bytes) (r : Report) (text' : Bytes) : Type 0 where
-  pub reply : record { answer = answer_to (verdict_of r.verdict); listed = record { output_after = text'; reported_length = r.length } }
-      ≡ listing_reply text (list_found g b l text)
-  pub sectors : r.sectors ≡ 0
+pub record SlotsListed (g : Geometry) (b : Bytes) (l : List Slot) (text : Bytes) (r : CodeResult Done Fault) (text' : Bytes) : Type 0 where
+  pub reply : reply_of r b text' ≡ with_track b (listing_reply text (list_found g b l text))
 
 -- a text buffer with room for every listing (6,234 bytes always suffice)
 unfoldable pub blank_text : Bytes

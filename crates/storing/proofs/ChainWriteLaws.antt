@@ -3,78 +3,87 @@
 use Prim.Native.Nat.{ℕ, suc, ◌+◌, ◌-◌, ◌*◌, ◌≤◌, ◌<◌}
 use native.Mathlib.Omega.{arith}
 use native.Mathlib.Numerals.{add-one}
-use mathlib.Core.Path.{◌≡◌, refl, sym, ap, ap₂, ◌∙◌}
-use mathlib.Core.Bool.{true, false}
-use mathlib.Core.List.{List, [], ◌∷◌, map}
-use lib.ListN.{length, take, drop, get_or, length-take, length-drop, drop_of_length-le}
+use mathlib.Core.Path.{◌≡◌, sym, ap, ap₂, subst, ◌∙◌}
+use mathlib.Core.Bool.{false}
+use mathlib.Core.List.{List, [], ◌∷◌, ◌++◌, append-nil, map}
+use lib.ListN.{length, take, drop, get_or, drop_of_length-le}
 use lib.Seq.{drop-cons, drop-drop}
-use Rattle.d64spec.specs.Lists.{Bytes}
-use Rattle.d64spec.specs.Geometry.{Geometry, on_disk, sector_number}
+use Rattle.d64spec.specs.Lists.{Bytes, zeros}
+use Rattle.d64spec.specs.Geometry.{Geometry, sector_number}
 use Rattle.d64spec.specs.Image.{Disk, disk, put}
 use Rattle.d64spec.specs.Store.{write_chain}
-use Rattle.d64spec.proofs.PlaceLaws.{all-at}
-use Rattle.geometry.specs.Layout.{unpacked}
+use Rattle.geometry.specs.declared.Address.{Address}
+use Rattle.geometry.specs.Layout.{address_of}
 use Rattle.bam.specs.MapEntry.{Entries}
 use Rattle.bam.specs.Bam.{moved_mark, moved_marks}
 use Rattle.parts.proofs.PartLaws.{part_to_end}
-use Rattle.storing.specs.Writes.{linked_sector, last_sector, SectorReady, SectorWritten, ChainReady, ChainWritten}
+use Rattle.storing.specs.Writes.{chain_sector, link_to, link_end, SectorWritten, ChainWritten}
+
+-- place i, as the code reads it
+abbrev pub place_at : List Address → ℕ → Address
+place_at places i = get_or places i (record { track = 0; sector = 0 })
+
+-- the bytes of the last sector, and the 254 bytes of another one, as the code lends them
+abbrev pub last_bytes : Bytes → ℕ → Bytes
+last_bytes bs i = take (length bs - 254 * i) (drop (254 * i) bs)
+
+abbrev pub linked_bytes : Bytes → ℕ → Bytes
+linked_bytes bs i = take (254 * i + 254 - 254 * i) (drop (254 * i) bs)
+
+-- ---- the two kinds of sector
+
+last-sector : (bs : Bytes) {n : ℕ} → n ≡ length bs + 1 → chain_sector (link_end n) bs ≡ 0 ∷ suc (length bs) ∷ (bs ++ zeros (254 - length bs))
+last-sector bs is = ap (λ (n : ℕ). 0 ∷ n ∷ (bs ++ zeros (254 - length bs))) (is ∙ add-one (length bs))
+
+linked-sector : (at : Address) (bs : Bytes) → length bs ≡ 254 → chain_sector (link_to (address_of at)) bs ≡ at.track ∷ at.sector ∷ bs
+linked-sector at bs full =
+    let none : 254 - length bs ≡ 0 = omega arith in
+    ap (λ (n : ℕ). at.track ∷ at.sector ∷ (bs ++ zeros n)) none ∙ ap (λ (x : Bytes). at.track ∷ at.sector ∷ x) (append-nil bs)
 
 module _ (g : Geometry) where
   -- the sectors from place i on, and the bytes that go there, are written
-  pub record Writing (img : Bytes) (places : List ℕ) (bs : Bytes) (es : Entries) (i : ℕ) (img' : Bytes) (es' : Entries) : Type 0 where
+  pub record Writing (img : Bytes) (places : List Address) (bs : Bytes) (es : Entries) (i : ℕ) (img' : Bytes) (es' : Entries) : Type 0 where
     pub below : i < length places
     pub size : length img' ≡ length img
-    pub laid : disk img' ≡ write_chain g (map unpacked (drop i places)) (drop (254 * i) bs) (disk img)
-    pub marks : es' ≡ moved_marks false (map unpacked (drop i places)) es
+    pub laid : disk img' ≡ write_chain g (map address_of (drop i places)) (drop (254 * i) bs) (disk img)
+    pub marks : es' ≡ moved_marks false (map address_of (drop i places)) es
 
   -- the loop has gone down from place i to place j: whatever image the sectors from i on were written on, those from j on are written on it now
-  pub record Advancing (places : List ℕ) (bs : Bytes) (i : ℕ) (img : Bytes) (es : Entries) (j : ℕ) (img' : Bytes) (es' : Entries) : Type 0 where
+  pub record Advancing (places : List Address) (bs : Bytes) (i : ℕ) (img : Bytes) (es : Entries) (j : ℕ) (img' : Bytes) (es' : Entries) : Type 0 where
     pub below : j ≤ i
     pub size : length img' ≡ length img
     pub writing : (d : Bytes) (m : Entries) → Writing d places bs m i img es → Writing d places bs m j img' es'
 
-  -- the bytes of the last sector, and the 254 bytes of another one, as the code lends them
-  abbrev pub last_bytes : Bytes → ℕ → Bytes
-  last_bytes bs i = take (length bs - 254 * i) (drop (254 * i) bs)
-
-  abbrev pub linked_bytes : Bytes → ℕ → Bytes
-  linked_bytes bs i = take (254 * i + 254 - 254 * i) (drop (254 * i) bs)
-
-  module _ {img : Bytes} {places : List ℕ} {bs : Bytes} {firsts : List ℕ} (r : ChainReady g img places bs firsts) (i : ℕ) where
-    -- any of the places, on an image of that size
-    pub place-ready : {img' : Bytes} → i < length places → length img' ≡ length img → SectorReady g img' (get_or places i 0) firsts
-    place-ready h size = record { size = size ∙ r.size; on = all-at (λ p. on_disk g (unpacked p) ≡ true) places r.on i 0 h; numbers = r.numbers }
-
-    pub length-last_bytes : i + 1 ≡ length places → length (last_bytes bs i) ≤ 254
-    length-last_bytes h = let room = r.room in simp (length-take, length-drop) (omega arith)
-
-  module _ {img : Bytes} {places : List ℕ} {bs : Bytes} {es : Entries} where
+  module _ {img : Bytes} {places : List Address} {bs : Bytes} {es : Entries} where
     -- the last sector
-    pub writing-last : {i : ℕ} {img' : Bytes} {es' : Entries} → i + 1 ≡ length places
-        → SectorWritten g img (get_or places i 0) (last_sector (last_bytes bs i)) es img' es'
+    pub writing-last : {i n : ℕ} {img' : Bytes} {es' : Entries} → i + 1 ≡ length places
+        → SectorWritten g img (address_of (place_at places i)) (chain_sector (link_end n) (last_bytes bs i)) es img' es' → n ≡ length (last_bytes bs i) + 1
         → Writing img places bs es i img' es'
-    writing-last {i} {img'} {es'} h w =
-        let one : drop i places ≡ get_or places i 0 ∷ [] = drop-cons places i 0 (omega arith)
-        ∙ ap (λ (l : List ℕ). get_or places i 0 ∷ l) (drop_of_length-le places {i = suc i} (omega arith)) in
+    writing-last {i} h w is =
+        let one : drop i places ≡ place_at places i ∷ [] = drop-cons places i _ (omega arith)
+        ∙ ap (λ (l : List Address). place_at places i ∷ l) (drop_of_length-le places {i = suc i} (omega arith)) in
         let all : last_bytes bs i ≡ drop (254 * i) bs = part_to_end bs (254 * i) in
         record {
           below = omega arith;
           size = w.size;
-          laid = w.laid ∙ ap (λ (x : Bytes). put (disk img) (sector_number g (unpacked (get_or places i 0))) (last_sector x)) all
-              ∙ ap (λ (l : List ℕ). write_chain g (map unpacked l) (drop (254 * i) bs) (disk img)) (sym one);
-          marks = w.marks ∙ ap (λ (l : List ℕ). moved_marks false (map unpacked l) es) (sym one);
+          laid = w.laid ∙ ap (put (disk img) (sector_number g (address_of (place_at places i)))) (last-sector (last_bytes bs i) is)
+              ∙ ap (λ (x : Bytes). put (disk img) (sector_number g (address_of (place_at places i))) (0 ∷ suc (length x) ∷ (x ++ zeros (254 - length x)))) all
+              ∙ ap (λ (l : List Address). write_chain g (map address_of l) (drop (254 * i) bs) (disk img)) (sym one);
+          marks = w.marks ∙ ap (λ (l : List Address). moved_marks false (map address_of l) es) (sym one);
         }
 
     -- the one before place i
     module _ {i : ℕ} (j : ℕ) {img' img'' : Bytes} {es' es'' : Entries} (k : Writing img places bs es i img' es') (next : j + 1 ≡ i)
-        {s : Bytes} (w : SectorWritten g img' (get_or places j 0) (linked_sector (unpacked (get_or places i 0)) s) es' img'' es'') (lent : s ≡ linked_bytes bs j) where
-      from-i : drop i places ≡ get_or places i 0 ∷ drop (suc i) places
-      from-i = drop-cons places i 0 k.below
+        {s : Bytes} (full : length s ≡ 254)
+        (w : SectorWritten g img' (address_of (place_at places j)) (chain_sector (link_to (address_of (place_at places i))) s) es' img'' es'')
+        (lent : s ≡ linked_bytes bs j) where
+      from-i : drop i places ≡ place_at places i ∷ drop (suc i) places
+      from-i = drop-cons places i _ k.below
 
-      from-j : drop j places ≡ get_or places j 0 ∷ get_or places i 0 ∷ drop (suc i) places
+      from-j : drop j places ≡ place_at places j ∷ place_at places i ∷ drop (suc i) places
       from-j =
-          drop-cons places j 0 (omega (arith, k.below)) ∙ ap (λ (n : ℕ). get_or places j 0 ∷ drop n places) (sym (add-one j) ∙ next)
-          ∙ ap (λ (l : List ℕ). get_or places j 0 ∷ l) from-i
+          drop-cons places j _ (omega (arith, k.below)) ∙ ap (λ (n : ℕ). place_at places j ∷ drop n places) (sym (add-one j) ∙ next)
+          ∙ ap (λ (l : List Address). place_at places j ∷ l) from-i
 
       bytes-i : drop (254 * i) bs ≡ drop 254 (drop (254 * j) bs)
       bytes-i = let e : 254 * i ≡ 254 * j + 254 = omega arith in ap (λ (n : ℕ). drop n bs) e ∙ sym (drop-drop 254 (254 * j) bs)
@@ -86,12 +95,14 @@ module _ (g : Geometry) where
       writing_more = record {
         below = omega (arith, k.below);
         size = w.size ∙ k.size;
-        laid = w.laid
-            ∙ ap₂ (λ (d : Disk) (x : Bytes). put d (sector_number g (unpacked (get_or places j 0))) (linked_sector (unpacked (get_or places i 0)) x))
-            (k.laid ∙ ap₂ (λ (l : List ℕ) (x : Bytes). write_chain g (map unpacked l) x (disk img)) from-i bytes-i) content
-            ∙ ap (λ (l : List ℕ). write_chain g (map unpacked l) (drop (254 * j) bs) (disk img)) (sym from-j);
-        marks = w.marks ∙ ap (moved_mark false (unpacked (get_or places j 0))) (k.marks ∙ ap (λ (l : List ℕ). moved_marks false (map unpacked l) es) from-i)
-            ∙ ap (λ (l : List ℕ). moved_marks false (map unpacked l) es) (sym from-j);
+        laid = w.laid ∙ ap (put (disk img') (sector_number g (address_of (place_at places j)))) (linked-sector (place_at places i) s full)
+            ∙ ap₂ (λ (d : Disk) (x : Bytes). put d (sector_number g (address_of (place_at places j)))
+            ((place_at places i).track ∷ (place_at places i).sector ∷ x))
+            (k.laid ∙ ap₂ (λ (l : List Address) (x : Bytes). write_chain g (map address_of l) x (disk img)) from-i bytes-i) content
+            ∙ ap (λ (l : List Address). write_chain g (map address_of l) (drop (254 * j) bs) (disk img)) (sym from-j);
+        marks = w.marks
+            ∙ ap (moved_mark false (address_of (place_at places j))) (k.marks ∙ ap (λ (l : List Address). moved_marks false (map address_of l) es) from-i)
+            ∙ ap (λ (l : List Address). moved_marks false (map address_of l) es) (sym from-j);
       }
 
     -- all of them
@@ -100,21 +111,20 @@ module _ (g : Geometry) where
         let z : i ≡ 0 = omega arith in
         record {
           size = k.size;
-          laid = k.laid ∙ ap (λ (n : ℕ). write_chain g (map unpacked (drop n places)) (drop (254 * n) bs) (disk img)) z;
-          marks = k.marks ∙ ap (λ (n : ℕ). moved_marks false (map unpacked (drop n places)) es) z;
+          laid = k.laid ∙ ap (λ (n : ℕ). write_chain g (map address_of (drop n places)) (drop (254 * n) bs) (disk img)) z;
+          marks = k.marks ∙ ap (λ (n : ℕ). moved_marks false (map address_of (drop n places)) es) z;
         }
 
-  module _ {places : List ℕ} {bs : Bytes} {img : Bytes} {es : Entries} where
-    pub advancing-start : (i : ℕ) → Advancing places bs i img es i img es
-    advancing-start i = record { below = omega arith; size = refl; writing = λ d m w. w }
-
-    pub advancing-more : {i j : ℕ} {img' : Bytes} {es' : Entries} → Advancing places bs i img es j img' es' → (k : ℕ) → k + 1 ≡ j
-        → {s img'' : Bytes} {es'' : Entries}
-        → SectorWritten g img' (get_or places k 0) (linked_sector (unpacked (get_or places j 0)) s) es' img'' es'' → s ≡ linked_bytes bs k
-        → Advancing places bs i img es k img'' es''
-    advancing-more a k next w e = record {
-      below = omega (arith, a.below);
-      size = w.size
-          ∙ a.size;
-      writing = λ d m x. writing_more k (a.writing d m x) next w e;
-    }
+  pub advancing-more : {places : List Address} {bs : Bytes} {img : Bytes} {es : Entries} {i j : ℕ} {img' : Bytes} {es' : Entries}
+      → Advancing places bs i img es j img' es' → (k : ℕ) → k + 1 ≡ j → {s : Bytes} → length s ≡ 254 → {q : ℕ} {img'' : Bytes} {es'' : Entries}
+      → SectorWritten g img' (address_of (place_at places k)) (chain_sector (link_to (address_of (place_at places q))) s) es' img'' es''
+      → q ≡ j → s ≡ linked_bytes bs k
+      → Advancing places bs i img es k img'' es''
+  advancing-more {places} {img' = img'} {es' = es'} a k next {s} full {img'' = img''} {es'' = es''} w is e =
+      let linked = subst (λ (n : ℕ). SectorWritten g img' (address_of (place_at places k)) (chain_sector (link_to (address_of (place_at places n))) s) es'
+      img'' es'') is w in
+      record {
+        below = omega (arith, a.below);
+        size = w.size ∙ a.size;
+        writing = λ d m x. writing_more k (a.writing d m x) next full linked e;
+      }

@@ -1,13 +1,13 @@
 -- The entry, and its place in the directory (01, Store).
 -- In order: the entry's bytes; the directory grown by a sector; the entry at its place; the place of the definitions.
-use Prim.Native.Nat.{ℕ, ◌+◌, ◌*◌, ◌/◌, ◌%◌, ◌≤◌}
+use Prim.Native.Nat.{ℕ, ◌+◌, ◌*◌, ◌/◌, ◌%◌, ◌≤◌, ◌<◌}
 use native.Mathlib.Omega.{arith}
 use mathlib.Core.Path.{◌≡◌, sym, ap, ap₂, ◌∙◌}
 use mathlib.Core.Bool.{Bool, true, false, cond}
 use mathlib.Core.Logic.{◌⊎◌, inl, inr}
-use mathlib.Core.List.{[], ◌∷◌, ◌++◌, append_assoc}
-use lib.ListN.{length, take, set, length-append, length-replicate}
-use lib.Seq.{take_all, set_at}
+use mathlib.Core.List.{[], ◌∷◌, ◌++◌, append-nil, append_assoc}
+use lib.ListN.{length, take, drop, length-append, length-replicate}
+use lib.Seq.{take_all, take_at, drop_at}
 use Rattle.d64spec.specs.Lists.{Bytes, splice, zeros}
 use Rattle.d64spec.specs.Answers.{Address, address}
 use Rattle.d64spec.specs.Geometry.{Geometry, sector_number, directory_start}
@@ -18,7 +18,6 @@ use Rattle.d64spec.specs.Format.{empty_directory_sector}
 use Rattle.d64spec.specs.Store.{SlotPlace, in_empty_slot, in_new_sector, new_entry, overwrite_slot, last_of, grow_directory, write_slot}
 use Rattle.d64spec.proofs.FormatLaws.{padded-length}
 use Rattle.d64spec.proofs.ImageLaws.{put_other}
-use Rattle.geometry.specs.Layout.{unpacked}
 use Rattle.sectors.specs.Sectors.{with_sector, overwritten_in}
 use Rattle.sectors.proofs.SectorLaws.{disk-with_sector, length-with_sector, disk-overwritten_in, length-overwritten_in}
 use Rattle.storing.specs.declared.room.EntryPlace.{EntryPlace}
@@ -28,25 +27,26 @@ use Rattle.directory.proofs.Track18Laws.{number-18}
 
 -- ---- the entry's bytes
 
--- two bytes set behind 16 and nine
-entry-tail : (p : Bytes) (x y : ℕ) → length p ≡ 16 → set (set (p ++ zeros 11) 25 x) 26 y ≡ p ++ (zeros 9 ++ (x ∷ y ∷ []))
-entry-tail p x y h =
-    let q : Bytes = p ++ zeros 9 in
-    let size : length q ≡ 25 = omega (arith, length-append p (zeros 9)) in
-    let more : length (q ++ x ∷ []) ≡ 26 = omega (arith, length-append q (x ∷ []), size) in
-    ap (λ (l : Bytes). set (set l 25 x) 26 y) (sym (append_assoc p (zeros 9) (0 ∷ 0 ∷ [])))
-    ∙ ap (λ (l : Bytes). set l 26 y) (set_at q 0 (0 ∷ []) x 25 size ∙ sym (append_assoc q (x ∷ []) (0 ∷ [])))
-    ∙ set_at (q ++ x ∷ []) 0 [] y 26 more ∙ append_assoc q (x ∷ []) (y ∷ []) ∙ append_assoc p (zeros 9) (x ∷ y ∷ [])
+-- two bytes copied behind 16 and nine
+entry-tail : (p q : Bytes) → length p ≡ 16 → take 25 (p ++ zeros 11) ++ (q ++ drop 2 (drop 25 (p ++ zeros 11))) ≡ p ++ (zeros 9 ++ q)
+entry-tail p q h =
+    let whole : p ++ zeros 11 ≡ (p ++ zeros 9) ++ (0 ∷ 0 ∷ []) = sym (append_assoc p (zeros 9) (0 ∷ 0 ∷ [])) in
+    let size : length (p ++ zeros 9) ≡ 25 = omega (arith, length-append p (zeros 9)) in
+    let front : take 25 (p ++ zeros 11) ≡ p ++ zeros 9 = ap (take 25) whole ∙ take_at (p ++ zeros 9) (0 ∷ 0 ∷ []) 25 size in
+    let back : drop 25 (p ++ zeros 11) ≡ 0 ∷ 0 ∷ [] = ap (drop 25) whole ∙ drop_at (p ++ zeros 9) (0 ∷ 0 ∷ []) 25 size in
+    ap₂ (λ (x y : Bytes). x ++ (q ++ drop 2 y)) front back ∙ ap (λ (x : Bytes). p ++ zeros 9 ++ x) (append-nil q) ∙ append_assoc p (zeros 9) q
 
--- the name copied over the 16 bytes lent for it
-pub entry-made : (name : Bytes) (kind first k : ℕ) {f p : Bytes} → length name ≤ 16 → f ≡ take 16 (padded name)
-    → p ≡ f
-    → (0x80 + kind) ∷ first / 256 ∷ first % 256 ∷ set (set (p ++ zeros 11) 25 (k % 256)) 26 (k / 256) ≡ new_entry name kind (unpacked first) k
+-- the name copied over the 16 bytes lent for it, and the count over the last two
+pub entry-made : (name : Bytes) {kind n : ℕ} (r : Address) (k : ℕ) {f p q : Bytes} → length name ≤ 16 → k < 65536 → n ≡ kind
+    → f ≡ take 16 (padded name) → p ≡ f → q ≡ k % 256 ∷ k / 256 % 256 ∷ []
+    → (0x80 + n) ∷ r.track ∷ r.sector ∷ (take 25 (p ++ zeros 11) ++ (q ++ drop 2 (drop 25 (p ++ zeros 11)))) ≡ new_entry name kind r k
 unfolding new_entry
-entry-made name kind first k {f = f} {p = p} h e c =
+entry-made name {kind} r k {f} {p} {q} h few number e c count =
     let is : p ≡ padded name = c ∙ e ∙ take_all 16 (padded name) (omega (arith, padded-length name h)) in
-    ap (λ (l : Bytes). (0x80 + kind) ∷ first / 256 ∷ first % 256 ∷ l)
-    (ap (λ (l : Bytes). set (set (l ++ zeros 11) 25 (k % 256)) 26 (k / 256)) is ∙ entry-tail (padded name) (k % 256) (k / 256) (padded-length name h))
+    let high : k / 256 % 256 ≡ k / 256 = omega arith in
+    let last : q ≡ k % 256 ∷ k / 256 ∷ [] = count ∙ ap (λ (x : ℕ). k % 256 ∷ x ∷ []) high in
+    ap₂ (λ (x : ℕ) (l : Bytes). (0x80 + x) ∷ r.track ∷ r.sector ∷ l) number
+    (entry-tail p q (ap length is ∙ padded-length name h) ∙ ap₂ (λ (x y : Bytes). x ++ (zeros 9 ++ y)) is last)
 
 -- ---- the directory grown
 

@@ -1,13 +1,13 @@
 -- A file written (01, Store): the image after its data, its entry and the map is the one that the definitions describe.
 -- In order: the mark of a new directory sector; the disk after the data and the entry; who is free on it; the marks; the map; the whole.
-use Prim.Native.Nat.{ℕ, ◌+◌, ◌*◌, ◌/◌, ◌%◌, ◌≤◌, ◌<◌}
+use Prim.Native.Nat.{ℕ, ◌+◌, ◌≤◌, ◌<◌}
 use native.Mathlib.Omega.{arith}
 use native.Mathlib.Decide.{dec_le}
 use mathlib.Core.Path.{◌≡◌, sym, ap, ap₂, ◌∙◌, subst}
 use mathlib.Core.Bool.{Bool, true, false, cond}
 use mathlib.Core.Logic.{◌⊎◌, inl, inr}
 use mathlib.Core.List.{List, [], ◌∷◌, ◌++◌, map}
-use lib.ListN.{length, get_or, length-map}
+use lib.ListN.{length, length-map}
 use lib.Dec.{eqb}
 use borrow.Author.Tests.{eq-eqb, ne_eqb, lt-ltb, le-ltb}
 use Rattle.d64spec.specs.Lists.{Bytes, All, byte, count, name_count}
@@ -19,7 +19,8 @@ use Rattle.d64spec.specs.Chain.{directory_link}
 use Rattle.d64spec.specs.Directory.{directory_sectors, files, name_of}
 use Rattle.d64spec.specs.Owner.{claim_count, is_free}
 use Rattle.d64spec.specs.Map.{rewrite_map}
-use Rattle.d64spec.specs.Store.{SlotPlace, in_empty_slot, in_new_sector, new_entry, write_chain, write_slot, stored_disk, last_of, store_change, slot_place_for}
+use Rattle.d64spec.specs.Store.{SlotPlace, in_empty_slot, in_new_sector, new_entry, write_chain, write_slot, stored_disk, last_of, store_change}
+use Rattle.d64spec.specs.Store.{slot_place_for}
 use Rattle.d64spec.specs.Changes.{added_sectors}
 use Rattle.d64spec.proofs.BoundLaws.{sector_number-lt, map_on}
 use Rattle.d64spec.proofs.FrameLaws.{all_map, all-of-count, same-directory}
@@ -33,29 +34,30 @@ use Rattle.d64spec.proofs.SplitLaws.{map-append}
 use Rattle.d64spec.proofs.StoreLaws.{StoreLeaves}
 use Rattle.d64spec.proofs.StoreStep.{PlaceCase, directory-stay, stored}
 use Rattle.d64spec.proofs.WriteChainLaws.{Fits, sectors-fit}
-use Rattle.geometry.specs.Layout.{unpacked}
+use Rattle.geometry.specs.declared.Address.{Address as Place}
+use Rattle.geometry.specs.Layout.{address_of}
 use Rattle.bam.specs.MapEntry.{Entries}
 use Rattle.bam.specs.MapSector.{stored_entries}
 use Rattle.bam.specs.Bam.{moved_mark, moved_marks}
 use Rattle.bam.specs.Expected.{Expects, free_after}
 use Rattle.bam.proofs.FollowLaws.{expects-loaded, expects-agree, expects-marks, map-follows}
+use Rattle.entry.specs.Entry.{number_of_kind}
+use Rattle.storing.specs.declared.NewFile.{NewFile}
 use Rattle.storing.specs.declared.room.EntryPlace.{EntryPlace}
 use Rattle.storing.specs.Plans.{PlaceIs, WriteReady, FileWritten}
 use Rattle.bam.specs.ImageMaps.{MapWritten}
 use Rattle.storing.specs.Writes.{entry_disk, ChainWritten, EntryLaid}
+use Rattle.storing.proofs.ChainWriteLaws.{place_at}
 use Rattle.storing.proofs.EntryWriteLaws.{write_slot-place}
+use Rattle.storing.proofs.ReplyLaws.{kind-storable}
 use Rattle.storing.proofs.WriteReadyLaws.{places-taken, length-refs, places-some, place_found, image-size, new-free}
 
 -- what the code does with the mark of a directory sector: it moves it where the sector is new
 abbrev pub Marked : EntryPlace → Entries → Entries → Type 0
 Marked p es es' =
-    ((p.grown ≡ true) × (p.sector < 256) × (b : Bool) × (n : ℕ) × (m : Entries) × (m ≡ moved_mark b (unpacked n) es) × (b ≡ false)
-    × (n ≡ 18 * 256 + p.sector) × (es' ≡ m))
+    ((p.grown ≡ true) × (b : Bool) × (r : Address) × (m : Entries) × (m ≡ moved_mark b r es) × (b ≡ false) × (r.track ≡ 18) × (r.sector ≡ p.sector)
+    × (es' ≡ m))
     ⊎ ((p.grown ≡ false) × (es' ≡ es))
-
--- a place of track 18
-unpacked-18 : (s : ℕ) → s < 256 → unpacked (18 * 256 + s) ≡ address 18 s
-unpacked-18 s h = let t : (18 * 256 + s) / 256 ≡ 18 = omega arith in let r : (18 * 256 + s) % 256 ≡ s = omega arith in ap₂ address t r
 
 -- the marks of the file's sectors, and then that of a new directory sector
 marks-added : (place : SlotPlace) (p : EntryPlace) → PlaceIs place p → (l : List Address) (es : Entries) {es' es'' : Entries} → es' ≡ moved_marks false l es
@@ -63,19 +65,29 @@ marks-added : (place : SlotPlace) (p : EntryPlace) → PlaceIs place p → (l : 
     → es'' ≡ moved_marks false (added_sectors place ++ l) es
 marks-added (in_empty_slot s) p k l es e (inl t) = absurd (let z : true ≡ false = sym t.0 ∙ k.0 in let y : ◌≡◌ {A = ℕ} 0 1 = cc in omega arith)
 marks-added (in_empty_slot s) p k l es e (inr t) = t.1 ∙ e
-marks-added (in_new_sector r) p k l es e (inl t) =
-    t.8 ∙ t.5 ∙ ap₂ (λ (b : Bool) (n : ℕ). moved_mark b (unpacked n) _) t.6 t.7 ∙ ap₂ (moved_mark false) (unpacked-18 p.sector t.1 ∙ sym k.1) e
+marks-added (in_new_sector r) p k l es {es'} e (inl t) =
+    t.8 ∙ t.4 ∙ ap₂ (λ (b : Bool) (x : Address). moved_mark b x es') t.5 (ap₂ address t.6 t.7) ∙ ap₂ (moved_mark false) (sym k.1) e
 marks-added (in_new_sector r) p k l es e (inr t) = absurd (let z : true ≡ false = sym k.0 ∙ t.0 in let y : ◌≡◌ {A = ℕ} 0 1 = cc in omega arith)
 
-module _ (g : Geometry) (kn : Known g) (img name : Bytes) (kind : ℕ) (bs : Bytes) (x : ℕ) (xs : List ℕ) (p : EntryPlace) (last : ℕ) (es : Entries)
-    (w : WriteReady g img name kind bs (x ∷ xs) p last es) where
+module _ (g : Geometry) (kn : Known g) (img : Bytes) (f : NewFile) (x : Place) (xs : List Place) (p : EntryPlace) (last : ℕ) (es : Entries)
+    (w : WriteReady g img f (x ∷ xs) p last es) where
+  -- what is stored
+  abbrev name : Bytes
+  name = f.name.now
+
+  abbrev kind : ℕ
+  kind = number_of_kind f.kind
+
+  abbrev bs : Bytes
+  bs = f.content.now
+
   -- the disk before
   abbrev d : Disk
   d = disk img
 
   -- the sectors taken
   abbrev refs : List Address
-  refs = unpacked x ∷ map unpacked xs
+  refs = address_of x ∷ map address_of xs
 
   -- the place of the entry
   abbrev place : SlotPlace
@@ -90,7 +102,7 @@ module _ (g : Geometry) (kn : Known g) (img name : Bytes) (kind : ℕ) (bs : Byt
   d1 = write_chain g refs bs d
 
   abbrev entry : Bytes
-  entry = new_entry name kind (unpacked x) (length refs)
+  entry = new_entry name kind (address_of x) (length refs)
 
   -- and with the entry
   abbrev d2 : Disk
@@ -103,7 +115,7 @@ module _ (g : Geometry) (kn : Known g) (img name : Bytes) (kind : ℕ) (bs : Byt
   fits = sectors-fit refs (length bs) (sym (length-refs g kn w))
 
   leaves : StoreLeaves g d d2 place refs entry (record { name = name; kind = kind; content = bs })
-  leaves = stored g kn.valid img w.ready.accepted name kind bs w.ready.asked w.ready.kind_asked absent (unpacked x) (map unpacked xs)
+  leaves = stored g kn.valid img w.ready.accepted name kind bs w.ready.asked (kind-storable f.kind) absent (address_of x) (map address_of xs)
       (places-taken g kn w) fits place (place_found g kn w)
 
   directory-kept : directory_sectors g d1 ≡ directory_sectors g d
@@ -111,7 +123,7 @@ module _ (g : Geometry) (kn : Known g) (img name : Bytes) (kind : ℕ) (bs : Byt
       same-directory g d d1
       (all_map (λ r h. ap (directory_link g) h) (directory_sectors g d)
       (all-of-count g (λ n. d n ≡ d1 n) (directory_sectors g d)
-      (directory-stay g kn.valid img w.ready.accepted name kind bs w.ready.asked w.ready.kind_asked absent (unpacked x) (map unpacked xs)
+      (directory-stay g kn.valid img w.ready.accepted name kind bs w.ready.asked (kind-storable f.kind) absent (address_of x) (map address_of xs)
       (places-taken g kn w) fits)))
 
   -- ---- the disk after the data and the entry
@@ -189,18 +201,18 @@ module _ (g : Geometry) (kn : Known g) (img name : Bytes) (kind : ℕ) (bs : Byt
         ∙ ap₂ (λ (y : SlotPlace) (l : List Address). image g (stored_disk g d y l name kind bs)) same w.taken
 
 -- THE FILE IS WRITTEN: the data, the entry, the marks, and the map in its sector
-pub file-written : (g : Geometry) (kn : Known g) {img name : Bytes} {kind : ℕ} {bs : Bytes} (places : List ℕ) {p : EntryPlace} {last : ℕ} {es : Entries}
-    → WriteReady g img name kind bs places p last es
-    → {img' : Bytes} {es' : Entries} → ChainWritten g img places bs es img' es' → {e : Bytes}
-    → e ≡ new_entry name kind (unpacked (get_or places 0 0)) (length places)
+pub file-written : (g : Geometry) (kn : Known g) {img : Bytes} {f : NewFile} (places : List Place) {p : EntryPlace} {last : ℕ} {es : Entries}
+    → WriteReady g img f places p last es
+    → {img' : Bytes} {es' : Entries} → ChainWritten g img places f.content.now es img' es' → {e : Bytes}
+    → e ≡ new_entry f.name.now (number_of_kind f.kind) (address_of (place_at places 0)) (length places)
     → {img'' : Bytes} → EntryLaid g img' e p last img'' → {es'' : Entries} → Marked p es' es'' → {img''' : Bytes} → MapWritten g img'' es'' img'''
-    → FileWritten g img name kind bs img'''
+    → FileWritten g img f img'''
 file-written g kn [] w c made l m k = absurd (omega (arith, places-some g kn w))
-file-written g kn {img} {name} {kind} {bs} (x ∷ xs) {p} {last} {es} w c {e} made l m k =
-    let entry-is : e ≡ new_entry name kind (unpacked x) (length (map unpacked (x ∷ xs))) = made
-    ∙ ap (new_entry name kind (unpacked x)) (sym (length-map (x ∷ xs) unpacked)) in
-    let marks = marks-added w.place.place p w.place.is (map unpacked (x ∷ xs)) es c.marks m in
+file-written g kn {img} {f} (x ∷ xs) {p} {last} {es} w c {e} made l m k =
+    let entry-is : e ≡ new_entry f.name.now (number_of_kind f.kind) (address_of x) (length (map address_of (x ∷ xs))) = made
+    ∙ ap (new_entry f.name.now (number_of_kind f.kind) (address_of x)) (sym (length-map (x ∷ xs) address_of)) in
+    let marks = marks-added w.place.place p w.place.is (map address_of (x ∷ xs)) es c.marks m in
     record {
-      written = image-after g kn img name kind bs x xs p last es w (disk-entered g kn img name kind bs x xs p last es w c entry-is l)
+      written = image-after g kn img f x xs p last es w (disk-entered g kn img f x xs p last es w c entry-is l)
           (l.size ∙ c.size) marks k;
     }

@@ -1,14 +1,15 @@
--- Replies to a store (01, Answer numbers; Store): what the definitions answer, refusal by refusal, and that the code's report says the same.
--- In order: refusals in document 01's order; a store that is done; reports.
+-- Replies to a store (01, Answer numbers; Store): what the definitions answer, refusal by refusal, and that the code's result says the same.
+-- In order: the kind; refusals in document 01's order; a store that is done; results.
 use Prim.Native.Nat.{ℕ, ◌*◌, ◌≤◌, ◌<◌}
-use mathlib.Core.Path.{◌≡◌}
+use mathlib.Core.Path.{◌≡◌, refl}
 use mathlib.Core.Bool.{true, false}
 use mathlib.Core.List.{[]}
 use lib.ListN.{length}
 use lib.Dec.{eqb}
 use borrow.Author.Tests.{eq-eqb, le-leb, lt-leb}
 use Rattle.d64spec.specs.Lists.{Bytes}
-use Rattle.d64spec.specs.Answers.{Fault, refused, done, wrong_size, bad_name_argument, bad_kind_argument, write_forbidden, name_exists, directory_full, disk_full}
+use Rattle.d64spec.specs.Answers.{Fault, refused, done, wrong_size, bad_name_argument, bad_kind_argument, write_forbidden, name_exists, directory_full}
+use Rattle.d64spec.specs.Answers.{disk_full}
 use Rattle.d64spec.specs.Geometry.{Geometry, total}
 use Rattle.d64spec.specs.Image.{disk}
 use Rattle.d64spec.specs.Directory.{files}
@@ -17,11 +18,21 @@ use Rattle.d64spec.specs.Check.{DirectoryContents, check_image}
 use Rattle.d64spec.specs.Reply.{reply, valid_name_argument, storable_kind, writable, files_named}
 use Rattle.d64spec.specs.Store.{SlotPlace, slot_place_for, sectors_needed, store_change, call_store}
 use Rattle.d64spec.specs.Call.{store, perform, attempt, output_buffer}
+use Rattle.std.specs.Prelude.{Ok, Err}
+use Rattle.entry.specs.declared.Kind.{Kind}
+use Rattle.entry.specs.declared.Kind.TheVariants.{Seq, Prg}
+use Rattle.entry.specs.Entry.{number_of_kind}
 use Rattle.answers.specs.declared.Fault as code
-use Rattle.answers.specs.declared.Verdict.TheVariants.{Fine, Refused}
-use Rattle.answers.specs.declared.Report.{Report}
-use Rattle.answers.specs.Faults.{fault_of, verdict_of, answer_to, reply_of}
+use Rattle.answers.specs.Faults.{fault_of, called_answer, reported, reply_of}
 use Rattle.answers.proofs.RefusedLaws.{call-refused, size-true, size-false, check-sized}
+
+-- ---- the kind
+
+-- the kinds that the code's enum has are those that a store takes (01, Answer numbers: 10; 02, §12)
+pub kind-storable : (k : Kind) → storable_kind (number_of_kind k) ≡ true
+unfolding storable_kind
+kind-storable Seq = refl
+kind-storable Prg = refl
 
 -- ---- refusals
 
@@ -95,18 +106,16 @@ module _ (g : Geometry) (img name : Bytes) (kind : ℕ) (bs : Bytes) where
                           (sectors_needed (length bs)) (length (free_for_files g (disk img))) h,
                     )
 
-  -- ---- reports
+  -- ---- results
 
   -- THE REPLY TO A STORE that is refused
-  pub store-refused : {rep : Report} (f : code.Fault) → rep ≡ record { verdict = Refused f; length = 0; sectors = 0 }
-      → call_store g img name kind bs ≡ refused (fault_of f)
-      → reply_of rep img [] ≡ perform g img (store name kind bs)
+  pub store-refused : (f : code.Fault) → call_store g img name kind bs ≡ refused (fault_of f) → reply_of (Err f) img [] ≡ perform g img (store name kind bs)
   unfolding attempt output_buffer
-  store-refused f e r = call-refused g img (store name kind bs) f e r
+  store-refused f r = call-refused g img (store name kind bs) f refl r
 
   -- THE REPLY TO A STORE that is done
   pub store-replied : {img' : Bytes} {n k : ℕ} (place : SlotPlace) → call_store g img name kind bs ≡ done (store_change g img place name kind bs)
       → img' ≡ (store_change g img place name kind bs).image_after → n ≡ length bs → k ≡ sectors_needed (length bs)
-      → reply_of (record { verdict = Fine; length = n; sectors = k }) img' [] ≡ perform g img (store name kind bs)
-  unfolding perform attempt output_buffer reply verdict_of answer_to
+      → reply_of (Ok (record { length = n; sectors = k })) img' [] ≡ perform g img (store name kind bs)
+  unfolding perform attempt output_buffer reply called_answer reported
   store-replied place e written long counted = rw (e, written, long, counted)

@@ -1,13 +1,12 @@
 -- Room for a file on a checked image (01, Store; Answer numbers: 14, 15): what the code finds is what the definitions find.
 -- In order: the sectors needed; the directory's last sector; the map's marks; a place for the entry; sectors for the content.
-use Prim.Native.Nat.{ℕ, zero, suc, ◌+◌, ◌*◌, ◌-◌, ◌/◌, ◌%◌, ◌≤◌, ◌<◌}
+use Prim.Native.Nat.{ℕ, zero, suc, ◌+◌, ◌*◌, ◌-◌, ◌/◌, ◌%◌, ◌≤◌, ◌<◌, min, max}
 use native.Mathlib.Omega.{arith}
 use mathlib.Core.Path.{◌≡◌, refl, sym, ap, ◌∙◌}
-use mathlib.Core.Bool.{Bool, true, false, cond}
 use mathlib.Core.List.{List, [], ◌∷◌, map}
 use lib.ListN.{length, take, get_or, length-take, length-drop, length-map}
-use lib.Dec.{eqb, ltb}
-use borrow.Author.Tests.{eq-eqb, ne_eqb, eqb-true, eqb-false, lt-ltb, le-ltb, ltb-true, ltb-false}
+use borrow.Author.Tests.{ne_eqb}
+use Rattle.std.specs.Prelude.{Option, Some, None}
 use Rattle.d64spec.specs.Lists.{Bytes, byte}
 use Rattle.d64spec.specs.Answers.{Address, address, refused, done, directory_full, first}
 use Rattle.d64spec.specs.Geometry.{Geometry, total, sector_number, map_address, directory_start}
@@ -19,8 +18,10 @@ use Rattle.d64spec.specs.Store.{in_empty_slot, in_new_sector, empty_slots, slot_
 use Rattle.d64spec.proofs.BoundLaws.{directory-some}
 use Rattle.d64spec.proofs.OtherBytes.{byte_small}
 use Rattle.d64spec.specs.Layouts.{Known}
-use Rattle.geometry.specs.Layout.{unpacked}
-use Rattle.directory.specs.Directories.{sectors_of, slot_at}
+use Rattle.geometry.specs.declared.Address.{Address as Place}
+use Rattle.geometry.specs.Layout.{address_of}
+use Rattle.directory.specs.Directories.{sectors_of, slot_at, found}
+use Rattle.directory.proofs.FoundLaws.{found-some, found-none}
 use Rattle.directory.proofs.Track18Laws.{number-18}
 use Rattle.diskcheck.specs.SlotChecks.{image_slot}
 use Rattle.finding.specs.FileSlots.{slot_empty, CheckedSlots}
@@ -31,20 +32,16 @@ use Rattle.bam.specs.MapSector.{map_entries}
 use Rattle.bam.proofs.FollowLaws.{expects-loaded, marked_free-expected}
 use Rattle.placement.specs.Placements.{Placed, directory_place}
 use Rattle.placement.proofs.PlaceLaws.{MarksFree, few-places, places_count, places-few, places-named, directory-none, directory-lowest}
-use Rattle.storing.specs.declared.room.Room.{Room}
-use Rattle.storing.specs.declared.room.Room.TheVariants.{At, Full}
+use Rattle.storing.specs.declared.room.EntryPlace.{EntryPlace}
 use Rattle.storing.specs.Plans.{PlaceReady}
 use Rattle.storing.specs.Decisions.{Needed, slot_place, new_place, room_at, room_for, RoomIs, DirectoryChecked, RoomAsked}
 
 -- ---- the sectors needed
 
-pub needed-none : {size : ℕ} → size ≡ 0 → Needed size 1
+pub needed : {size n : ℕ} → size ≤ 190246 → {k : ℕ} → k ≡ size / 254 + min 1 (size % 254) → n ≡ max k 1 → Needed size n
 unfolding sectors_needed
-needed-none {size} e = record { is = rw (eq-eqb size 0 e); some = omega arith; few = omega arith }
-
-pub needed-some : {size : ℕ} → (size ≡ 0 → ⊥) → size ≤ 190246 → Needed size ((size + 253) / 254)
-unfolding sectors_needed
-needed-some {size} e h = record { is = rw (ne_eqb size 0 e); some = omega arith; few = omega arith }
+needed {size = zero} h ke e = record { is = omega arith; some = omega arith; few = omega arith }
+needed {size = suc size} h ke e = record { is = rw (ne_eqb (suc size) 0 (λ e. omega arith)) (omega arith); some = omega arith; few = omega arith }
 
 -- more bytes than 749 sectors hold
 needed-many : {size : ℕ} → 190246 < size → 749 < sectors_needed size
@@ -113,20 +110,20 @@ module _ (g : Geometry) (kn : Known g) where
     unfolding slot_place_for first
     place-new e r l f = rw (e, f, slot_place_for)
 
-  -- what the code returns, by its tests
-  module _ (b : Bytes) (ss : List ℕ) (end : ℕ) (es : Entries) {k : ℕ} (is : k ≡ slot_empty b ss 0 end) where
-    pub room-slot : k < end → At (slot_place ss k) ≡ room_for g b ss end es
+  -- what the code returns, by what it finds
+  module _ (b : Bytes) (ss : List ℕ) (end : ℕ) (es : Entries) where
+    pub room-slot : {k : ℕ} → Some k ≡ found end (slot_empty b ss 0 end) → Some (slot_place ss k) ≡ room_for g b ss end es
     unfolding room_for room_at
-    room-slot h = rw (← is) (rw (lt-ltb k end h))
+    room-slot e = rw (← e)
 
-    module _ (full : end ≤ k) {n : ℕ} (place : n ≡ directory_place g es) where
-      pub room-none : n ≡ 0 → Full ≡ room_for g b ss end es
+    module _ (full : None ≡ found end (slot_empty b ss 0 end)) where
+      pub room-none : None ≡ directory_place g es → None ≡ room_for g b ss end es
       unfolding room_for room_at
-      room-none e = rw (← is, ← place) (rw (le-ltb k end full, eq-eqb n 0 e))
+      room-none e = rw (← full, ← e)
 
-      pub room-new : (n ≡ 0 → ⊥) → At (new_place n) ≡ room_for g b ss end es
+      pub room-new : {at : Place} → Some at ≡ directory_place g es → Some (new_place at) ≡ room_for g b ss end es
       unfolding room_for room_at
-      room-new e = rw (← is, ← place) (rw (le-ltb k end full, ne_eqb n 0 e))
+      room-new e = rw (← full, ← e)
 
   module _ {img : Bytes} {ss : List ℕ} (count : ℕ) (there : CheckedSlots g img ss (8 * count)) (whole : count ≤ length ss)
       (sectors : sectors_of ss count ≡ directory_sectors g (disk img))
@@ -143,41 +140,33 @@ module _ (g : Geometry) (kn : Known g) where
       abbrev es : Entries
       es = map_entries g (disk img (sector_number g map_address))
 
-      sector-none : directory_place g es ≡ 0 → slot_place_for g (disk img) ≡ refused directory_full
+      sector-none : directory_place g es ≡ None → slot_place_for g (disk img) ≡ refused directory_full
       sector-none e = place_none (disk img) none ((directory-none g kn (marks-free there.accepted bytes)).0 e)
 
-      sector-ready : (directory_place g es ≡ 0 → ⊥) → PlaceReady g img (new_place (directory_place g es))
-      sector-ready e =
+      sector-ready : {at : Place} → directory_place g es ≡ Some at → PlaceReady g img (new_place at)
+      sector-ready {at} e =
           let f = directory-lowest g kn (marks-free there.accepted bytes) e in
-          let z : f.sector ≡ directory_place g es % 256 = omega (arith, f.number, f.small) in
           record {
-            place = in_new_sector (address 18 f.sector);
-            found = place-new (disk img) none (address 18 f.sector) f.others f.free;
-            is =
-                (refl, ap (address 18) z, refl);
+            place = in_new_sector (address_of at);
+            found = place-new (disk img) none (address_of at) f.others f.free;
+            is = (refl, ap (λ (t : ℕ). address t at.sector) f.track, refl);
           }
 
-    room-decided : (k n : ℕ) → k ≡ slot_empty (lent_track18 img) ss 0 (8 * count) → n ≡ directory_place g (map_entries g (disk img (sector_number g map_address)))
-        → RoomIs g img (room_at ss (8 * count) k n)
+    room-decided : (r : Option ℕ) (s : Option Place) → r ≡ found (8 * count) (slot_empty (lent_track18 img) ss 0 (8 * count))
+        → directory_place g (map_entries g (disk img (sector_number g map_address))) ≡ s → RoomIs g img (room_at ss r s)
     unfolding room_at
-    room-decided k n is place = slot (ltb k (8 * count)) refl
-      where
-        sector : (t : Bool) → eqb n 0 ≡ t → empty_slots g (disk img) ≡ [] → RoomIs g img (cond t Full (At (new_place n)))
-        sector true e none = sector-none none (sym place ∙ eqb-true n 0 e)
-        sector false e none = rw place (sector-ready none (λ z. eqb-false n 0 e (place ∙ z)))
-
-        slot : (t : Bool) → ltb k (8 * count) ≡ t → RoomIs g img (cond t (At (slot_place ss k)) (cond (eqb n 0) Full (At (new_place n))))
-        slot true e = slot-ready k is (ltb-true k (8 * count) e)
-        slot false e = sector (eqb n 0) refl (empty-none g kn count there sectors whole is (ltb-false k (8 * count) e))
+    room-decided (Some k) s e place = let f = found-some e in slot-ready k f.0 f.1
+    room-decided None (Some at) e place = sector-ready (empty-none g kn count there sectors whole refl (found-none e)) place
+    room-decided None None e place = sector-none (empty-none g kn count there sectors whole refl (found-none e)) place
 
   -- ROOM FOR THE ENTRY is where the definitions have it
-  pub room-is : {img ss : List ℕ} {count : ℕ} {es : Entries} {room : Room} → RoomAsked g img ss count es
-      → room ≡ room_for g (lent_track18 img) ss (8 * count) es → RoomIs g img room
+  pub room-is : {img ss : List ℕ} {count : ℕ} {es : Entries} {room : Option EntryPlace} → RoomAsked g img ss count es
+      → {b : Bytes} → b ≡ lent_track18 img → room ≡ room_for g b ss (8 * count) es → RoomIs g img room
   unfolding room_for
-  room-is {img} {ss} {count} {es} a is =
+  room-is {img} {ss} {count} {es} a lent is =
       let d = a.directory in
-      rw is (room-decided count d.slots d.whole d.sectors d.bytes (slot_empty (lent_track18 img) ss 0 (8 * count)) (directory_place g es) refl
-      (ap (directory_place g) a.entries))
+      rw (is, lent) (room-decided count d.slots d.whole d.sectors d.bytes (found (8 * count) (slot_empty (lent_track18 img) ss 0 (8 * count)))
+      (directory_place g es) refl (ap (directory_place g) (sym a.entries)))
 
   -- ---- sectors for the content
 
@@ -186,7 +175,7 @@ module _ (g : Geometry) (kn : Known g) where
     marks-of : MarksFree g es (disk img)
     marks-of = rw entries (marks-free accepted bytes)
 
-    module _ {size n r : ℕ} {at at' : List ℕ} (need : Needed size n) (room : n ≤ length at) (placed : Placed g es n at r at') where
+    module _ {size n r : ℕ} {at at' : List Place} (need : Needed size n) (room : n ≤ length at) (placed : Placed g es n at r at') where
       -- fewer sectors than are needed
       pub sectors-few : r < n → length (free_for_files g (disk img)) < sectors_needed size
       sectors-few h = omega (arith, (places-few g kn marks-of room placed).0 h, need.is)
@@ -195,7 +184,7 @@ module _ (g : Geometry) (kn : Known g) where
       pub sectors-enough : n ≤ r → sectors_needed size ≤ length (free_for_files g (disk img))
       sectors-enough h = omega (arith, places_count g kn marks-of room placed, need.is)
 
-      pub sectors-taken : n ≤ r → map unpacked (take n at') ≡ placement g (disk img) (sectors_needed size)
+      pub sectors-taken : n ≤ r → map address_of (take n at') ≡ placement g (disk img) (sectors_needed size)
       sectors-taken h = places-named g kn marks-of room placed (omega (arith, sectors-enough h, need.is)) ∙ ap (placement g (disk img)) need.is
 
   -- more bytes than any disk has room for

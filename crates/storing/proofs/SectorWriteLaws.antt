@@ -1,29 +1,32 @@
 -- One sector of a chain written (01, Chains; Store), and where it lies in the image.
--- In order: bytes copied behind a front that stays; the two kinds of sector; a sector lent on, filled and marked.
-use Prim.Native.Nat.{ℕ, suc, ◌+◌, ◌-◌, ◌*◌, ◌≤◌, ◌<◌}
+-- In order: bytes copied behind a front that stays; a sector filled as the code fills it; where it lies; a sector lent on, filled and marked.
+use Prim.Native.Nat.{ℕ, ◌+◌, ◌-◌, ◌*◌, ◌≤◌, ◌<◌}
 use native.Mathlib.Omega.{arith}
-use native.Mathlib.Numerals.{add-one}
-use mathlib.Core.Path.{◌≡◌, ap, ap₂, ◌∙◌}
+use mathlib.Core.Path.{◌≡◌, sym, ap, ap₂, ◌∙◌}
 use mathlib.Core.Bool.{Bool, true, false}
-use mathlib.Core.List.{List, [], ◌∷◌, ◌++◌, append-nil}
-use lib.ListN.{length, take, drop, set, length-append, length-drop, length-replicate, drop_of_length-le}
-use lib.Seq.{take_all, take-length, drop-drop}
+use mathlib.Core.List.{[], ◌++◌, append-nil, append_assoc}
+use lib.ListN.{length, take, drop, length-append, length-take, length-drop, length-replicate, drop_of_length-le}
+use lib.Seq.{take_all, take-length, take_at, drop-drop}
+use borrow.Rule.Slice.PartMut.{put_mid}
 use Rattle.d64spec.specs.Lists.{Bytes, splice, zeros}
+use Rattle.d64spec.specs.Answers.{Address}
 use Rattle.d64spec.specs.Geometry.{Geometry, total, on_disk, sector_number}
 use Rattle.d64spec.specs.Image.{disk}
 use Rattle.d64spec.proofs.BoundLaws.{sector_number-lt}
-use Rattle.geometry.specs.Layout.{unpacked, number_by, IsFirsts}
+use Rattle.geometry.specs.declared.Layout.{Layout}
+use Rattle.geometry.specs.Layout.{geometry_of, firsts, number_by}
+use Rattle.geometry.proofs.LentTableLaws.{number-known}
 use Rattle.sectors.specs.Sectors.{Inside, with_sector}
 use Rattle.sectors.proofs.SectorLaws.{length-with_sector, disk-with_sector, sector-back}
 use Rattle.bam.specs.MapEntry.{Entries}
 use Rattle.bam.specs.Bam.{moved_mark}
 use Rattle.parts.proofs.OverwriteLaws.{lent_back}
-use Rattle.parts.proofs.PartLaws.{drop-replicate}
-use Rattle.storing.specs.Writes.{last_sector, StartsAt, SectorReady, SectorWritten}
+use Rattle.storing.specs.Writes.{chain_sector, StartsAt, SectorReady, SectorWritten}
 
 -- what comes back of a loan of the bytes of t from a on when c is copied over the first of them, and when it is copied over all of them
 module _ (t c : Bytes) (a : ℕ) where
-  pub rest-copied : a + length c ≤ length t → {p : Bytes} → p ≡ take (length c) c ++ drop (length c) (take (length t - a) (drop a t)) → take a t ++ (p ++ drop (length t - a) (drop a t)) ≡ splice t a c
+  pub rest-copied : a + length c ≤ length t → {p : Bytes} → p ≡ take (length c) c ++ drop (length c) (take (length t - a) (drop a t))
+      → take a t ++ (p ++ drop (length t - a) (drop a t)) ≡ splice t a c
   rest-copied fits {p} e =
       let all : take (length t - a) (drop a t) ≡ drop a t = take_all (length t - a) (drop a t) (omega (arith, length-drop a t)) in
       let none : drop (length t - a) (drop a t) ≡ [] = drop_of_length-le (drop a t) {i = length t - a} (omega (arith, length-drop a t)) in
@@ -34,54 +37,69 @@ module _ (t c : Bytes) (a : ℕ) where
   pub rest_filled : a + length c ≡ length t → {p : Bytes} → p ≡ c → take a t ++ (p ++ drop (length t - a) (drop a t)) ≡ splice t a c
   rest_filled fits {p} e = rw e (lent_back t a (length t - a) c (omega arith))
 
--- ---- the two kinds of sector
+-- ---- a sector filled
 
--- the two link bytes set, and 254 bytes behind them
-pub linked-filled : (s c : Bytes) (x y : ℕ) → length s ≡ 256 → length c ≡ 254 → splice (set (set s 0 x) 1 y) 2 c ≡ x ∷ y ∷ c
-linked-filled [] c x y h k = absurd (omega arith)
-linked-filled (a ∷ []) c x y h k = absurd (omega arith)
-linked-filled (a ∷ b ∷ s) c x y h k =
-    let none : drop (2 + length c) (x ∷ y ∷ s) ≡ [] = drop_of_length-le (x ∷ y ∷ s) {i = 2 + length c} (omega arith) in
-    ap (λ (z : Bytes). x ∷ y ∷ (c ++ z)) none ∙ ap (λ (z : Bytes). x ∷ y ∷ z) (append-nil c)
+-- the two link bytes, the content behind them, and zeros up to the sector's end
+module _ (s link c : Bytes) {a b : Bytes} (size : length s ≡ 256) (two : length link ≡ 2) (few : length c ≤ 254) (ae : a ≡ link) (be : b ≡ c) where
+  -- where the content ends, and the sector when it is put
+  abbrev end : ℕ
+  end = length c + 2
 
--- 00 and the last used byte, and at most 254 bytes behind them
-pub last-filled : (t c : Bytes) → t ≡ zeros 256 → length c ≤ 254 → splice (set t 1 (length c + 1)) 2 c ≡ last_sector c
-last-filled t c e k =
-    let two : 2 + length c ≡ suc (suc (length c)) = omega arith in
-    ap (λ (z : Bytes). splice (set z 1 (length c + 1)) 2 c) e
-    ∙ ap₂ (λ (n m : ℕ). 0 ∷ n ∷ (c ++ drop m (0 ∷ n ∷ zeros 254))) (add-one (length c)) two
-    ∙ ap (λ (z : Bytes). 0 ∷ suc (length c) ∷ (c ++ z)) (drop-replicate (length c) 254 0 k)
+  abbrev put : Bytes
+  put = put_mid 2 (end - 2) (a ++ drop 2 s) b
 
-pub length-last_sector : (c : Bytes) → length c ≤ 254 → length (last_sector c) ≡ 256
-length-last_sector c k = omega (arith, length-append c (zeros (254 - length c)), length-replicate {A = ℕ} (254 - length c) 0)
+  put-is : put ≡ (link ++ c) ++ drop (end - 2) (drop 2 (a ++ drop 2 s))
+  put-is =
+      let r : Bytes = drop (end - 2) (drop 2 (a ++ drop 2 s)) in
+      let front : take 2 (a ++ drop 2 s) ≡ a = take_at a (drop 2 s) 2 (ap length ae ∙ two) in
+      ap₂ (λ (x y : Bytes). x ++ (y ++ r)) (front ∙ ae) be ∙ sym (append_assoc link c r)
+
+  length-put : length put ≡ 256
+  length-put = simp (length-append, length-take, length-drop) (omega (arith, ap length ae, ap length be))
+
+  pub sector-filled : {z : Bytes} → z ≡ zeros (length (take (length put - end) (drop end put)))
+      → put_mid end (length put - end) put z ≡ chain_sector link c
+  sector-filled {z} ze =
+      let rest : Bytes = drop (end - 2) (drop 2 (a ++ drop 2 s)) in
+      let front : take end put ≡ link ++ c = ap (take end) put-is ∙ take_at (link ++ c) rest end (omega (arith, length-append link c)) in
+      let none : drop (length put - end) (drop end put) ≡ [] = drop_of_length-le (drop end put) {i = length put - end} (omega (arith, length-drop end put)) in
+      let many : length (take (length put - end) (drop end put)) ≡ 254 - length c = simp (length-take, length-drop) (omega (arith, length-put)) in
+      ap₂ (λ (x y : Bytes). x ++ (z ++ y)) front none
+      ∙ ap (λ (x : Bytes). (link ++ c) ++ x) (append-nil z ∙ ze ∙ ap (λ (k : ℕ). zeros k) many) ∙ append_assoc link c (zeros (254 - length c))
+
+length-chain_sector : (link c : Bytes) → length link ≡ 2 → length c ≤ 254 → length (chain_sector link c) ≡ 256
+length-chain_sector link c two few = simp (length-append, length-replicate) (omega arith)
 
 -- ---- where it lies
 
-module _ (g : Geometry) (place : ℕ) (on : on_disk g (unpacked place) ≡ true) where
-  inside : sector_number g (unpacked place) < total g
-  inside = sector_number-lt g (unpacked place) on
+module _ (layout : Layout) (r : Address) (on : on_disk (geometry_of layout) r ≡ true) {n : ℕ} (is : n ≡ number_by firsts r) where
+  number-is : n ≡ sector_number (geometry_of layout) r
+  number-is = is ∙ number-known layout r on
 
-  pub number_at : {firsts : List ℕ} {n : ℕ} → IsFirsts g firsts → n ≡ number_by firsts (unpacked place) → n < total g
-  number_at f e = omega (arith, inside, e ∙ f.agrees (unpacked place) on)
+  pub number_at : n < total (geometry_of layout)
+  number_at = omega (arith, number-is, sector_number-lt (geometry_of layout) r on)
 
-  pub starts-at : {firsts : List ℕ} {n : ℕ} → IsFirsts g firsts → n ≡ number_by firsts (unpacked place) → StartsAt g place (256 * n)
-  starts-at {n = n} f e = record { start = ap (λ (k : ℕ). 256 * k) (e ∙ f.agrees (unpacked place) on); inside = omega (arith, number_at f e) }
+  pub starts-at : StartsAt (geometry_of layout) r (256 * n)
+  starts-at = record { start = ap (λ (k : ℕ). 256 * k) number-is; inside = omega (arith, number_at) }
 
--- a sector lent on, filled with s and marked
-module _ (g : Geometry) {img : Bytes} {place start : ℕ} {firsts : List ℕ} (r : SectorReady g img place firsts) (at : StartsAt g place start) where
+-- ---- a sector lent on, filled and marked
+
+module _ (g : Geometry) {img : Bytes} {r : Address} {start : ℕ} (ready : SectorReady g img r) (at : StartsAt g r start) where
   -- how wide the code lends the sector
   abbrev width : ℕ
   width = start + 256 - start
 
-  pub sector-written : {s p : Bytes} {es es' : Entries} {mark : Bool} → p ≡ s → length s ≡ 256 → es' ≡ moved_mark mark (unpacked place) es → mark ≡ false
-      → SectorWritten g img place s es (take start img ++ (p ++ drop width (drop start img))) es'
-  sector-written {s} {p} {es} e size marks used =
-      let n : ℕ = sector_number g (unpacked place) in
-      let fits : Inside img n = omega (arith, r.size, at.start, at.inside) in
+  pub sector-written : (link c : Bytes) {p : Bytes} {es es' : Entries} {mark : Bool} → length link ≡ 2 → length c ≤ 254 → p ≡ chain_sector link c
+      → es' ≡ moved_mark mark r es → mark ≡ false → SectorWritten g img r (chain_sector link c) es (take start img ++ (p ++ drop width (drop start img))) es'
+  sector-written link c {p} {es} two few e marks used =
+      let n : ℕ = sector_number g r in
+      let s : Bytes = chain_sector link c in
+      let size : length s ≡ 256 = length-chain_sector link c two few in
+      let fits : Inside img n = omega (arith, ready.size, at.start, at.inside) in
       let back : take start img ++ (p ++ drop width (drop start img)) ≡ with_sector img n s
       = sector-back img n at.start fits e size in
       record {
         size = ap length back ∙ length-with_sector img n s;
         laid = ap disk back ∙ disk-with_sector img n s fits size;
-        marks = marks ∙ ap (λ (b : Bool). moved_mark b (unpacked place) es) used;
+        marks = marks ∙ ap (λ (b : Bool). moved_mark b r es) used;
       }

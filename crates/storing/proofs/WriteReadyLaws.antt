@@ -26,7 +26,9 @@ use Rattle.d64spec.proofs.ScratchLaws.{claim_count-of, of-count}
 use Rattle.d64spec.proofs.SplitLaws.{all-mem, mem-filter}
 use Rattle.d64spec.proofs.AllocationLaws.{sectors-on}
 use Rattle.d64spec.proofs.StoreStep.{Taken, placement-taken, placement-length, some-sector, slot-place, PlaceCase, place-case}
-use Rattle.geometry.specs.Layout.{unpacked, IsFirsts}
+use Rattle.geometry.specs.declared.Address.{Address as Place}
+use Rattle.geometry.specs.Layout.{address_of}
+use Rattle.storing.specs.declared.NewFile.{NewFile}
 use Rattle.storing.specs.declared.room.EntryPlace.{EntryPlace}
 use Rattle.storing.specs.Plans.{PlaceIs, WriteReady}
 use Rattle.storing.specs.Writes.{ChainReady, EntryReady}
@@ -65,34 +67,33 @@ module _ (g : Geometry) (kn : Known g) where
       = of-all (sector_number g) (λ n. n < total g) l (all_map (λ r h. sector_number-lt g r h) l t.on) in
       omega (arith, pigeon (total g) (map (sector_number g) l) on t.few, length-map l (sector_number g))
 
-  module _ {img name : Bytes} {kind : ℕ} {bs places : List ℕ} {p : EntryPlace} {last : ℕ} {es : List Bytes}
-      (w : WriteReady g img name kind bs places p last es) where
-    pub places-taken : Taken g (disk img) (map unpacked places)
-    places-taken = subst (Taken g (disk img)) (sym w.taken) (placement-taken g (disk img) (sectors_needed (length bs)))
+  module _ {img : Bytes} {f : NewFile} {places : List Place} {p : EntryPlace} {last : ℕ} {es : List Bytes}
+      (w : WriteReady g img f places p last es) where
+    pub places-taken : Taken g (disk img) (map address_of places)
+    places-taken = subst (Taken g (disk img)) (sym w.taken) (placement-taken g (disk img) (sectors_needed (length f.content.now)))
 
-    pub length-refs : length (map unpacked places) ≡ sectors_needed (length bs)
-    length-refs = ap length w.taken ∙ placement-length g (disk img) (sectors_needed (length bs)) w.room
+    pub length-refs : length (map address_of places) ≡ sectors_needed (length f.content.now)
+    length-refs = ap length w.taken ∙ placement-length g (disk img) (sectors_needed (length f.content.now)) w.room
 
-    pub length-places : length places ≡ sectors_needed (length bs)
-    length-places = sym (length-map places unpacked) ∙ length-refs
+    pub length-places : length places ≡ sectors_needed (length f.content.now)
+    length-places = sym (length-map places address_of) ∙ length-refs
 
     pub places-some : 1 ≤ length places
-    places-some = omega (arith, some-sector (length bs), length-places)
+    places-some = omega (arith, some-sector (length f.content.now), length-places)
 
     pub places-few : length places < 65536
-    places-few = omega (arith, taken-few places-taken, length-map places unpacked, kn.most)
+    places-few = omega (arith, taken-few places-taken, length-map places address_of, kn.most)
 
     pub image-size : length img ≡ 256 * total g
     image-size = w.ready.accepted.size
 
-    pub chain-ready : {firsts : List ℕ} → IsFirsts g firsts → ChainReady g img places bs firsts
-    chain-ready f = record {
+    pub chain-ready : ChainReady g img places f.content.now
+    chain-ready = record {
       size = image-size;
-      on = all-images unpacked (λ r. on_disk g r ≡ true) places places-taken.on;
+      on = all-images address_of (λ r. on_disk g r ≡ true) places places-taken.on;
       some = places-some;
-      room = omega (arith, needed-room (length bs), length-places);
-      full = omega (arith, needed-full (length bs), length-places);
-      numbers = f;
+      room = omega (arith, needed-room (length f.content.now), length-places);
+      full = omega (arith, needed-full (length f.content.now), length-places);
     }
 
   -- ---- the place of the entry
@@ -161,8 +162,8 @@ module _ (g : Geometry) (kn : Known g) where
               omega (arith, f.1, claim_count-of g d (sector_number g r));
         }
 
-  module _ {img name : Bytes} {kind : ℕ} {bs places : List ℕ} {p : EntryPlace} {last : ℕ} {es : List Bytes}
-      (w : WriteReady g img name kind bs places p last es) where
+  module _ {img : Bytes} {f : NewFile} {places : List Place} {p : EntryPlace} {last : ℕ} {es : List Bytes}
+      (w : WriteReady g img f places p last es) where
     pub place_found : PlaceCase g (disk img) w.place.place
     place_found = place-case g (disk img) w.place.place w.place.found
 

@@ -12,140 +12,125 @@ ghost use Rattle.d64spec.specs.Reply.{valid_name_argument, files_named};
 ghost use Rattle.d64spec.specs.Call.{store, perform};
 ghost use Rattle.answers.specs.Faults.{reply_of};
 ghost use Rattle.finding.specs.FileSlots.{CheckedSlots};
-ghost use Rattle.storing.specs.Decisions.{StoreChecked, StoreNew, StorePlaced};
+ghost use Rattle.storing.specs.Decisions.{store_of, StoreChecked, StoreNew, StorePlaced};
 
-use answers::{Fault, Report, Verdict};
-use geometry::Layout;
-use room::{EntryPlace, Room};
+use answers::{Done, Fault};
+use diskcheck::Checked;
+use entry::Kind;
+use geometry::{Address, Layout};
+use room::EntryPlace;
+
+// A file to be stored.
+#[derive(Drop)]
+struct NewFile<'a> {
+    name: &'a [u8],
+    kind: Kind,
+    content: &'a [u8],
+}
 
 // Whether no file of a checked image has this name; its slots are 0 to end - 1.
 fn is_new(layout: Layout, img: &[u8], name: &[u8], sectors: &[u8; 18], end: usize) -> bool
     requires { CheckedSlots (geometry_of layout) img.now sectors.now end × (valid_name_argument name.now ≡ true) }
     ensures { result ≡ eqb (length (files_named name.now (files (geometry_of layout) (disk img.now)))) 0 }
 {
-    finding::find_named(&img[91392..96256], sectors, name, end) == end
+    finding::find_named(sectors::track18(img), sectors, name, end).is_none()
 }
 
 // Stores the file with its entry at this place of the directory, whose last sector is 18/last; refused with 15 where its sectors are not there.
 fn store_placed(
     layout: Layout,
     img: &mut [u8],
-    name: &[u8],
-    kind: u8,
-    content: &[u8],
+    file: &NewFile,
     place: EntryPlace,
     last: u8,
     map: &[[u8; 4]; 40],
-) -> Report
-    requires { StorePlaced (geometry_of layout) img.old name.now kind place last map.now }
-    ensures { reply_of result img.new [] ≡ perform (geometry_of layout) img.old (store name.now kind content.now) }
+) -> Result<Done, Fault>
+    requires { StorePlaced (geometry_of layout) img.old file.now place last map.now }
+    ensures { reply_of result img.new [] ≡ perform (geometry_of layout) img.old (store_of file.now) }
 {
     // no disk has room for more, and the number of sectors is then not asked for
-    if 190246 < content.len() {
-        return answers::refuse(Fault::DiskFull);
+    if 190246 < file.content.len() {
+        return Err(Fault::DiskFull);
     }
-    let needed = room::sectors_needed(content.len());
-    let mut at = [0u16; 749];
+    let needed = room::sectors_needed(file.content.len());
+    let mut at = [Address {
+        track: 0,
+        sector: 0,
+    }; 749];
     if placement::place_sectors(layout, map, needed, &mut at) < needed {
-        return answers::refuse(Fault::DiskFull);
+        return Err(Fault::DiskFull);
     }
-    writing::write_file(
-        layout,
-        img,
-        name,
-        kind,
-        content,
-        &at[..needed],
-        place,
-        last,
-        map,
-    );
-    Report {
-        verdict: Verdict::Fine,
-        length: content.len() as u32,
+    writing::write_file(layout, img, file, &at[..needed], place, last, map);
+    Ok(Done {
+        length: file.content.len() as u32,
         sectors: needed as u16,
-    }
+    })
 }
 
-// The same for a name that is new on a checked image whose directory has `count` sectors; refused with 14 where there is no room for the entry.
+// The same for a name that is new on a checked image; refused with 14 where there is no room for the entry.
 fn store_new(
     layout: Layout,
     img: &mut [u8],
-    name: &[u8],
-    kind: u8,
-    content: &[u8],
-    sectors: &[u8; 18],
-    count: usize,
-) -> Report
-    requires { StoreNew (geometry_of layout) img.old name.now kind sectors.now count }
-    ensures { reply_of result img.new [] ≡ perform (geometry_of layout) img.old (store name.now kind content.now) }
+    file: &NewFile,
+    checked: &Checked,
+) -> Result<Done, Fault>
+    requires { StoreNew (geometry_of layout) img.old file.now checked.now.sectors checked.now.count }
+    ensures { reply_of result img.new [] ≡ perform (geometry_of layout) img.old (store_of file.now) }
 {
     let map = bam::map_of(layout, img);
-    let room = room::room_in(layout, img, sectors, count, &map);
-    match room {
-        Room::Full => answers::refuse(Fault::DirectoryFull),
-        Room::At(place) => store_placed(
-            layout,
-            img,
-            name,
-            kind,
-            content,
-            place,
-            sectors[count - 1],
-            &map,
-        ),
-    }
+    let Some(place) = room::room_in(layout, img, checked, &map) else {
+        return Err(Fault::DirectoryFull);
+    };
+    let last = checked.sectors[checked.count - 1];
+    store_placed(layout, img, file, place, last, &map)
 }
 
 // The same on a checked image; refused with 11 where the DOS version forbids writing, and with 12 where the name is there.
 fn store_checked(
     layout: Layout,
     img: &mut [u8],
-    name: &[u8],
-    kind: u8,
-    content: &[u8],
-    sectors: &[u8; 18],
-    count: usize,
-) -> Report
-    requires { StoreChecked (geometry_of layout) img.old name.now kind sectors.now count }
-    ensures { reply_of result img.new [] ≡ perform (geometry_of layout) img.old (store name.now kind content.now) }
+    file: &NewFile,
+    checked: &Checked,
+) -> Result<Done, Fault>
+    requires { StoreChecked (geometry_of layout) img.old file.now checked.now.sectors checked.now.count }
+    ensures { reply_of result img.new [] ≡ perform (geometry_of layout) img.old (store_of file.now) }
 {
     if !bam::may_write(layout, img) {
-        return answers::refuse(Fault::WriteForbidden);
+        return Err(Fault::WriteForbidden);
     }
-    if !is_new(layout, img, name, sectors, 8 * count) {
-        return answers::refuse(Fault::NameExists);
+    if !is_new(layout, img, file.name, &checked.sectors, 8 * checked.count) {
+        return Err(Fault::NameExists);
     }
-    store_new(layout, img, name, kind, content, sectors, count)
+    store_new(layout, img, file, checked)
 }
 
 // Stores a new file: its data in the first free sectors in the allocation order, its entry in the first empty slot or in a new directory sector,
 // and the map; reports its length and its number of sectors. Refused with 1, 9, 10, 2 to 8, 11, 12, 14 or 15, in this order; a refusal leaves
-// the image as it was and reports 0 and 0.
-pub fn store_file(layout: Layout, img: &mut [u8], name: &[u8], kind: u32, content: &[u8]) -> Report
+// the image as it was.
+pub fn store_file(
+    layout: Layout,
+    img: &mut [u8],
+    name: &[u8],
+    kind: u32,
+    content: &[u8],
+) -> Result<Done, Fault>
     ensures { reply_of result img.new [] ≡ perform (geometry_of layout) img.old (store name.now kind content.now) }
 {
+    // size and name are asked alike in four calls, and what comes next differs: a store asks the kind, a format runs no check
     if img.len() != geometry::image_size(layout) {
-        return answers::refuse(Fault::WrongSize);
+        return Err(Fault::WrongSize);
     }
     if !names::valid_name_argument(name) {
-        return answers::refuse(Fault::BadNameArgument);
+        return Err(Fault::BadNameArgument);
     }
-    if !entry::storable_kind(kind) {
-        return answers::refuse(Fault::BadKindArgument);
-    }
-    let checked = diskcheck::check_image(layout, img);
-    let verdict = checked.verdict;
-    match verdict {
-        Verdict::Refused(fault) => answers::refuse(fault),
-        Verdict::Fine => store_checked(
-            layout,
-            img,
-            name,
-            kind as u8,
-            content,
-            &checked.sectors,
-            checked.count,
-        ),
-    }
+    let Ok(kind) = Kind::try_from(kind) else {
+        return Err(Fault::BadKindArgument);
+    };
+    let checked = diskcheck::check_image(layout, img)?;
+    let file = NewFile {
+        name,
+        kind,
+        content,
+    };
+    store_checked(layout, img, &file, &checked)
 }

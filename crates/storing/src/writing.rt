@@ -4,129 +4,103 @@
 ghost use Rattle.std.specs.Prelude.{◌≡◌, true, ◌≤◌, ◌<◌, length};
 ghost use Rattle.d64spec.specs.Geometry.{on_disk};
 ghost use Rattle.d64spec.specs.Store.{new_entry};
-ghost use Rattle.geometry.specs.Layout.{geometry_of, unpacked, IsFirsts};
+ghost use Rattle.geometry.specs.Layout.{geometry_of, address_of};
+ghost use Rattle.entry.specs.Entry.{number_of_kind};
 ghost use Rattle.storing.specs.Plans.{WriteReady, FileWritten};
-ghost use Rattle.storing.specs.Writes.{linked_sector, last_sector, StartsAt, SectorReady, SectorWritten};
+ghost use Rattle.storing.specs.Writes.{chain_sector, StartsAt, SectorReady, SectorWritten};
 ghost use Rattle.storing.specs.Writes.{ChainReady, ChainWritten, GrowReady, Grown, EntryReady, EntryLaid};
 
+use crate::NewFile;
 use crate::room::EntryPlace;
+use entry::Kind;
 use geometry::{Address, Layout};
 
 // How the map marks a sector that is taken: not free.
 const USED: bool = false;
 
-// A sector of a chain: the link to the next one, and 254 bytes.
-fn fill_linked(sector: &mut [u8], next: u16, content: &[u8])
-    requires { (length sector.old ≡ 256) × (length content.now ≡ 254) }
-    ensures { sector.new ≡ linked_sector (unpacked next) content.now }
-{
-    sector[0] = (next / 256) as u8;
-    sector[1] = (next % 256) as u8;
-    sector[2..].copy_from_slice(content);
-}
-
-// The last sector of a chain: 00, the number of its last used byte, at most 254 bytes, and zeros.
-fn fill_last(sector: &mut [u8], content: &[u8])
+// A sector of a chain: two link bytes, at most 254 bytes, and zeros.
+fn fill_sector(sector: &mut [u8], link: [u8; 2], content: &[u8])
     requires { (length sector.old ≡ 256) × (length content.now ≤ 254) }
-    ensures { sector.new ≡ last_sector content.now }
+    ensures { sector.new ≡ chain_sector link content.now }
 {
-    let blank = [0u8; 256];
-    sector.copy_from_slice(&blank);
-    sector[1] = (content.len() + 1) as u8;
-    sector[2..2 + content.len()].copy_from_slice(content);
+    let end = content.len() + 2;
+    sector[..2].copy_from_slice(&link);
+    sector[2..end].copy_from_slice(content);
+    sector[end..].fill(0);
 }
 
 // Where the sector at a place starts in the image.
-fn start_of(layout: Layout, place: u16, firsts: &[u16; 40]) -> usize
-    requires { (on_disk (geometry_of layout) (unpacked place) ≡ true) × IsFirsts (geometry_of layout) firsts.now }
-    ensures { StartsAt (geometry_of layout) place result }
+fn start_of(layout: Layout, at: Address) -> usize
+    requires { on_disk (geometry_of layout) (address_of at) ≡ true }
+    ensures { StartsAt (geometry_of layout) (address_of at) result }
 {
-    let at = Address {
-        track: (place / 256) as u8,
-        sector: (place % 256) as u8,
-    };
-    256 * geometry::number_by(firsts, at)
+    256 * geometry::number_of(at)
 }
 
-// Writes the last sector of a chain at its place, and marks it used in the map.
-fn write_last(
+// Writes a sector of a chain at its place, and marks it used in the map.
+fn write_sector(
     layout: Layout,
     img: &mut [u8],
-    place: u16,
+    at: Address,
+    link: [u8; 2],
     content: &[u8],
     map: &mut [[u8; 4]; 40],
-    firsts: &[u16; 40],
 )
-    requires { SectorReady (geometry_of layout) img.old place firsts.now × (length content.now ≤ 254) }
-    ensures { SectorWritten (geometry_of layout) img.old place (last_sector content.now)
+    requires { SectorReady (geometry_of layout) img.old (address_of at) × (length content.now ≤ 254) }
+    ensures { SectorWritten (geometry_of layout) img.old (address_of at) (chain_sector link content.now)
         map.old img.new map.new }
 {
-    let start = start_of(layout, place, firsts);
-    fill_last(&mut img[start..start + 256], content);
-    bam::move_mark(map, place, USED);
+    let start = start_of(layout, at);
+    fill_sector(&mut img[start..start + 256], link, content);
+    bam::move_mark(map, at, USED);
 }
 
-// Writes a sector of a chain that goes on at `next`, and marks it used in the map.
-fn write_linked(
-    layout: Layout,
-    img: &mut [u8],
-    place: u16,
-    next: u16,
-    content: &[u8],
-    map: &mut [[u8; 4]; 40],
-    firsts: &[u16; 40],
-)
-    requires { SectorReady (geometry_of layout) img.old place firsts.now × (length content.now ≡ 254) }
-    ensures { SectorWritten (geometry_of layout) img.old place (linked_sector (unpacked next) content.now)
-        map.old img.new map.new }
-{
-    let start = start_of(layout, place, firsts);
-    fill_linked(&mut img[start..start + 256], next, content);
-    bam::move_mark(map, place, USED);
-}
-
-// Lays the data along the sectors at these places, and marks them used in the map.
+// Lays the data along the sectors at these places, and marks them used in the map. The last one's link is 00 and the number of its last used byte.
 fn write_chain(
     layout: Layout,
     img: &mut [u8],
-    places: &[u16],
+    places: &[Address],
     content: &[u8],
     map: &mut [[u8; 4]; 40],
-    firsts: &[u16; 40],
 )
-    requires { ChainReady (geometry_of layout) img.old places.now content.now firsts.now }
+    requires { ChainReady (geometry_of layout) img.old places.now content.now }
     ensures { ChainWritten (geometry_of layout) img.old places.now content.now
         map.old img.new map.new }
 {
-    let mut i = places.len() - 1;
-    write_last(layout, img, places[i], &content[254 * i..], map, firsts);
-    while 0 < i {
-        let next = places[i];
-        i -= 1;
-        write_linked(
+    let last = places.len() - 1;
+    let rest = &content[254 * last..];
+    write_sector(
+        layout,
+        img,
+        places[last],
+        [0, (rest.len() + 1) as u8],
+        rest,
+        map,
+    );
+    for i in (0..last).rev() {
+        let next = places[i + 1];
+        write_sector(
             layout,
             img,
             places[i],
-            next,
+            [next.track, next.sector],
             &content[254 * i..254 * i + 254],
             map,
-            firsts,
         );
     }
 }
 
 // Bytes 02 to 1F of the new entry: $80 + kind, first sector, name, nine zeros, count.
-fn new_entry(name: &[u8], kind: u8, first: u16, count: usize) -> [u8; 30]
-    requires { (length name.now ≤ 16) × (kind ≤ 2) × (count < 65536) }
-    ensures { result ≡ new_entry name.now kind (unpacked first) count }
+fn new_entry(name: &[u8], kind: Kind, first: Address, count: usize) -> [u8; 30]
+    requires { (length name.now ≤ 16) × (count < 65536) }
+    ensures { result ≡ new_entry name.now (number_of_kind kind) (address_of first) count }
 {
     let mut entry = [0u8; 30];
-    entry[0] = 0x80 + kind;
-    entry[1] = (first / 256) as u8;
-    entry[2] = (first % 256) as u8;
+    entry[0] = 0x80 + kind.number();
+    entry[1] = first.track;
+    entry[2] = first.sector;
     entry[3..19].copy_from_slice(&names::padded_name(name));
-    entry[28] = (count % 256) as u8;
-    entry[29] = (count / 256) as u8;
+    entry[28..].copy_from_slice(&(count as u16).to_le_bytes());
     entry
 }
 
@@ -163,23 +137,25 @@ fn write_entry(layout: Layout, img: &mut [u8], entry: &[u8; 30], place: EntryPla
 pub(crate) fn write_file(
     layout: Layout,
     img: &mut [u8],
-    name: &[u8],
-    kind: u8,
-    content: &[u8],
-    places: &[u16],
+    file: &NewFile,
+    places: &[Address],
     place: EntryPlace,
     last: u8,
     map: &[[u8; 4]; 40],
 )
-    requires { WriteReady (geometry_of layout) img.old name.now kind content.now places.now place last map.now }
-    ensures { FileWritten (geometry_of layout) img.old name.now kind content.now img.new }
+    requires { WriteReady (geometry_of layout) img.old file.now places.now place last map.now }
+    ensures { FileWritten (geometry_of layout) img.old file.now img.new }
 {
     let mut marks = *map;
-    write_chain(layout, img, places, content, &mut marks, &geometry::FIRST);
-    let entry = new_entry(name, kind, places[0], places.len());
+    write_chain(layout, img, places, file.content, &mut marks);
+    let entry = new_entry(file.name, file.kind, places[0], places.len());
     write_entry(layout, img, &entry, place, last);
     if place.grown {
-        bam::move_mark(&mut marks, 18 * 256 + place.sector as u16, USED);
+        let at = Address {
+            track: 18,
+            sector: place.sector,
+        };
+        bam::move_mark(&mut marks, at, USED);
     }
     bam::write_map(layout, img, &marks);
 }

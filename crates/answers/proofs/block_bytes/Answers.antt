@@ -4,4 +4,4 @@ use Rattle.answers.proofs.AnswerLaws.{block-bytes-of}
 use Rattle.answers.proofs.block_bytes.Goals as goal
 
 pub returns : goal.returns
-returns c = block-bytes-of (meant c.args.answer) c.args.length c.args.sectors
+returns c = rw (c.to_le_bytes.ensures, c.to_le_bytes-2.ensures) (block-bytes-of (meant c.args.answer) c.args.done.length c.args.done.sectors)

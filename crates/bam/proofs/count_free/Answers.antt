@@ -20,7 +20,5 @@ nonzero_rem-result c = shifted-some (few c) (omega arith) (omega arith)
 
 pub returns : goal.returns
 returns c =
-    let s = c in
-    let own = c.own_bits in
-    ones-own s.args.entry (entry-shaped _ _ c.well_formed.0) s.args.counts.now s.args.track own.result
-    (omega (arith, c.bitmap_of.ensures)) (omega (arith, own.ensures)) (omega (arith, power_le own.result (few c)))
+    ones-own c.args.entry (entry-shaped _ _ c.well_formed.0) c.args.sectors c.own_bits.result
+    (omega (arith, c.bitmap_of.ensures)) (omega (arith, c.own_bits.ensures)) (omega (arith, power_le c.own_bits.result (few c)))

@@ -5,7 +5,4 @@ use Rattle.bam.proofs.LoadLaws.{loaded-copied}
 use Rattle.bam.proofs.load_map.Goals as goal
 
 pub returns : goal.returns
-returns c =
-    let over = c in
-    let s = over in
-    c.load_whole-2.ensures ∙ loaded-copied _ (known_of s.args.layout) _ over.clipped.ensures over.overwrite.ensures
+returns c = c.load_whole-2.ensures ∙ loaded-copied _ (known_of c.args.layout) _ c.clipped.ensures c.overwrite.ensures

@@ -1,5 +1,4 @@
--- `bam::load_run`. The loop keeps `Loading`: with the entries that are left, the map becomes the one that the run makes. What falls is their number.
--- Assumes nothing.
+-- `bam::load_run`. The loop keeps `Loading`: with the entries that are left, the map becomes the one that the run makes. Assumes nothing.
 use native.Mathlib.Omega.{arith}
 use Rattle.bam.specs.MapSector.{four_bytes}
 use Rattle.bam.proofs.LoadLaws.{loading-moved, loading-finished}

@@ -1,18 +1,14 @@
 -- `bam::load_whole`: one run of entries, and a second where the layout has one. Assumes nothing.
 use native.Mathlib.Omega.{arith}
+use mathlib.Core.Path.{sym, ◌∙◌}
 use Rattle.bam.proofs.LoadLaws.{loaded-front, loaded-both}
 use Rattle.bam.proofs.load_whole.Goals as goal
 
-pub returns-then-extra-ne0 : goal.returns-then-extra-ne0
-returns-then-extra-ne0 c =
-    let known = c in
-    let s = known in
-    loaded-both s.args.layout _ known.load_run.ensures c.load_run-then-extra-ne0.ensures
-    (omega arith) (omega arith) (omega arith) (omega arith) (omega arith) (omega (arith, known.extra_entries-extra.ensures))
-    (λ z. omega (arith, known.extra_entries-extra.ensures))
+pub returns-in-Some : goal.returns-in-Some
+returns-in-Some c =
+    loaded-both c.args.layout _ c.load_run.ensures c.load_run-in-Some.ensures
+    (omega arith) (omega arith) (omega arith) (omega arith) (omega arith) (omega arith) (sym c.extra_entries.ensures ∙ c.in-Some.is)
 
-pub returns-else-extra-ne0 : goal.returns-else-extra-ne0
-returns-else-extra-ne0 c =
-    let known = c in
-    loaded-front known.args.layout _ known.load_run.ensures
-    (omega arith) (omega arith) (omega arith) (omega (arith, known.extra_entries-extra.ensures))
+pub returns-in_default : goal.returns-in_default
+returns-in_default c =
+    loaded-front c.args.layout _ c.load_run.ensures (omega arith) (omega arith) (omega arith) (sym c.extra_entries.ensures ∙ c.in_default.is)

@@ -1,5 +1,6 @@
--- `bam::moved_entry`: the bitmap is one number, to which a bit is added or its complement; the entry made of it is the definition's.
+-- `bam::moved_entry`: the bitmap is one number, to which a bit is added or from which it is taken; the entry made of it is the definition's.
 -- Assumes nothing.
+use Prim.Native.Nat.{◌≤◌}
 use native.Mathlib.Omega.{arith}
 use Rattle.d64spec.proofs.BitLaws.{power_le, shifted}
 use Rattle.bam.proofs.BitmapLaws.{bitmap-lt}
@@ -12,27 +13,14 @@ returns-then-sector-ge24 c = moved-past _ _ _ (omega arith)
 
 pub overflow_add-bits : goal.overflow_add-bits
 overflow_add-bits c =
-    let s = c in
-    omega (arith, c.bitmap_of-bits.ensures, bitmap-lt _ (entry-shaped _ _ c.well_formed.0), power_le s.args.sector (omega arith), shifted s.args.sector (omega arith))
+    let s : c.args.sector ≤ 24 = omega arith in
+    omega (arith, c.bitmap_of-bits.ensures, bitmap-lt _ (entry-shaped _ _ c.well_formed.0), power_le c.args.sector s, shifted c.args.sector s)
 
 pub returns-then-free : goal.returns-then-free
 returns-then-free c =
-    let at = c in
-    let n = at.args.sector in
-    moved-free _ _ (omega arith) c.entry_of.ensures c.if-free.true (omega arith) (omega (arith, at.bitmap_of-bits.ensures, shifted n (omega arith)))
+    moved-free _ _ (omega arith) c.entry_of.ensures c.if-free.true (omega arith) (omega (arith, c.bitmap_of-bits.ensures, shifted c.args.sector (omega arith)))
 
-pub overflow_sub-bit : goal.overflow_sub-bit
-overflow_sub-bit c =
-    let s = c in
-    omega (arith, power_le s.args.sector (omega arith), shifted s.args.sector (omega arith))
-
-pub overflow_add-bits-2 : goal.overflow_add-bits-2
-overflow_add-bits-2 c =
-    let s = c in
-    omega (arith, c.bitmap_of-bits.ensures, bitmap-lt _ (entry-shaped _ _ c.well_formed.0), power_le s.args.sector (omega arith), shifted s.args.sector (omega arith))
-
-pub returns : goal.returns
-returns c =
-    let at = c in
-    let n = at.args.sector in
-    moved-used _ _ (omega arith) c.entry_of-2.ensures c.if-free.false (omega arith) (omega (arith, at.bitmap_of-bits.ensures, shifted n (omega arith)))
+pub returns-else-free : goal.returns-else-free
+returns-else-free c =
+    moved-used _ _ (omega arith) c.entry_of-else-free.ensures c.if-free.false (omega arith)
+    (omega (arith, c.bitmap_of-bits.ensures, shifted c.args.sector (omega arith)))

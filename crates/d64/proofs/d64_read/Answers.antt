@@ -1,24 +1,14 @@
--- `d64::d64_read` meets its contract: the block first, then the layout, then the report of the read. Assumes nothing.
+-- `d64::d64_read` meets its contract: the block first, then the reply behind it. Assumes nothing.
 use native.Mathlib.Omega.{arith}
 use Rattle.d64spec.specs.Call.{read, output_buffer}
-use Rattle.d64.proofs.HostLaws.{call-misfit, call-unknown, call_known}
+use Rattle.d64.proofs.HostLaws.{call-misfit, call-nine}
 use Rattle.d64.proofs.d64_read.Goals as goal
 
 pub returns-then-answer-ne-BLOCK_BYTES : goal.returns-then-answer-ne-BLOCK_BYTES
 unfolding output_buffer
 returns-then-answer-ne-BLOCK_BYTES c = let p = c.args in call-misfit _ _ _ (read p.name.now p.out.now) (λ nine. omega arith)
 
-pub returns-in-Unknown : goal.returns-in-Unknown
-unfolding output_buffer
-returns-in-Unknown c =
+pub returns : goal.returns
+returns c =
     let p = c.args in
-    call-unknown p.layout p.image.now p.answer.now (read p.name.now p.out.now) c.layout_numbered-named.ensures _ _ (omega arith)
-    c.in-Unknown.is c.refuse_layout.ensures
-
-pub returns-in-Known : goal.returns-in-Known
-unfolding output_buffer
-returns-in-Known c =
-    let p = c.args in
-    let replied = c.read_file-report.ensures in
-    call_known p.layout p.image.now p.answer.now (read p.name.now p.out.now) c.layout_numbered-named.ensures _ _ (omega arith) _
-    c.in-Known.is c.read_file-report.result p.image.now c.read_file-report.new.out (assumption replied) c.give_answer.ensures
+    call-nine p.layout p.image.now p.answer.now (read p.name.now p.out.now) _ _ _ _ _ (omega arith) c.read_in.ensures c.give_answer.ensures

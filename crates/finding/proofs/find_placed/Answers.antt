@@ -1,18 +1,23 @@
--- `finding::find_placed` meets its contract. The loop keeps that the slot asked for is the one at position `left` among those from k on.
--- The slots that are left fall.
+-- `finding::find_placed` meets its contract: the occupied ones of the slots, counted, are the definition's. Assumes nothing.
 use native.Mathlib.Omega.{arith}
-use Rattle.finding.proofs.FindLaws.{searching-next, placed-empty, placed-next}
+use mathlib.Core.Path.{refl, ◌∙◌}
+use mathlib.Core.Bool.{not}
+use Rattle.std.proofs.Common.{rules, tests}
+use Rattle.std.proofs.lemmas.Iterator.{YieldsList-from_range}
+use Rattle.std.proofs.lemmas.Iterator.Consumers.{nth_from_yields_List, YieldsList-from_filter, YieldsList-at}
+use Rattle.d64spec.specs.Directory.{is_empty}
+use Rattle.directory.specs.Directories.{slot_bytes}
+use Rattle.finding.proofs.FindLaws.{as-found, placed-by_nth}
 use Rattle.finding.proofs.find_placed.Goals as goal
 
-pub loop-k-preserved : goal.loop-k-preserved
-loop-k-preserved c =
+pub returns : goal.returns
+returns c =
     let a = c.args in
-    let l = c.loop-k in
-    let slot = c.slot_at-slot.ensures in
-    let empty = c.is_empty.ensures in
-    searching-next l.invariant (omega arith)
-    (elim c.if-not-is_empty.branch [
-      | goal.then-not-is_empty+else-left-eq0 w ↦
-          rw w.left-is (placed-next a.track18.now a.sectors.now (omega arith) slot empty l.left w.if-not-is_empty.true (omega arith))
-      | goal.else-not-is_empty w ↦ rw w.left-is (placed-empty a.track18.now a.sectors.now (omega arith) slot empty l.left w.if-not-is_empty.false)
-    ])
+    let b = a.track18.now in
+    let ss = a.sectors.now in
+    as-found c.nth.result
+    ∙ nth_from_yields_List c.nth.result c.nth.new.self a.position c.nth.ensures.ran
+    (YieldsList-from_filter _ (λ k. not (is_empty (slot_bytes b ss k)))
+    (YieldsList-at c.filter.ensures.source (YieldsList-from_range 0 a.end a.end refl (omega arith)))
+    c.filter.ensures.closure (λ k r f called. search (rules, tests)))
+    ∙ placed-by_nth b ss a.position a.end a.end 0 (omega arith)

@@ -11,7 +11,7 @@ pub returns-then-img-image_size : goal.returns-then-img-image_size
 unfolding fault_of
 returns-then-img-image_size c =
     let a = c.args in
-    format-refused _ a.img.now a.name.now a.id1 a.id2 WrongSize c.refuse.ensures
+    format-refused _ a.img.now a.name.now a.id1 a.id2 WrongSize
     (format-size _ a.img.now a.name.now a.id1 a.id2 (λ size. omega (arith, c.if-img-image_size.true)))
 
 pub returns-then-not-valid_name_argument : goal.returns-then-not-valid_name_argument
@@ -19,15 +19,14 @@ unfolding fault_of
 returns-then-not-valid_name_argument c =
     let a = c.args in
     let asked = sym c.valid_name_argument.ensures ∙ c.if-not-valid_name_argument.true in
-    format-refused _ a.img.now a.name.now a.id1 a.id2 BadNameArgument c.refuse-then-not-valid_name_argument.ensures
+    format-refused _ a.img.now a.name.now a.id1 a.id2 BadNameArgument
     (format-name _ a.img.now a.name.now a.id1 a.id2 (omega arith) asked)
 
 pub write_fresh-requires : goal.write_fresh-requires
-write_fresh-requires c = (omega arith, name-short _ ((sym c.valid_name_argument.ensures ∙ c.if-not-valid_name_argument.false)))
+write_fresh-requires c = (omega arith, name-short _ (sym c.valid_name_argument.ensures ∙ c.if-not-valid_name_argument.false))
 
 pub returns : goal.returns
 returns c =
-    let w = c in
-    let e = w in
-    let a = e.args in
-    format-done _ a.img.now a.name.now a.id1 a.id2 (omega arith) ((sym e.valid_name_argument.ensures ∙ e.if-not-valid_name_argument.false)) w.write_fresh.ensures c.report_of.ensures
+    let a = c.args in
+    format-done _ a.img.now a.name.now a.id1 a.id2 (omega arith) (sym c.valid_name_argument.ensures ∙ c.if-not-valid_name_argument.false)
+    c.write_fresh.ensures c.default.ensures.0 c.default.ensures.1

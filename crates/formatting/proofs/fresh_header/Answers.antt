@@ -4,8 +4,5 @@ use Rattle.formatting.proofs.fresh_header.Goals as goal
 
 pub returns : goal.returns
 returns c =
-    let w = c in
-    let n = w in
-    let s = n in
-    header-written s.args.name.now s.args.id1 s.args.id2 s.requires
-    n.overwrite.ensures n.padded_name.ensures w.overwrite-2.ensures w.overwrite-3.ensures
+    header-written c.args.name.now c.args.id1 c.args.id2 c.requires
+    c.overwrite.ensures c.padded_name.ensures c.overwrite-2.ensures c.overwrite-3.ensures

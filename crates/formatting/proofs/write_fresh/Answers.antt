@@ -7,13 +7,7 @@ use Rattle.formatting.proofs.write_fresh.Goals as goal
 
 pub returns : goal.returns
 returns c =
-    let w = c in
-    let m = w in
-    let d = m in
-    let e = d in
-    let z = e in
-    let s = z in
-    let k = known_of s.args.layout in
-    fresh-image _ k.valid s.args.name.now s.args.id1 s.args.id2 (z.clear_all.ensures ∙ ap zeros s.requires.0)
-    (directory-number _ k) e.empty_directory_sector-first.ensures d.write_sector.ensures
-    (map-number _ k) m.fresh_map_sector-m.ensures m.fresh_map_sector-m.type_inv.1.0.1 w.write_sector-2.ensures
+    let k = known_of c.args.layout in
+    fresh-image _ k.valid c.args.name.now c.args.id1 c.args.id2 (c.fill.ensures.after (λ y e. e) ∙ ap zeros c.requires.0)
+    (directory-number _ k) c.empty_directory_sector-first.ensures c.write_sector.ensures
+    (map-number _ k) c.fresh_map_sector-m.ensures c.fresh_map_sector-m.type_inv.1.0.1 c.write_sector-2.ensures

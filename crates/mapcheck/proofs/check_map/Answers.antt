@@ -9,7 +9,7 @@ use Rattle.mapcheck.proofs.check_map.Goals as goal
 pub none_wrong-requires : goal.none_wrong-requires
 none_wrong-requires c =
     let shape = map-shaped c.load_map-map.result _ c.load_map-map.type_inv in
-    (c.counts_of-counts.ensures, λ i h. (shape.entry i h).small 0)
+    λ i h. (shape.entry i h).small 0
 
 pub returns-then-none_wrong : goal.returns-then-none_wrong
 unfolding verdict_of

@@ -1,6 +1,7 @@
--- `mapcheck::check_tracks`. The loop keeps `Checking`: the tracks passed are correct, so that the rest decides. What falls is the number of tracks left.
+-- `mapcheck::check_tracks`. The loop keeps `Checking`: the tracks passed are correct, so that the rest decides.
 -- Assumes nothing.
 use native.Mathlib.Omega.{arith}
+use Rattle.std.proofs.lemmas.Result.{err_from_is_err_and}
 use Rattle.geometry.proofs.TableLaws.{known_of}
 use Rattle.answers.specs.Faults.{verdict_of}
 use Rattle.mapcheck.proofs.StepLaws.{checking-start, checking-moved, checking-wrong, checking-finished}
@@ -15,20 +16,17 @@ bounds-map-i c = omega (arith, c.loop-track.invariant.low, c.last_track-last.ens
 pub bounds-used-i : goal.bounds-used-i
 bounds-used-i c = omega (arith, c.loop-track.invariant.low, c.last_track-last.ensures, (known_of c.args.layout).few)
 
-pub returns-in-Refused : goal.returns-in-Refused
+pub returns-in_err-check_track : goal.returns-in_err-check_track
 unfolding verdict_of
-returns-in-Refused c =
-    checking-wrong c.loop-track.invariant (omega (arith, c.last_track-last.ensures)) c.check_track.ensures
-    (omega arith) (omega arith) (rw c.in-Refused.is)
-
-pub overflow_add-track : goal.overflow_add-track
-overflow_add-track c = omega (arith, c.last_track-last.ensures, (known_of c.args.layout).few)
+returns-in_err-check_track c =
+    let p = err_from_is_err_and c.from_residual.result c.from_residual.ensures.1 in
+    rw (p.1, p.2)
+    (checking-wrong c.loop-track.invariant (omega (arith, c.last_track-last.ensures)) c.in_err-check_track.ensures (omega arith) (omega arith))
 
 pub loop-track-preserved : goal.loop-track-preserved
 unfolding verdict_of
 loop-track-preserved c =
-    checking-moved c.loop-track.invariant (omega (arith, c.last_track-last.ensures)) c.check_track.ensures
-    (omega arith) (omega arith) (rw c.in-Fine.is)
+    checking-moved c.loop-track.invariant (omega (arith, c.last_track-last.ensures)) c.in_ok-check_track.ensures (omega arith) (omega arith)
 
 pub returns : goal.returns
 unfolding verdict_of

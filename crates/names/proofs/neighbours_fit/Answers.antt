@@ -1,5 +1,5 @@
 -- `names::neighbours_fit` meets its contract. The loop keeps: no other byte stands behind a $A0 up to here, so that the neighbours from here on decide.
--- What falls is the number of neighbours left to ask. Assumes nothing.
+-- Assumes nothing.
 use mathlib.Core.Path.{◌≡◌, sym, ◌∙◌}
 use Prim.Native.Nat.{ℕ, ◌+◌, ◌≤◌, ◌<◌}
 use native.Mathlib.Omega.{arith}
@@ -25,23 +25,22 @@ neighbours s i whole h = record {
 
 pub returns-then-slot-i-2 : goal.returns-then-slot-i-2
 returns-then-slot-i-2 c =
-    let l = c in
-    let n = neighbours l.args.slot.now l.loop-i.i l.requires.whole (omega arith) in
-    sym (padded_once-broken _ l.loop-i.i n.more (omega arith) (λ e. omega arith)) ∙ l.loop-i.invariant.1
+    let i = c.loop-i.i in
+    let n = neighbours c.args.slot.now i c.requires.whole (omega arith) in
+    sym (padded_once-broken _ i n.more (omega arith) (λ e. omega arith)) ∙ c.loop-i.invariant
 
 pub loop-i-preserved : goal.loop-i-preserved
 loop-i-preserved c =
-    let l = c in
-    let n = neighbours l.args.slot.now l.loop-i.i l.requires.whole (omega arith) in (
-      omega arith,
-      elim c.if-slot-i.branch [
-        | goal.then-slot-i+else-slot-i-2 w ↦ let e = w.if-slot-i-2.false in sym (padded_once-padding _ l.loop-i.i n.more (omega arith)) ∙ l.loop-i.invariant.1
-        | goal.else-slot-i w ↦ let e = w.if-slot-i.false in sym (padded_once-letter _ l.loop-i.i n.more (λ z. omega arith)) ∙ l.loop-i.invariant.1
-      ],
-    )
+    let i = c.loop-i.i in
+    let n = neighbours c.args.slot.now i c.requires.whole (omega arith) in
+    elim c.else-slot-i.branch [
+      | goal.else-slot-i-via-then-slot-i+else-slot-i-2 w ↦
+          let e = w.if-slot-i-2.false in sym (padded_once-padding _ i n.more (omega arith)) ∙ c.loop-i.invariant
+      | goal.else-slot-i-via-else-slot-i w ↦
+          let e = w.if-slot-i.false in sym (padded_once-letter _ i n.more (λ z. omega arith)) ∙ c.loop-i.invariant
+    ]
 
 pub returns : goal.returns
 returns c =
-    let l = c in
-    let all : l.loop-i.i ≡ l.args.end = omega (arith, l.loop-i.invariant.0) in
-    sym l.requires.rest ∙ (rw all at l.loop-i.invariant.1)
+    let all : c.loop-i.i ≡ c.args.end = omega arith in
+    sym c.requires.rest ∙ (rw all at c.loop-i.invariant)

@@ -8,12 +8,13 @@ use Rattle.names.proofs.valid_name.Goals as goal
 pub returns-then-slot-lt19 : goal.returns-then-slot-lt19
 returns-then-slot-lt19 c =
     let s = c.args.slot.now in
-    sym (valid_name-misfit s _ refl (λ e. omega (arith, length-take 16 (drop 3 s), length-drop 3 s)))
-
-pub returns-then-slot : goal.returns-then-slot
-returns-then-slot c =
-    let s = c.args.slot.now in
-    sym (valid_name-first s _ refl (length-name_field s (omega arith)) (omega (arith, byte-name_field s 3 0 (omega arith) (omega arith))))
+    elim c.then-slot-lt19.branch [
+      | goal.then-slot-lt19-via-then-slot-lt19 w ↦ let e = w.if-slot-lt19.true in
+          sym (valid_name-misfit s _ refl (λ z. omega (arith, length-take 16 (drop 3 s), length-drop 3 s)))
+      | goal.then-slot-lt19-via-else-slot-lt19+then-slot w ↦ let e = w.if-slot.true in
+          let whole = length-name_field s (omega (arith, w.if-slot-lt19.false)) in
+          sym (valid_name-first s _ refl whole (omega (arith, byte-name_field s 3 0 (omega arith) (omega arith))))
+    ]
 
 pub returns : goal.returns
 returns c =

@@ -1,16 +1,11 @@
--- `parts::four_at` meets its contract: 0 where there are not four bytes; else the digits are bytes, so that nothing wraps. Assumes nothing.
-use Prim.Native.Nat.{◌+◌}
+-- `parts::four_at` meets its contract: what is read of the part is its number. Assumes nothing.
 use native.Mathlib.Omega.{arith}
-use Rattle.parts.specs.Numbers.{four_of}
+use mathlib.Core.Path.{◌∙◌}
+use Rattle.parts.proofs.NumberLaws.{four-read}
 use Rattle.parts.proofs.four_at.Goals as goal
 
 pub returns : goal.returns
-unfolding four_of
 returns c =
-    let a = c.args.at in
-    let known = c.type_inv.bytes in
-    record {
-      value = λ h. omega arith;
-      none = λ h. absurd (omega arith);
-      small = omega (arith, known a, known (a + 1), known (a + 2), known (a + 3));
-    }
+    let found = c.in-Some.ensures in
+    let is = c.from.ensures ∙ c.from_le_bytes.ensures in
+    four-read c.in-Some.four.now c.args.bytes.now c.args.at (λ i. omega (arith, c.type_inv.bytes i)) (omega (arith, found.0)) found.1 is

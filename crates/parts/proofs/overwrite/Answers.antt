@@ -6,10 +6,12 @@ use Rattle.parts.proofs.OverwriteLaws.{copied_whole-back, overwritten-inside, ov
 use Rattle.parts.proofs.overwrite.Goals as goal
 
 pub returns-then-target-size : goal.returns-then-target-size
-returns-then-target-size c = let a = c.args in sym (overwritten-past a.target.now a.at a.content.now (omega arith))
-
-pub returns-then-target-size-2 : goal.returns-then-target-size-2
-returns-then-target-size-2 c = let a = c.args in sym (overwritten-past a.target.now a.at a.content.now (omega arith))
+returns-then-target-size c =
+    let a = c.args in
+    sym (overwritten-past a.target.now a.at a.content.now (elim c.then-target-size.branch [
+      | goal.then-target-size-via-then-target-size w ↦ let e = w.if-target-size.true in omega arith
+      | goal.then-target-size-via-else-target-size+then-target-size-2 w ↦ let e = w.if-target-size-2.true in omega arith
+    ]))
 
 pub returns : goal.returns
 returns c =

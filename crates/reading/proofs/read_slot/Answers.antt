@@ -7,7 +7,7 @@ use Rattle.reading.proofs.read_slot.Goals as goal
 pub returns-then-out-length : goal.returns-then-out-length
 returns-then-out-length c =
     let a = c.args in
-    short-reply _ a.img.now a.out.now (first_of a.slot.now) c.refuse.ensures (omega arith)
+    short-reply _ a.img.now a.out.now (first_of a.slot.now) (omega arith)
 
 pub returns : goal.returns
 returns c =

@@ -1,27 +1,23 @@
 -- `scratching::scratch_named` meets its contract. In order: the slot of the name; the file that it starts.
-use native.Mathlib.Omega.{arith}
+use mathlib.Core.Path.{refl}
 use Rattle.answers.specs.declared.Fault.TheVariants.{NotFound}
 use Rattle.answers.specs.Faults.{fault_of}
 use Rattle.scratching.proofs.ReplyLaws.{scratch-refused, scratch-done}
-use Rattle.scratching.proofs.FoundLaws.{none_named, slot-below, file-there, some-named}
+use Rattle.scratching.proofs.FoundLaws.{none_named, file-there, some-named}
 use Rattle.geometry.proofs.TableLaws.{known_of}
 use Rattle.scratching.proofs.scratch_named.Goals as goal
 
-pub returns-then-k-end : goal.returns-then-k-end
+pub returns-in_default : goal.returns-in_default
 unfolding fault_of
-returns-then-k-end c =
-    scratch-refused _ c.args.img.now c.args.name.now NotFound c.refuse.ensures
-    (none_named _ (known_of c.args.layout) c.requires c.slot_named-k.ensures c.if-k-end.true)
-
-pub bounds-sectors-i : goal.bounds-sectors-i
-bounds-sectors-i c =
-    omega (arith, slot-below _ (known_of c.args.layout) c.requires c.slot_named-k.ensures c.if-k-end.false)
+returns-in_default c =
+    scratch-refused _ c.args.img.now c.args.name.now NotFound refl
+    (none_named _ (known_of c.args.layout) c.requires c.track18-track18.ensures c.find_named.ensures c.in_default.is)
 
 pub scratch_slot-requires : goal.scratch_slot-requires
 scratch_slot-requires c =
-    file-there _ (known_of c.args.layout) c.requires c.slot_named-k.ensures c.if-k-end.false
+    file-there _ (known_of c.args.layout) c.requires c.track18-track18.ensures c.find_named.ensures c.in-Some.is
 
 pub returns : goal.returns
 returns c =
     scratch-done _ c.args.img.now c.args.name.now _
-    (some-named _ (known_of c.args.layout) c.requires c.slot_named-k.ensures c.if-k-end.false) c.scratch_slot.ensures
+    (some-named _ (known_of c.args.layout) c.requires c.track18-track18.ensures c.find_named.ensures c.in-Some.is) c.scratch_slot.ensures

@@ -1,8 +1,7 @@
--- `scratching::unlink` meets its contract: the link is read before the zeros are written over the whole sector. Assumes nothing.
+-- `scratching::unlink` meets its contract: the part lent is the sector, its link is read, and what comes back of the loan is zeros. Assumes nothing.
 use mathlib.Core.Path.{refl}
-use Rattle.scratching.proofs.ClearingLaws.{unlinked}
+use Rattle.scratching.proofs.ClearingLaws.{sector-cleared}
 use Rattle.scratching.proofs.unlink.Goals as goal
 
 pub returns : goal.returns
-returns c =
-    unlinked c.args.sector.now c.requires c.overwrite.ensures refl refl refl
+returns c = sector-cleared c.args.img.now c.args.n refl c.requires (c.fill.ensures.after (λ y e. e)) refl

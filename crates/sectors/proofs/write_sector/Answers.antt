@@ -12,12 +12,10 @@ returns-then-content-eq256 c =
     copied_whole-back a.img.now (256 * a.n) 256 a.content.now (omega arith) c.copy_from_slice.ensures.after
     ∙ sym (with_sector-whole a.img.now a.n a.content.now (omega arith) (omega arith))
 
-pub returns-else-content-eq256 : goal.returns-else-content-eq256
-returns-else-content-eq256 c =
-    let a = c.args in
-    sym (with_sector-size a.img.now a.n a.content.now c.if-content-eq256.false)
-
 pub returns-else-n-img : goal.returns-else-n-img
 returns-else-n-img c =
     let a = c.args in
-    sym (with_sector-cut a.img.now a.n a.content.now (omega arith))
+    elim c.else-n-img.branch [
+      | goal.else-n-img-via-then-n-img+else-content-eq256 w ↦ sym (with_sector-size a.img.now a.n a.content.now w.if-content-eq256.false)
+      | goal.else-n-img-via-else-n-img w ↦ let e = w.if-n-img.false in sym (with_sector-cut a.img.now a.n a.content.now (omega arith))
+    ]

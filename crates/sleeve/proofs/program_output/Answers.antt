@@ -2,8 +2,8 @@
 use Rattle.sleeve.proofs.OutputLaws.{printed-unknown, printed-known}
 use Rattle.sleeve.proofs.program_output.Goals as goal
 
-pub returns-in-Unknown : goal.returns-in-Unknown
-returns-in-Unknown c = printed-unknown _ c.in-Unknown.is c.print_fault.ensures
+pub returns-in-None : goal.returns-in-None
+returns-in-None c = printed-unknown _ c.in-None.is c.print_fault.ensures
 
-pub returns-in-Known : goal.returns-in-Known
-returns-in-Known c = printed-known _ _ c.in-Known.is c.sleeve_output.ensures
+pub returns-in-Some : goal.returns-in-Some
+returns-in-Some c = printed-known _ _ c.in-Some.is c.sleeve_output.ensures

@@ -1,12 +1,8 @@
--- `storing::is_new` meets its contract: the search for the name ends at the end exactly where no file has it.
-use native.Mathlib.Omega.{arith}
+-- `storing::is_new` meets its contract: the search finds no slot exactly where no file has the name.
 use Rattle.geometry.proofs.TableLaws.{known_of}
 use Rattle.storing.proofs.DecisionLaws.{new-found}
 use Rattle.storing.proofs.is_new.Goals as goal
 
-pub slice_bounds-find_named-end : goal.slice_bounds-find_named-end
-slice_bounds-find_named-end c = omega (arith, (known_of c.args.layout).past18, c.requires.0.size)
-
 pub returns : goal.returns
-returns c = new-found _ (known_of c.args.layout) c.args.name.now
-    c.requires c.find_named.ensures
+returns c =
+    new-found _ (known_of c.args.layout) c.args.name.now c.find_named.result c.requires c.track18.ensures c.find_named.ensures c.is_none.ensures

@@ -6,10 +6,10 @@ use Rattle.storing.proofs.store_checked.Goals as goal
 
 pub returns-then-not-may_write : goal.returns-then-not-may_write
 returns-then-not-may_write c =
-    forbidden-reply _ (known_of c.args.layout) c.requires c.args.content.now
-    (sym c.may_write.ensures ∙ c.if-not-may_write.true) c.refuse.ensures
+    forbidden-reply _ (known_of c.args.layout) c.requires
+    (sym c.may_write.ensures ∙ c.if-not-may_write.true)
 
 pub returns-then-not-is_new : goal.returns-then-not-is_new
 returns-then-not-is_new c =
-    exists-reply _ (known_of c.args.layout) c.requires (sym c.may_write.ensures ∙ c.if-not-may_write.false) c.args.content.now
-    (sym c.is_new.ensures ∙ c.if-not-is_new.true) c.refuse-then-not-is_new.ensures
+    exists-reply _ (known_of c.args.layout) c.requires (sym c.may_write.ensures ∙ c.if-not-may_write.false)
+    (sym c.is_new.ensures ∙ c.if-not-is_new.true)

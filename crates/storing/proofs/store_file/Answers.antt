@@ -2,11 +2,13 @@
 use Rattle.geometry.proofs.TableLaws.{known_of}
 use native.Mathlib.Omega.{arith}
 use borrow.Author.Rules.{rules}
-use mathlib.Core.Path.{sym, ◌∙◌}
-use Rattle.d64spec.proofs.EntryLaws.{kind-small}
+use Rattle.std.proofs.lemmas.Result.{err_from_is_err_and}
+use Prim.Native.Nat.{ℕ}
+use mathlib.Core.Path.{sym, ap, ◌∙◌}
+use Rattle.d64spec.specs.Call.{store, perform}
+use Rattle.geometry.specs.Layout.{geometry_of}
 use Rattle.answers.specs.declared.Fault.TheVariants.{WrongSize, BadNameArgument, BadKindArgument}
 use Rattle.answers.specs.Faults.{fault_of}
-use Rattle.diskcheck.proofs.CheckedLaws.{refused-image}
 use Rattle.storing.proofs.ReplyLaws.{store-size, store-name, store-kind, store-fault, store-refused}
 use Rattle.storing.proofs.DecisionLaws.{checked-store}
 use Rattle.storing.proofs.store_file.Goals as goal
@@ -15,7 +17,7 @@ pub returns-then-img-image_size : goal.returns-then-img-image_size
 unfolding fault_of
 returns-then-img-image_size c =
     let a = c.args in
-    store-refused _ a.img.now a.name.now a.kind a.content.now WrongSize c.refuse.ensures
+    store-refused _ a.img.now a.name.now a.kind a.content.now WrongSize
     (store-size _ a.img.now a.name.now a.kind a.content.now (λ size. c.if-img-image_size.true (omega arith)))
 
 pub returns-then-not-valid_name_argument : goal.returns-then-not-valid_name_argument
@@ -23,36 +25,33 @@ unfolding fault_of
 returns-then-not-valid_name_argument c =
     let a = c.args in
     let bad = sym c.valid_name_argument.ensures ∙ c.if-not-valid_name_argument.true in
-    store-refused _ a.img.now a.name.now a.kind a.content.now BadNameArgument c.refuse-then-not-valid_name_argument.ensures
+    store-refused _ a.img.now a.name.now a.kind a.content.now BadNameArgument
     (store-name _ a.img.now a.name.now a.kind a.content.now (omega arith) bad)
 
-pub returns-then-not-storable_kind : goal.returns-then-not-storable_kind
+pub returns-in_default : goal.returns-in_default
 unfolding fault_of
-returns-then-not-storable_kind c =
-    let asked = sym c.valid_name_argument.ensures ∙ c.if-not-valid_name_argument.false in
+returns-in_default c =
     let a = c.args in
-    let bad = sym c.storable_kind.ensures ∙ c.if-not-storable_kind.true in
-    store-refused _ a.img.now a.name.now a.kind a.content.now BadKindArgument c.refuse-then-not-storable_kind.ensures
-    (store-kind _ a.img.now a.name.now a.kind a.content.now (omega arith) asked bad)
+    let asked = sym c.valid_name_argument.ensures ∙ c.if-not-valid_name_argument.false in
+    store-refused _ a.img.now a.name.now a.kind a.content.now BadKindArgument
+    (store-kind _ a.img.now a.name.now a.kind a.content.now (omega arith) asked c.in_default.ensures)
 
-pub overflow_cast-kind : goal.overflow_cast-kind
-overflow_cast-kind c =
-    let kind = sym c.storable_kind.ensures ∙ c.if-not-storable_kind.false in
-    omega (arith, (kind-small c.args.kind kind).1)
+pub returns-in_err-checked : goal.returns-in_err-checked
+returns-in_err-checked c =
+    let a = c.args in
+    let asked = sym c.valid_name_argument.ensures ∙ c.if-not-valid_name_argument.false in
+    let kind = c.in-Ok.ensures in
+    let p = err_from_is_err_and c.from_residual.result c.from_residual.ensures.1 in
+    rw (p.1, p.2) (store-refused _ a.img.now a.name.now a.kind a.content.now _
+    (store-fault _ a.img.now a.name.now a.kind a.content.now (omega arith) asked kind.0 c.in_err-checked.ensures))
 
 pub store_checked-requires : goal.store_checked-requires
 store_checked-requires c =
-    let asked = sym c.valid_name_argument.ensures ∙ c.if-not-valid_name_argument.false in
-    let kind = sym c.storable_kind.ensures ∙ c.if-not-storable_kind.false in
     let a = c.args in
-    checked-store _ (known_of a.layout) a.name.now a.kind c.check_image-checked.ensures c.in-Fine.is
-    (λ i. search rules) asked kind
+    let asked = sym c.valid_name_argument.ensures ∙ c.if-not-valid_name_argument.false in
+    checked-store _ (known_of a.layout) c.in_ok-checked.ensures (λ i. search rules) asked
 
-pub returns-in-Refused : goal.returns-in-Refused
-returns-in-Refused c =
-    let asked = sym c.valid_name_argument.ensures ∙ c.if-not-valid_name_argument.false in
-    let kind = sym c.storable_kind.ensures ∙ c.if-not-storable_kind.false in
+pub returns : goal.returns
+returns c =
     let a = c.args in
-    store-refused _ a.img.now a.name.now a.kind a.content.now _ c.refuse-in-Refused.ensures
-    (store-fault _ a.img.now a.name.now a.kind a.content.now (omega arith) asked kind
-    (refused-image _ (known_of a.layout) c.check_image-checked.ensures _ c.in-Refused.is))
+    c.store_checked.ensures ∙ ap (λ (k : ℕ). perform (geometry_of a.layout) a.img.now (store a.name.now k a.content.now)) c.in-Ok.ensures.1

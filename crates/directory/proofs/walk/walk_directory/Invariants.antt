@@ -5,7 +5,8 @@ use mathlib.Core.Path.{◌≡◌}
 use Rattle.d64spec.specs.Answers.{address}
 use Rattle.d64spec.specs.Chain.{to}
 use Rattle.owners.specs.Masks.{owned_mask}
-use Rattle.directory.proofs.WalkLaws.{Walks, directory_walk, free_places}
+use Rattle.directory.specs.Walks.{directory_walk}
+use Rattle.directory.proofs.WalkLaws.{Walks, free_places}
 use Rattle.directory.proofs.walk.walk_directory.Given as goal
 
 abbrev pub invariant-loop-own : goal.invariant-loop-own

@@ -1,160 +1,120 @@
 -- `diskcheck::chain::claim_chain` meets its contract. The loop keeps `Claims`: the rest of the definition's walk, from the link to `sector` on the
 -- track `on` that `holder` holds, gives the outcome; and `Gathering`: with the bits in `mask` the masks are the table's. What falls is the number of
--- sectors that have no owner. The code does not look at the layout: what the loop keeps holds in whatever layout it began.
-use Prim.Native.Nat.{ℕ, ◌+◌, ◌*◌, ◌-◌, ◌%◌, ◌^◌, ◌≤◌, ◌<◌}
+-- sectors that have no owner.
+use Prim.Native.Nat.{◌+◌, ◌*◌, ◌-◌, ◌%◌, ◌^◌, ◌≤◌, ◌<◌}
 use native.Mathlib.Omega.{arith}
-use mathlib.Core.Path.{◌≡◌, refl, sym, ap, ◌∙◌}
-use mathlib.Core.List.{List}
-use lib.ListN.{length, set, take, drop, get_or}
-use Rattle.d64spec.specs.Answers.{Result}
+use mathlib.Core.Path.{refl, sym}
+use lib.ListN.{length, set, take, drop}
 use Rattle.d64spec.proofs.BitLaws.{shifted}
-use Rattle.geometry.specs.declared.Address.{Address}
-use Rattle.geometry.specs.declared.Layout.{Layout}
-use Rattle.geometry.specs.declared.Track.{Track}
-use Rattle.geometry.specs.Layout.{geometry_of, track_by, IsCounts, IsFirsts}
+use Rattle.geometry.specs.Layout.{geometry_of}
 use Rattle.geometry.proofs.TableLaws.{known_of}
-use Rattle.geometry.proofs.LentTableLaws.{tracks-of-on_disk, track-known}
+use Rattle.geometry.proofs.LentTableLaws.{tracks-of-on_disk, track-on-known}
 use Rattle.sectors.proofs.SectorLaws.{sector-lent}
-use Rattle.owners.proofs.TableLaws.{free_count}
+use Rattle.owners.specs.OwnerTable.{file_owner}
 use Rattle.owners.proofs.MaskLaws.{Gathering, gathering-start}
-use Rattle.diskcheck.specs.Chains.{Claimed}
 use Rattle.diskcheck.proofs.ChainLaws.{chain_claim, Named, named, Moved, claims-start, claims-off, claims-owned, claims-moved, claims-at}
 use Rattle.diskcheck.proofs.ChainLaws.{mask-room, track-left, bit-gathered}
-use Rattle.diskcheck.proofs.chain.claim_chain.Invariants.{Begun, Kept}
+use Rattle.diskcheck.proofs.chain.claim_chain.Goals.{Else-on-sector, Else-own-n-ne0}
 use Rattle.diskcheck.proofs.chain.claim_chain.Goals as goal
 
--- one turn of the loop, in a layout in which it began
-module _ (layout : Layout) (img own₀ used₀ : List ℕ) (id slot : ℕ) (counts firsts : List ℕ) (o : Result Claimed) (own used : List ℕ) (holder : Address)
-    (on : Track) (sector count mask : ℕ) (b : Begun layout img own₀ used₀ id counts firsts)
-    (i : Kept (geometry_of layout) img id slot o own used holder on sector count mask) where
-  -- the number of the sector that the link names
-  abbrev number : ℕ
-  number = on.first + sector
+-- the link names a sector of the disk
+here : (c : Else-on-sector) → Named (geometry_of c.args.layout) c.loop-on.on.number c.loop-on.sector (c.loop-on.on.first + c.loop-on.sector)
+here c = named _ c.loop-on.invariant.track c.if-on-sector.false refl
 
-  module _ (h : sector < on.sectors) where
-    -- the link names a sector of the disk
-    here : Named (geometry_of layout) on.number sector number
-    here = named _ i.1 h refl
+owned : (c : Else-on-sector) → c.loop-on.on.first + c.loop-on.sector < length c.loop-on.own
+owned c = omega (arith, (here c).inside, c.loop-on.invariant.walk.long)
 
-    small : number < 768
-    small = omega (arith, here.inside, (known_of layout).most)
+bytes : (c : Else-on-sector) → 256 * (c.loop-on.on.first + c.loop-on.sector) + 256 ≤ length c.args.img.now
+bytes c = omega (arith, (here c).inside, c.requires.size)
 
-    owned : number < length own
-    owned = omega (arith, here.inside, i.0.long)
+below24 : (c : Else-on-sector) → c.loop-on.sector < 24
+below24 c = omega (arith, c.if-on-sector.false, c.loop-on.invariant.track.count, (known_of c.args.layout).valid.small c.loop-on.on.number)
 
-    bytes : 256 * number + 256 ≤ length img
-    bytes = omega (arith, here.inside, b.0.size)
+-- the sector had no owner: its bit is gathered
+gathered : (c : Else-own-n-ne0) → Gathering (geometry_of c.args.layout) (set c.loop-on.own (c.loop-on.on.first + c.loop-on.sector) (file_owner c.args.at.slot))
+    c.loop-on.used c.loop-on.on.number (c.loop-on.mask + 1 * 2 ^ c.loop-on.sector % 4294967296)
+gathered c =
+    let i = c.loop-on.invariant in
+    let small : c.loop-on.sector < 24 = omega (arith, c.if-on-sector.false, i.track.count, (known_of c.args.layout).valid.small c.loop-on.on.number) in
+    bit-gathered _ (known_of c.args.layout) i.gathered i.track c.if-on-sector.false refl i.walk.long c.if-own-n-ne0.false (omega arith)
+    (omega (arith, shifted c.loop-on.sector (omega (arith, small))))
 
-    below24 : sector < 24
-    below24 = omega (arith, h, i.1.count, (known_of layout).valid.small on.number)
-
-    module _ (none : get_or own number 0 ≡ 0) where
-      -- the sector had no owner: its bit is gathered
-      gathered : {m' : ℕ} → m' ≡ mask + 1 * 2 ^ sector % 4294967296 → Gathering (geometry_of layout) (set own number id) used on.number m'
-      gathered is =
-          bit-gathered _ (known_of layout) i.2 i.1 h refl i.0.long none b.0.owner
-          (omega (arith, is, shifted sector (omega (arith, below24))))
-
-      -- and the walk is at the link in it
-      moved : Moved (geometry_of layout) img id slot o own on.number sector number (take (256 * number + 256 - 256 * number) (drop (256 * number) img)) count
-      moved = claims-moved _ i.0 here (sector-lent _ _ refl) none b.0.owner
-
-      fits : mask + 1 * 2 ^ sector % 4294967296 < 4294967296
-      fits =
-          let at = tracks-of-on_disk _ _ here.on in
-          omega (arith, (mask-room _ (known_of layout) (gathered refl)).fits at.0 (omega (arith, at.1, (known_of layout).few)))
-
-      fewer : free_count (set own number id) < free_count own
-      fewer = omega (arith, moved.fewer)
-
--- the chain's first link is one to the track that the walk begins on
-first-link : (layout : Layout) (img own : List ℕ) (id slot : ℕ) (from : Address) (counts firsts : List ℕ) (first : Address) (on : Track)
-    → IsCounts (geometry_of layout) counts → IsFirsts (geometry_of layout) firsts → on ≡ track_by counts firsts first.track
-    → chain_claim (geometry_of layout) img own id slot from on.number first.sector
-    ≡ chain_claim (geometry_of layout) img own id slot from first.track first.sector
-first-link layout img own id slot from counts firsts first on cs fs is =
-    ap (λ (t : ℕ). chain_claim (geometry_of layout) img own id slot from t first.sector) (track-known (known_of layout).few cs fs is).0
+-- and the walk is at the link in it
+moved : (c : Else-own-n-ne0)
+    → let n = c.loop-on.on.first + c.loop-on.sector in
+    Moved (geometry_of c.args.layout) c.args.img.now (file_owner c.args.at.slot) c.args.at.slot
+    (chain_claim (geometry_of c.args.layout) c.args.img.now c.args.own.now (file_owner c.args.at.slot) c.args.at.slot
+    (record { track = c.args.at.track; sector = c.args.at.sector }) c.args.first.track c.args.first.sector)
+    c.loop-on.own c.loop-on.on.number c.loop-on.sector n (take (256 * n + 256 - 256 * n) (drop (256 * n) c.args.img.now)) c.loop-on.count
+moved c =
+    let i = c.loop-on.invariant in
+    claims-moved _ i.walk (named _ i.track c.if-on-sector.false refl) (sector-lent _ _ refl) c.if-own-n-ne0.false (omega arith)
 
 pub loop-on-init : goal.loop-on-init
-loop-on-init c layout b =
-    let k = track-known (known_of layout).few b.1 b.2 c.track_by-on.ensures in
-    (claims-start _ _ _ _ _ _ _ _ b.0, k.1, gathering-start _ _ b.3 refl)
+loop-on-init c =
+    let k = track-on-known c.args.layout c.track_on-on.ensures in
+    record { walk = claims-at _ (claims-start _ _ _ _ _ _ _ _ c.requires) k.0; track = k.1; gathered = gathering-start _ _ c.requires.masks refl }
 
 pub add_mask-requires : goal.add_mask-requires
-add_mask-requires c = let l = c.args.layout in mask-room _ (known_of l) (c.loop-on.invariant l c.requires).2
+add_mask-requires c = mask-room _ (known_of c.args.layout) c.loop-on.invariant.gathered
 
 pub returns-then-on-sector : goal.returns-then-on-sector
 returns-then-on-sector c =
-    let a = c.args in
-    let i = c.loop-on.invariant a.layout c.requires in (
-      claims-off _ i.0 c.claim_off.ensures refl i.1 refl c.if-on-sector.true
-          ∙ first-link a.layout _ _ _ _ _ _ _ _ _ c.requires.1 c.requires.2 c.track_by-on.ensures,
-      track-left _ (known_of a.layout) i.2 c.add_mask.ensures,
-    )
+    let i = c.loop-on.invariant in
+    record {
+      claim = claims-off _ i.walk c.claim_off.ensures refl i.track refl c.if-on-sector.true;
+      masks = track-left _ (known_of c.args.layout) i.gathered c.add_mask.ensures;
+    }
 
 pub bounds-own-n : goal.bounds-own-n
-bounds-own-n c = let l = c.args.layout in owned l _ _ _ _ _ _ _ _ _ _ _ _ _ _ _ c.requires (c.loop-on.invariant l c.requires) c.if-on-sector.false
+bounds-own-n c = owned (goal.at.bounds-own-n c).Else-on-sector
 
 pub add_mask-requires-then-own-n-ne0 : goal.add_mask-requires-then-own-n-ne0
-add_mask-requires-then-own-n-ne0 c = let l = c.args.layout in mask-room _ (known_of l) (c.loop-on.invariant l c.requires).2
+add_mask-requires-then-own-n-ne0 c = mask-room _ (known_of c.args.layout) c.loop-on.invariant.gathered
 
 pub returns-then-own-n-ne0 : goal.returns-then-own-n-ne0
 returns-then-own-n-ne0 c =
-    let a = c.args in
-    let i = c.loop-on.invariant a.layout c.requires in (
-      claims-owned _ i.0 (here a.layout _ _ _ _ _ _ _ _ _ _ _ _ _ _ _ c.requires i c.if-on-sector.false) c.place_of.ensures c.if-own-n-ne0.true
-          ∙ first-link a.layout _ _ _ _ _ _ _ _ _ c.requires.1 c.requires.2 c.track_by-on.ensures,
-      track-left _ (known_of a.layout) i.2 c.add_mask-then-own-n-ne0.ensures,
-    )
+    let i = c.loop-on.invariant in
+    record {
+      claim = claims-owned _ i.walk (here (goal.at.returns-then-own-n-ne0 c).Else-on-sector) c.place_of.ensures c.if-own-n-ne0.true;
+      masks = track-left _ (known_of c.args.layout) i.gathered c.add_mask-then-own-n-ne0.ensures;
+    }
 
 pub bounds-own-n-in-loop-on : goal.bounds-own-n-in-loop-on
-bounds-own-n-in-loop-on c = let l = c.args.layout in owned l _ _ _ _ _ _ _ _ _ _ _ _ _ _ _ c.requires (c.loop-on.invariant l c.requires) c.if-on-sector.false
+bounds-own-n-in-loop-on c = owned (goal.at.bounds-own-n-in-loop-on c).Else-on-sector
 
 pub overflow_shl-mask : goal.overflow_shl-mask
-overflow_shl-mask c =
-    let l = c.args.layout in
-    omega (arith, below24 l _ _ _ _ _ _ _ _ _ _ _ _ _ _ _ c.requires (c.loop-on.invariant l c.requires) c.if-on-sector.false)
+overflow_shl-mask c = omega (arith, below24 (goal.at.overflow_shl-mask c).Else-on-sector)
 
 pub overflow_add-mask : goal.overflow_add-mask
 overflow_add-mask c =
-    let l = c.args.layout in
-    omega (arith, fits l _ _ _ _ _ _ _ _ _ _ _ _ _ _ _ c.requires (c.loop-on.invariant l c.requires) c.if-on-sector.false c.if-own-n-ne0.false)
+    let known = known_of c.args.layout in
+    let at = tracks-of-on_disk _ _ (here (goal.at.overflow_add-mask c).Else-on-sector).on in
+    omega (arith, (mask-room _ known (gathered (goal.at.overflow_add-mask c).Else-own-n-ne0)).fits at.0 (omega (arith, at.1, known.few)))
 
 pub slice_bounds-part-end : goal.slice_bounds-part-end
-slice_bounds-part-end c =
-    let l = c.args.layout in
-    omega (arith, bytes l _ _ _ _ _ _ _ _ _ _ _ _ _ _ _ c.requires (c.loop-on.invariant l c.requires) c.if-on-sector.false)
+slice_bounds-part-end c = omega (arith, bytes (goal.at.slice_bounds-part-end c).Else-on-sector)
 
 pub add_mask-requires-then-track-on : goal.add_mask-requires-then-track-on
-add_mask-requires-then-track-on c =
-    let l = c.args.layout in
-    mask-room _ (known_of l)
-    (gathered l _ _ _ _ _ _ _ _ _ _ _ _ _ _ _ c.requires (c.loop-on.invariant l c.requires) c.if-on-sector.false c.if-own-n-ne0.false refl)
+add_mask-requires-then-track-on c = mask-room _ (known_of c.args.layout) (gathered (goal.at.add_mask-requires-then-track-on c).Else-own-n-ne0)
 
 pub loop-on-smaller-then-track-on : goal.loop-on-smaller-then-track-on
-loop-on-smaller-then-track-on c =
-    let l = c.args.layout in
-    fewer l _ _ _ _ _ _ _ _ _ _ _ _ _ _ _ c.requires (c.loop-on.invariant l c.requires) c.if-on-sector.false c.if-own-n-ne0.false
+loop-on-smaller-then-track-on c = omega (arith, (moved (goal.at.loop-on-smaller-then-track-on c).Else-own-n-ne0).fewer)
 
 pub loop-on-preserved-then-track-on : goal.loop-on-preserved-then-track-on
-loop-on-preserved-then-track-on c layout b =
-    let i = c.loop-on.invariant layout b in
-    let k = track-known (known_of layout).few b.1 b.2 c.track_by-on-then-track-on.ensures in (
-      claims-at _ (moved layout _ _ _ _ _ _ _ _ _ _ _ _ _ _ _ b i c.if-on-sector.false c.if-own-n-ne0.false).next k.0,
-      k.1,
-      gathering-start _ _ (track-left _ (known_of layout) (gathered layout _ _ _ _ _ _ _ _ _ _ _ _ _ _ _ b i c.if-on-sector.false c.if-own-n-ne0.false refl)
-          c.add_mask-then-track-on.ensures) refl,
-    )
+loop-on-preserved-then-track-on c =
+    let s = (goal.at.loop-on-preserved-then-track-on c).Else-own-n-ne0 in
+    let k = track-on-known c.args.layout c.track_on-on-then-track-on.ensures in
+    record {
+      walk = claims-at _ (moved s).next k.0;
+      track = k.1;
+      gathered = gathering-start _ _ (track-left _ (known_of c.args.layout) (gathered s) c.add_mask-then-track-on.ensures) refl;
+    }
 
 pub loop-on-smaller : goal.loop-on-smaller
-loop-on-smaller c =
-    let l = c.args.layout in
-    fewer l _ _ _ _ _ _ _ _ _ _ _ _ _ _ _ c.requires (c.loop-on.invariant l c.requires) c.if-on-sector.false c.if-own-n-ne0.false
+loop-on-smaller c = omega (arith, (moved (goal.at.loop-on-smaller c).Else-own-n-ne0).fewer)
 
 pub loop-on-preserved : goal.loop-on-preserved
-loop-on-preserved c layout b =
-    let i = c.loop-on.invariant layout b in (
-      claims-at _ (moved layout _ _ _ _ _ _ _ _ _ _ _ _ _ _ _ b i c.if-on-sector.false c.if-own-n-ne0.false).next (sym c.if-track-on.false),
-      i.1,
-      gathered layout _ _ _ _ _ _ _ _ _ _ _ _ _ _ _ b i c.if-on-sector.false c.if-own-n-ne0.false refl,
-    )
+loop-on-preserved c =
+    let s = (goal.at.loop-on-preserved c).Else-own-n-ne0 in
+    record { walk = claims-at _ (moved s).next (sym c.if-track-on.false); track = c.loop-on.invariant.track; gathered = gathered s }

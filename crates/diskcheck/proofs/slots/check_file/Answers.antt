@@ -1,22 +1,24 @@
 -- `diskcheck::slots::check_file` meets its contract: the chain's claim decides first, then the count.
 use native.Mathlib.Omega.{arith}
 use mathlib.Core.Path.{refl}
+use Rattle.std.proofs.lemmas.Result.{err_from_is_err_and}
 use Rattle.diskcheck.proofs.SlotLaws.{file-refused, file-fine, file-miscounted}
 use Rattle.diskcheck.proofs.slots.check_file.Goals as goal
 
-pub returns-in-Refused : goal.returns-in-Refused
-returns-in-Refused c =
-    let claimed = c.claim_chain-claim.ensures in
-    (file-refused _ _ _ _ _ _ _ _ (rw c.in-Refused.is at claimed.0), claimed.1)
+pub returns-in_err-claim : goal.returns-in_err-claim
+returns-in_err-claim c =
+    let p = err_from_is_err_and c.from_residual.result c.from_residual.ensures.1 in
+    let e = c.in_err-claim.ensures in
+    record { step = rw (p.1, p.2) (file-refused _ _ _ _ _ _ _ _ e.claim); masks = e.masks }
 
-pub returns-then-count-sector_count : goal.returns-then-count-sector_count
-returns-then-count-sector_count c =
+pub returns-then-claim-sector_count : goal.returns-then-claim-sector_count
+returns-then-claim-sector_count c =
     let count = c.sector_count.ensures.count in
-    let claimed = c.claim_chain-claim.ensures in
-    (file-fine _ _ _ _ _ _ _ _ (rw c.in-Ended.is at claimed.0) (omega arith) refl refl, claimed.1)
+    let e = c.in_ok-claim.ensures in
+    record { step = file-miscounted _ _ _ _ _ _ _ _ e.claim _ (λ same. c.if-claim-sector_count.true (omega arith)); masks = e.masks }
 
-pub returns-else-count-sector_count : goal.returns-else-count-sector_count
-returns-else-count-sector_count c =
+pub returns : goal.returns
+returns c =
     let count = c.sector_count.ensures.count in
-    let claimed = c.claim_chain-claim.ensures in
-    (file-miscounted _ _ _ _ _ _ _ _ (rw c.in-Ended.is at claimed.0) _ (λ same. c.if-count-sector_count.false (omega arith)), claimed.1)
+    let e = c.in_ok-claim.ensures in
+    record { step = file-fine _ _ _ _ _ _ _ _ e.claim (omega arith) refl refl; masks = e.masks }

@@ -1,4 +1,4 @@
--- `lines::write_digits`. The loop keeps `Digits`: the digits of the first i bytes are written. What falls is the number of bytes left.
+-- `lines::write_digits`. The loop keeps `Digits`: the digits of the first i bytes are written.
 use native.Mathlib.Omega.{arith}
 use Rattle.sleeve.proofs.LineLaws.{digits-start, digits-moved}
 use Rattle.sleeve.proofs.lines.write_digits.Goals as goal

@@ -1,4 +1,4 @@
--- `slots::write_slots`. The loop keeps `Lines`: the lines of the slots below k are written. What falls is the number of slots left.
+-- `slots::write_slots`. The loop keeps `Lines`: the lines of the slots below k are written.
 use Prim.Native.Nat.{◌+◌, ◌≤◌}
 use native.Mathlib.Omega.{arith}
 use mathlib.Core.Path.{◌∙◌, sym}

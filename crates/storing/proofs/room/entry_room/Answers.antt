@@ -1,22 +1,20 @@
 -- `storing::room::entry_room` meets its contract. In order: an empty slot; no free sector of track 18; the lowest one.
+use mathlib.Core.Path.{◌∙◌}
 use Rattle.geometry.proofs.TableLaws.{known_of}
-use native.Mathlib.Omega.{arith}
 use Rattle.storing.proofs.RoomLaws.{room-slot, room-none, room-new}
 use Rattle.storing.proofs.room.entry_room.Goals as goal
 
-pub returns-then-k-end : goal.returns-then-k-end
-returns-then-k-end c =
+pub returns-in-Some : goal.returns-in-Some
+returns-in-Some c =
     let a = c.args in
-    room-slot _ (known_of a.layout) a.track18.now a.sectors.now a.end a.map.now c.find_empty-k.ensures (omega arith)
+    room-slot _ (known_of a.layout) a.track18.now a.sectors.now a.end a.map.now c.in-Some.ensures
 
-pub returns-then-place-eq0 : goal.returns-then-place-eq0
-returns-then-place-eq0 c =
+pub returns-in_err-place : goal.returns-in_err-place
+returns-in_err-place c =
     let a = c.args in
-    room-none _ (known_of a.layout) a.track18.now a.sectors.now a.end a.map.now c.find_empty-k.ensures
-    (omega arith) c.place_directory-place.ensures (omega arith)
+    c.from_residual.ensures ∙ room-none _ (known_of a.layout) a.track18.now a.sectors.now a.end a.map.now c.in_default.ensures c.in_err-place.ensures
 
 pub returns : goal.returns
 returns c =
     let a = c.args in
-    room-new _ (known_of a.layout) a.track18.now a.sectors.now a.end a.map.now c.find_empty-k.ensures
-    (omega arith) c.place_directory-place.ensures (λ e. omega arith)
+    room-new _ (known_of a.layout) a.track18.now a.sectors.now a.end a.map.now c.in_default.ensures c.in_ok-place.ensures

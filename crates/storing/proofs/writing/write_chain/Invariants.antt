@@ -6,6 +6,3 @@ use Rattle.storing.proofs.writing.write_chain.Given as goal
 
 abbrev pub invariant-loop-i : goal.invariant-loop-i
 invariant-loop-i l = Advancing (geometry_of l.layout) l.places l.content l.initial.i l.initial.img l.initial.map l.i l.img l.map
-
-abbrev pub decreases-loop-i : goal.decreases-loop-i
-decreases-loop-i l = l.i

@@ -1,4 +1,5 @@
--- `storing::writing::write_entry` meets its contract: the entry is overwritten on the image as it is, or on the one whose directory has grown. Assumes nothing.
+-- `storing::writing::write_entry` meets its contract: the entry is overwritten on the image as it is, or on the one whose directory has grown.
+-- Assumes nothing.
 use native.Mathlib.Omega.{arith}
 use Rattle.geometry.proofs.TableLaws.{known_of}
 use Rattle.storing.proofs.EntryWriteLaws.{entry-laid}

@@ -5,36 +5,29 @@ use native.Mathlib.Omega.{arith}
 use mathlib.Core.Path.{refl, ap, ◌∙◌}
 use mathlib.Core.Logic.{inl, inr}
 use lib.ListN.{length}
-use Rattle.d64spec.proofs.EntryLaws.{kind-small, entry_length}
+use Rattle.d64spec.proofs.EntryLaws.{entry_length}
 use Rattle.d64spec.proofs.FormatLaws.{name-short}
-use Rattle.geometry.proofs.LentTableLaws.{firsts-of}
+use Rattle.storing.proofs.ReplyLaws.{kind-storable}
 use Rattle.storing.proofs.WriteReadyLaws.{places-some, places-few, chain-ready, entry_ready}
 use Rattle.storing.proofs.FileWriteLaws.{file-written}
 use Rattle.storing.proofs.writing.write_file.Goals as goal
 
 pub write_chain-requires : goal.write_chain-requires
-write_chain-requires c = chain-ready _ (known_of c.args.layout)
-    c.requires
-    (firsts-of c.args.layout)
+write_chain-requires c = chain-ready _ (known_of c.args.layout) c.requires
 
 pub bounds-places-0 : goal.bounds-places-0
-bounds-places-0 c = omega (
-  arith,
-  places-some _ (known_of
-      c.args.layout)
-      c.requires,
-)
+bounds-places-0 c = omega (arith, places-some _ (known_of c.args.layout) c.requires)
 
 pub new_entry-entry-requires : goal.new_entry-entry-requires
 new_entry-entry-requires c =
     let w = c.requires in
-    (name-short _ w.ready.asked, (kind-small _ w.ready.kind_asked).1, places-few _ (known_of c.args.layout) w)
+    (name-short _ w.ready.asked, places-few _ (known_of c.args.layout) w)
 
 pub write_entry-requires : goal.write_entry-requires
 write_entry-requires c =
     let w = c.requires in
     entry_ready _ (known_of c.args.layout) w c.write_chain.ensures.size
-    (ap length c.new_entry-entry.ensures ∙ entry_length _ _ _ _ w.ready.asked w.ready.kind_asked)
+    (ap length c.new_entry-entry.ensures ∙ entry_length _ _ _ _ w.ready.asked (kind-storable c.args.file.now.kind))
 
 pub returns : goal.returns
 returns c =
@@ -42,7 +35,7 @@ returns c =
     c.write_chain.ensures
     c.new_entry-entry.ensures c.write_entry.ensures
     (elim c.if-place.branch [
-      | goal.then-place w ↦ inl (w.if-place.true, omega arith, _, _, _, w.move_mark.ensures, refl, omega arith, w.marks-is)
+      | goal.then-place w ↦ inl (w.if-place.true, _, _, _, w.move_mark.ensures, refl, omega arith, omega arith, w.marks-is)
       | goal.else-place w ↦ inr (w.if-place.false, w.marks-is)
     ])
     c.write_map.ensures
