@@ -78,6 +78,11 @@ reply_of r img out = record { answer = called_answer r; change = record { image_
 abbrev pub block_of : answer.Answer → ℕ → ℕ → Bytes
 block_of a n k = answer_block (record { answer = a; change = record { image_after = []; output_after = []; reported_length = n; reported_sectors = k } })
 
+-- what the host gets of any answer and any report: the number and the block; a block that is not nine bytes is left, and the number is 16 (01, Host calls)
+pub record Filled (a : answer.Answer) (d : Done) (block : Bytes) (r : ℕ) (block' : Bytes) : Type 0 where
+  pub number : r ≡ cond (eqb (length block) 9) a.number (answer_of wrong_buffer).number
+  pub filled : block' ≡ cond (eqb (length block) 9) (block_of a d.length d.sectors) block
+
 -- what the host gets: the number and the block; a block that is not nine bytes is left, and the number is 16 (01, Host calls)
 pub record Given (outcome : CodeResult Done Fault) (block : Bytes) (r : ℕ) (block' : Bytes) : Type 0 where
   pub number : r ≡ cond (eqb (length block) 9) (called_answer outcome).number (answer_of wrong_buffer).number

@@ -4,7 +4,7 @@
 
 ghost use Rattle.std.specs.Prelude.{◌≡◌};
 ghost use Rattle.d64spec.specs.Answers.{answer_of};
-ghost use Rattle.answers.specs.Faults.{fault_of, meant, called_answer, block_of, Given};
+ghost use Rattle.answers.specs.Faults.{fault_of, meant, called_answer, block_of, Filled, Given};
 
 // The sector that holds a fault, and the slot being checked: 255 where it is none's, document 01's own number, which the host sees (C interface).
 #[derive(Clone, Copy, Debug, PartialEq, Eq)]
@@ -133,19 +133,27 @@ fn block_bytes(answer: Answer, done: Done) -> [u8; 9]
     [answer.track, answer.sector, answer.slot, a, b, c, d, e, f]
 }
 
-// Fills the host's answer block and returns the number. A block that is not nine bytes is left as it is, and 16 returned.
-pub fn give_answer(outcome: Result<Done, Fault>, block: &mut [u8]) -> u32
-    ensures { Given outcome block.old result block.new }
+// Fills the host's answer block with any answer and any report, and returns the answer's number. A block that is not nine bytes is left as it is,
+// and 16 returned.
+pub fn fill_block(answer: Answer, done: Done, block: &mut [u8]) -> u32
+    ensures { Filled (meant answer) done block.old result block.new }
 {
     // 9 and 16 stand in d64 too, which asks them before it calls (C interface)
     if block.len() != 9 {
         return 16;
     }
+    block.copy_from_slice(&block_bytes(answer, done));
+    answer.number as u32
+}
+
+// The same for what a call gives: a refusal reports 0 and 0.
+pub fn give_answer(outcome: Result<Done, Fault>, block: &mut [u8]) -> u32
+    ensures { Given outcome block.old result block.new }
+{
     let answer = Answer::from(outcome);
     let done = outcome.unwrap_or(Done {
         length: 0,
         sectors: 0,
     });
-    block.copy_from_slice(&block_bytes(answer, done));
-    answer.number as u32
+    fill_block(answer, done, block)
 }

@@ -5,7 +5,7 @@ use Prim.Native.Nat.{ℕ, zero, suc, ◌+◌, ◌-◌, ◌*◌, ◌/◌, ◌%◌
 use native.Mathlib.Omega.{arith}
 use native.Mathlib.Decide.{dec_le}
 use mathlib.Core.Path.{◌≡◌, refl, sym, ap, ap₂, ◌∙◌}
-use mathlib.Core.List.{map}
+use mathlib.Core.List.{List, map}
 use lib.Count.{ones, ones_cat}
 use lib.ListN.{get_or-eq_default}
 use Rattle.d64spec.specs.Lists.{Bytes, range, sum}
@@ -15,6 +15,7 @@ use Rattle.d64spec.specs.Layouts.{Known}
 use Rattle.d64spec.specs.Map.{map_bit, map_ones}
 use Rattle.d64spec.proofs.SumLaws.{sum_same, sum-map-last}
 use Rattle.d64spec.proofs.BitLaws.{zero_bit_lem, bit_le, binary-more, binary-lt, binary-remainder}
+use Rattle.geometry.specs.Layout.{IsCounts}
 use Rattle.bam.specs.MapEntry.{entry_bit, bitmap_of, free_in, free_on, own_bits}
 use Rattle.bam.specs.MapSector.{map_entry}
 use Rattle.bam.proofs.ShapeLaws.{EntryShape}
@@ -92,6 +93,6 @@ module _ (g : Geometry) (kn : Known g) (m : Bytes) (t : ℕ) where
       let few = kn.valid.small t in
       sum_same (entry_bit (map_entry g m t)) (map_bit g m t) 0 (sectors_on g t) (λ s l h. bit-map-entry g m t s (omega arith))
 
-  -- THE COUNT IS THE DEFINITION'S
-  pub free-on-map : free_on g (map_entry g m t) t ≡ map_ones g m t
-  free-on-map = free-map-entry
+  -- THE COUNT IS THE DEFINITION'S: by the layout's counts, whoever lends them
+  pub free-on-map : {counts : List ℕ} → IsCounts g counts → free_on counts (map_entry g m t) t ≡ map_ones g m t
+  free-on-map is = ap (free_in (map_entry g m t)) (is.agrees t) ∙ free-map-entry

@@ -4,7 +4,7 @@
 use Rattle.std.specs.Prelude.{ℕ, ◌+◌, ◌-◌, ◌*◌, ◌/◌, ◌%◌, ◌^◌, min, Bool, cond, List, [], ◌∷◌, map, ltb}
 use Rattle.d64spec.specs.Lists.{Bytes, byte, sum, range}
 use Rattle.d64spec.specs.Bits.{bit_of}
-use Rattle.d64spec.specs.Geometry.{Geometry, sectors_on}
+use Rattle.geometry.specs.Layout.{entry_by}
 
 -- the bit for sector s (01, The map): bit (s mod 8) of byte 1 + (s div 8) of the entry
 unfoldable pub entry_bit : Bytes → ℕ → ℕ
@@ -22,9 +22,13 @@ free_in e n = sum (map (entry_bit e) (range 0 n))
 unfoldable pub own_bits : ℕ → ℕ
 own_bits n = min n 24
 
--- how many sectors of track t its entry marks free (02, §4)
-abbrev pub free_on : Geometry → Bytes → ℕ → ℕ
-free_on g e t = free_in e (sectors_on g t)
+-- the same of track t, by a table of each track's sectors from track 1 on
+abbrev pub own_bits_by : List ℕ → ℕ → ℕ
+own_bits_by counts t = own_bits (entry_by counts t)
+
+-- how many sectors of track t its entry marks free, by a table of each track's sectors from track 1 on (02, §4)
+abbrev pub free_on : List ℕ → Bytes → ℕ → ℕ
+free_on counts e t = free_in e (entry_by counts t)
 
 -- the entry with this count and this bitmap: the count's lowest byte, and the bitmap's lowest three
 unfoldable pub entry_from : ℕ → ℕ → Bytes

@@ -8,7 +8,7 @@ ghost use Rattle.d64spec.specs.Geometry.{sector_number, map_address};
 ghost use Rattle.d64spec.specs.Image.{disk};
 ghost use Rattle.d64spec.specs.Reply.{writable};
 ghost use Rattle.geometry.specs.Layout.{geometry_of, address_of};
-ghost use Rattle.bam.specs.MapEntry.{bitmap_of, own_bits, free_in, entry_from, moved_entry};
+ghost use Rattle.bam.specs.MapEntry.{bitmap_of, own_bits, own_bits_by, free_in, free_on, entry_from, moved_entry};
 ghost use Rattle.bam.specs.Bam.{moved_mark};
 ghost use Rattle.bam.specs.MapSector.{RunFits, with_run, stored_run, map_entries, stored_entries, allows_writing};
 ghost use Rattle.bam.specs.ImageMaps.{MapWritten};
@@ -37,6 +37,23 @@ pub fn count_free(entry: [u8; 4], sectors: u8) -> u32
     ensures { result ≡ free_in entry sectors }
 {
     (bitmap_of(entry) % (1 << own_bits(sectors))).count_ones()
+}
+
+// The next two are for callers with a table of their own, which they lend: the library's own loops ask the layout for a track's number of sectors.
+
+// How many bits of a track's entry are its own sectors', by a table of how many sectors each track has, from track 1 on; a track that is not in the
+// table has none.
+pub fn own_bits_by(track: u8, counts: &[u8; 40]) -> u8
+    ensures { result ≡ own_bits_by counts.now track }
+{
+    own_bits(geometry::count_by(counts, track))
+}
+
+// How many sectors of a track its entry marks free, by such a table.
+pub fn count_free_by(entry: [u8; 4], track: u8, counts: &[u8; 40]) -> u32
+    ensures { result ≡ free_on counts.now entry track }
+{
+    count_free(entry, geometry::count_by(counts, track))
 }
 
 // The entry with this count and this bitmap: the bitmap's lowest three bytes.

@@ -41,6 +41,14 @@ module _ (b : Bytes) (ss : List ℕ) where
       go true h = omega arith
       go false h = omega arith
 
+  pub first_repeated-le : (k n : ℕ) → first_repeated b ss k n ≤ k + n
+  first_repeated-le k zero = omega arith
+  first_repeated-le k (suc n) = go (repeats b ss k) (first_repeated-le (suc k) n)
+    where
+      go : (t : Bool) → first_repeated b ss (suc k) n ≤ suc k + n → cond t k (first_repeated b ss (suc k) n) ≤ k + suc n
+      go true h = omega arith
+      go false h = omega arith
+
   -- it is the first that repeats one
   repeats-first : (k n j : ℕ) → k ≤ j → j < k + n → j ≤ first_repeated b ss k n → repeats b ss j ≡ eqb j (first_repeated b ss k n)
   repeats-first k zero j low high h = absurd (omega arith)

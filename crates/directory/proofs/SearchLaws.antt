@@ -107,9 +107,9 @@ module _ {b : Bytes} {ss : List ℕ} {end room size : ℕ} {seen : List Bool} {n
         rw (is, lt-ltb k end more)
 
     -- one more name field
-    pub searching-new : end ≤ room → 0 < size → {h : ℕ} → h ≡ hash_of x y % size → holds (take n names) x y ≡ false
+    one-more : end ≤ room → 0 < size → {h : ℕ} → h ≡ hash_of x y % size → holds (take n names) x y ≡ false
         → Searching b ss end room size (set seen h true) (set names n (x, y)) (n + 1) (k + 1)
-    searching-new fits some {h} hashed new =
+    one-more fits some {h} hashed new =
         let free : n < length names = omega (arith, inv.few, inv.places) in
         let inside : h < length seen = omega (arith, inv.table, hashed) in
         record {
@@ -138,6 +138,11 @@ module _ {b : Bytes} {ss : List ℕ} {end room size : ℕ} {seen : List Bool} {n
             go false is f =
                 let same = and-true (eqb x v) (eqb y w) f in
                 absurd (other (sym (hashed ∙ ap₂ (λ (x y : ℕ). hash_of x y % size) (eqb-true x v same.0) (eqb-true y w same.1))))
+
+    -- the new name is held behind the others
+    pub searching-new : end ≤ room → 0 < size → {h : ℕ} → h ≡ hash_of x y % size → holds (take n names) x y ≡ false → {m : ℕ} → m ≡ n + 1
+        → Searching b ss end room size (set seen h true) (set names n (x, y)) m (k + 1)
+    searching-new fits some hashed new e = rw e (one-more fits some hashed new)
 
 module _ {b : Bytes} {ss : List ℕ} {end room size : ℕ} {seen : List Bool} {names : List (ℕ × ℕ)} {n k : ℕ}
     (inv : Searching b ss end room size seen names n k) where

@@ -1,6 +1,6 @@
 -- The slot of a file by its name or by its position, and the first empty slot (01, Read; Tell; Store): the searches over the slots, and which file
 -- of the definitions the slot found is. In order: the searches, by name, empty, by position; how far a search goes; the file found.
-use Prim.Native.Nat.{ℕ, zero, suc, ◌+◌, ◌<◌}
+use Prim.Native.Nat.{ℕ, zero, suc, ◌+◌, ◌≤◌, ◌<◌}
 use native.Mathlib.Omega.{arith}
 use native.Mathlib.Numerals.{add-one}
 use mathlib.Core.Path.{◌≡◌, refl, sym, ◌∙◌}
@@ -66,11 +66,16 @@ module _ (b ss : List ℕ) where
       go true l i j same less = same
       go false l i j same less = less
 
+  -- the same, counted to a number that is the position
+  pub placed-at : (position end : ℕ) {at : ℕ} → at ≡ position
+      → slice_get (filter (λ k. not (is_empty (slot_bytes b ss k))) (range_with_len 0 end)) at ≡ found end (slot_placed b ss position 0 end)
+  placed-at position end e = rw e (placed-by_nth position end end 0 (omega arith))
+
 -- ---- how far a search goes
 
 module _ (b ss : List ℕ) where
   -- no name field holds a name of more than 16 bytes
-  named-long : (name : Bytes) → 16 < length name → (k n : ℕ) → slot_named b ss name k n ≡ k + n
+  pub named-long : (name : Bytes) → 16 < length name → (k n : ℕ) → slot_named b ss name k n ≡ k + n
   unfolding holds_file
   named-long name long k zero = omega arith
   named-long name long k (suc n) =
@@ -78,6 +83,22 @@ module _ (b ss : List ℕ) where
 
   pub none-long : (name : Bytes) → 16 < length name → (end : ℕ) → None ≡ found end (slot_named b ss name 0 end)
   none-long name long end = rw (named-long name long 0 end, le-ltb (0 + end) end (omega arith))
+
+  pub slot_named-le : (name : Bytes) (k n : ℕ) → slot_named b ss name k n ≤ k + n
+  slot_named-le name k zero = omega arith
+  slot_named-le name k (suc n) = go (holds_file b ss name k) (slot_named-le name (suc k) n)
+    where
+      go : (t : Bool) {r : ℕ} → r ≤ suc k + n → cond t k r ≤ k + suc n
+      go true h = omega arith
+      go false h = omega arith
+
+  pub slot_empty-le : (k n : ℕ) → slot_empty b ss k n ≤ k + n
+  slot_empty-le k zero = omega arith
+  slot_empty-le k (suc n) = go (is_empty (slot_bytes b ss k)) (slot_empty-le (suc k) n)
+    where
+      go : (t : Bool) {r : ℕ} → r ≤ suc k + n → cond t k r ≤ k + suc n
+      go true h = omega arith
+      go false h = omega arith
 
 -- ---- the file found
 

@@ -27,6 +27,10 @@ disk-zeros : (m n : ℕ) → 256 * n + 256 ≤ m → disk (zeros m) n ≡ zeros 
 unfolding disk
 disk-zeros m n h = part-zeros m (256 * n) 256 h
 
+-- as many zeros as are asked
+pub filled : {p : Bytes} {n m : ℕ} → p ≡ zeros n → n ≡ m → p ≡ zeros m
+filled zero same = zero ∙ ap zeros same
+
 -- two sectors put on disks that agree at n
 put_both : (d e : Disk) (a b : ℕ) (s t : Bytes) (n : ℕ) → d n ≡ e n → put (put d a s) b t n ≡ put (put e a s) b t n
 unfolding put

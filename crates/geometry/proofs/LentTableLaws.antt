@@ -1,5 +1,6 @@
--- Tracks and numbers by the table (specs/Layout: entry_by, track_on, number_by), which is every layout's.
--- In order: a track's entry by cases; a row of the table; the table gives a layout's counts and numbers; a track of the layout.
+-- Tracks and numbers by the table, which is every layout's, and by tables that are lent (specs/Layout: entry_by, track_on, track_by, number_by).
+-- In order: a track's entry, and a track, by cases; a row of the table; the table gives a layout's counts and numbers; a table filled with a layout's
+-- counts; a track of the layout.
 use Prim.Native.Nat.{ℕ, zero, suc, ◌+◌, ◌-◌, ◌≤◌, ◌<◌}
 use native.Mathlib.Omega.{arith}
 use native.Mathlib.Decide.{dec_le}
@@ -7,14 +8,16 @@ use Rattle.std.specs.Prelude.{ltb}
 use mathlib.Core.Path.{◌≡◌, refl, ap, sym, ◌∙◌}
 use mathlib.Core.Bool.{true, false}
 use mathlib.Core.List.{List, ◌∷◌, [], ◌++◌}
-use lib.ListN.{length, get_or, get_or-eq_default, get_or-map}
+use lib.ListN.{length, get_or, get_or-eq_default, get_or-map, set, length-set}
+use lib.Seq.{get_or-set_same, get_or-set_other}
+use borrow.Author.Count.{below_more}
 use borrow.Author.Tests.{ltb-true, lt-ltb, le-ltb, lt-leb, le-leb}
 use Rattle.d64spec.specs.Lists.{zeros}
 use Rattle.d64spec.specs.Answers.{Address, address}
 use Rattle.d64spec.specs.Geometry.{Geometry, layout35, layout40, tracks, sectors_on, on_disk, sector_number}
 use Rattle.geometry.specs.declared.Layout.{Layout}
 use Rattle.geometry.specs.declared.Track.{Track}
-use Rattle.geometry.specs.declared.TheConstants.{TRACKS}
+use Rattle.geometry.specs.declared.TheConstants.{TRACKS, FIRST}
 use Rattle.geometry.specs.Layout.{geometry_of, counts, firsts, entry_by, track_on, number_by, IsCounts, IsFirsts, track_by}
 use Rattle.geometry.proofs.TableLaws.{fronts, count_none, count_past, count_at, first-at}
 
@@ -31,6 +34,9 @@ module _ (l : List ℕ) (t : ℕ) where
   unfolding entry_by
   entry_by-at h = let e : t ≡ suc (t - 1) = omega arith in ap (λ (x : ℕ). get_or (0 ∷ l) x 0) e
 
+-- an entry, whatever the table
+pub ruleset entries = (entry_by-none, entry_by-past, entry_by-at)
+
 -- a track by cases
 module _ (counts firsts : List ℕ) (t : ℕ) where
   pub track_by-none : t < 1 → track_by counts firsts t ≡ record { number = t; sectors = 0; first = 0 }
@@ -44,6 +50,9 @@ module _ (counts firsts : List ℕ) (t : ℕ) where
   pub track_by-at : {i : ℕ} → 1 ≤ t → t ≤ 40 → i ≡ t - 1 → track_by counts firsts t ≡ record { number = t; sectors = get_or counts i 0; first = get_or firsts i 0 }
   unfolding track_by
   track_by-at low high is = rw (is, le-leb 1 t low, le-leb t 40 high)
+
+-- a track, whatever the tables
+pub ruleset tracks_by = (track_by-none, track_by-past, track_by-at)
 
 -- the table's row of a track stands at t - 1
 module _ (t : ℕ) (low : 1 ≤ t) where
@@ -98,10 +107,17 @@ track-off layout t off = elim (dec_le 1 t) [
       rw (count_none (geometry_of layout) t h, entry_by-none firsts t h, le-ltb (tracks (geometry_of layout)) t (omega arith)) refl
 ]
 
-pub track-at : (layout : Layout) (t : ℕ) {row : ℕ × ℕ} → 1 ≤ t → t ≤ tracks (geometry_of layout) → row ≡ get_or TRACKS (t - 1) (0, 0)
-    → record { number = t; sectors = row.0; first = row.1 } ≡ track_on (geometry_of layout) t
+pub track-at : (layout : Layout) (t : ℕ) {i : ℕ} → 1 ≤ t → t ≤ tracks (geometry_of layout) → i ≡ t - 1
+    → record { number = t; sectors = (get_or TRACKS i (0, 0)).0; first = (get_or TRACKS i (0, 0)).1 } ≡ track_on (geometry_of layout) t
 unfolding track_on
-track-at layout t low high is = rw (is, row-sectors t low, row-first t low, count-known layout t high, le-ltb (tracks (geometry_of layout)) t high) refl
+track-at layout t low high own = rw (own, row-sectors t low, row-first t low, count-known layout t high, le-ltb (tracks (geometry_of layout)) t high) refl
+
+-- no layout has more than 40 tracks
+pub few_of : (layout : Layout) → tracks (geometry_of layout) ≤ 40
+few_of layout = (fronts layout).few
+
+-- a track, whichever it is
+pub ruleset on_track = (few_of, track-off, track-at)
 
 -- .. and a sector of the disk has its number by the table
 pub number-known : (layout : Layout) (r : Address) → on_disk (geometry_of layout) r ≡ true → number_by firsts r ≡ sector_number (geometry_of layout) r
@@ -129,6 +145,41 @@ counts-40 extra = record { agrees = λ t. refl }
 
 pub firsts-of : (layout : Layout) → IsFirsts (geometry_of layout) firsts
 firsts-of layout = record { agrees = number-known layout }
+
+-- the constant that callers lend is the table's column
+pub first-table : FIRST ≡ firsts
+unfolding firsts
+first-table = refl
+
+-- a table that is filled with a layout's counts: those of the first i tracks
+pub record Counting (g : Geometry) (l : List ℕ) (i : ℕ) : Type 0 where
+  pub size : length l ≡ 40
+  pub counted : (k : ℕ) → k < i → get_or l k 0 ≡ sectors_on g (k + 1)
+
+module _ {g : Geometry} where
+  pub counting-start : (l : List ℕ) → length l ≡ 40 → Counting g l 0
+  counting-start l size = record { size = size; counted = λ k h. absurd (omega arith) }
+
+  pub counting-moved : {l : List ℕ} {i x : ℕ} → Counting g l i → i < 40 → x ≡ sectors_on g (i + 1) → Counting g (set l i x) (i + 1)
+  counting-moved {l} {i} {x} c h e = record {
+    size = length-set l i x ∙ c.size;
+    counted = below_more _ i
+        (λ k b. get_or-set_other l i k x 0 (λ q. omega arith) ∙ c.counted k b)
+        (get_or-set_same l i x 0 (omega (arith, c.size)) ∙ e);
+  }
+
+pub counting-finished : (layout : Layout) {l : List ℕ} {i : ℕ} → Counting (geometry_of layout) l i → 40 ≤ i → IsCounts (geometry_of layout) l
+counting-finished layout {l} {i} c h = record {
+  agrees = λ t. elim (dec_le 1 t) [
+    | no none ↦ entry_by-none l t (omega arith) ∙ sym (count_none (geometry_of layout) t (omega arith))
+    | yes low ↦ elim (dec_le t 40) [
+      | yes high ↦
+          let at : t - 1 + 1 ≡ t = omega arith in
+          entry_by-at l t low ∙ c.counted (t - 1) (omega arith) ∙ ap (sectors_on (geometry_of layout)) at
+      | no past ↦ entry_by-past l t (omega (arith, c.size)) ∙ sym (count_past (geometry_of layout) t (omega (arith, few_of layout)))
+    ]
+  ];
+}
 
 -- A TRACK AS A LAYOUT HAS IT: its sectors, and the numbers of those on the disk
 pub record IsTrack (g : Geometry) (on : Track) : Type 0 where

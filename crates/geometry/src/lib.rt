@@ -6,7 +6,7 @@
 ghost use Rattle.std.specs.Prelude.{◌≡◌, ◌*◌};
 ghost use Rattle.d64spec.specs.Geometry.{tracks, total, sectors_on};
 ghost use Rattle.d64spec.specs.Layouts.{layout_numbered};
-ghost use Rattle.geometry.specs.Layout.{address_of, geometry_of, extra_of, numbered_by, counts, firsts, entry_by, track_on, number_by};
+ghost use Rattle.geometry.specs.Layout.{address_of, geometry_of, extra_of, numbered_by, counts, firsts, IsCounts, entry_by, track_on, track_by, number_by};
 
 // A layout: 35 tracks, or 40 with the map entries of the last five where SpeedDOS or Dolphin has them.
 #[derive(Clone, Copy, Debug, PartialEq, Eq)]
@@ -166,6 +166,7 @@ pub fn sectors_on(layout: Layout, track: u8) -> u8
 
 // A track of the layout (01, Tracks and sectors). A track that it does not have has no sector: that is asked first, so that the loop along a chain sees
 // its end by one test.
+#[tactic(auto, using(crate::proofs::LentTableLaws::on_track))]
 pub fn track_on(layout: Layout, number: u8) -> Track
     ensures { result ≡ track_on (geometry_of layout) number }
 {
@@ -198,4 +199,79 @@ pub fn number_of(at: Address) -> usize
     ensures { result ≡ number_by firsts (address_of at) }
 {
     row_of(at.track).1 as usize + at.sector as usize
+}
+
+// What follows is for callers with tables of their own: the library's own loops ask the layout (sectors_on, track_on, number_of).
+
+// The number of each track's first sector, from track 1 on: all sectors of the lower tracks. The first 35 are alike in all layouts.
+pub const FIRST: [u16; 40] = [
+    0, 21, 42, 63, 84, 105, 126, 147, 168, 189, 210, 231, 252, 273, 294, 315, 336, 357, 376, 395,
+    414, 433, 452, 471, 490, 508, 526, 544, 562, 580, 598, 615, 632, 649, 666, 683, 700, 717, 734,
+    751,
+];
+
+// How many sectors each track has, from track 1 on, to be lent to loops; 0 for tracks that the layout does not have.
+pub fn counts_of(layout: Layout) -> [u8; 40]
+    ensures { IsCounts (geometry_of layout) result }
+{
+    let mut counts = [0u8; 40];
+    for i in 0..40 {
+        counts[i] = sectors_on(layout, i as u8 + 1);
+    }
+    counts
+}
+
+// A track's entry of a table of counts, from track 1 on: 0 where there is none. For loops: the table is lent.
+#[tactic(auto, using(crate::proofs::LentTableLaws::entries))]
+pub fn count_by(counts: &[u8], track: u8) -> u8
+    ensures { result ≡ entry_by counts.now track }
+{
+    let i = track as usize;
+    if 1 <= i && i <= counts.len() {
+        counts[i - 1]
+    } else {
+        0
+    }
+}
+
+// A track's entry of a table of first numbers, from track 1 on: 0 where there is none.
+#[tactic(auto, using(crate::proofs::LentTableLaws::entries))]
+fn first_by(firsts: &[u16], track: u8) -> u16
+    ensures { result ≡ entry_by firsts.now track }
+{
+    let i = track as usize;
+    if 1 <= i && i <= firsts.len() {
+        firsts[i - 1]
+    } else {
+        0
+    }
+}
+
+// A track of a disk whose tracks, from track 1 on, have these counts of sectors and start at these numbers. A track that the tables do not have has
+// no sector.
+#[tactic(auto, using(crate::proofs::LentTableLaws::tracks_by))]
+pub fn track_by(counts: &[u8; 40], firsts: &[u16; 40], number: u8) -> Track
+    ensures { result ≡ track_by counts.now firsts.now number }
+{
+    if number < 1 || 40 < number {
+        return Track {
+            number,
+            sectors: 0,
+            first: 0,
+        };
+    }
+    let i = number as usize - 1;
+    Track {
+        number,
+        sectors: counts[i],
+        first: firsts[i],
+    }
+}
+
+// A sector's number on a disk whose tracks, from track 1 on, start at these numbers; off these tracks its place on the track alone.
+#[tactic(auto, unfolding(crate::specs::Layout::number_by))]
+pub fn number_by(firsts: &[u16; 40], at: Address) -> usize
+    ensures { result ≡ number_by firsts.now (address_of at) }
+{
+    first_by(firsts, at.track) as usize + at.sector as usize
 }

@@ -178,6 +178,12 @@ module _ (g : Geometry) (kn : Known g) {es : Entries} {at₀ : List Place} {want
       places = stands ∙ ap (λ (l : List Address). put_first l at₀) (sym more.0);
     }
 
+  -- the same of a part that ends at n, which is where as many as are wanted end
+  pub placing-moved-to : (e : Bytes) {t r n : ℕ} {q at' : List Place} → have < want → i + 1 < tracks g → OrderTrack g i t
+      → PlacedFirst (free_on_track g (bitmap_of e) t) (take (n - have) (drop have at)) r q
+      → at' ≡ take have at ++ (q ++ drop (n - have) (drop have at)) → n ≡ want → e ≡ entry_of es t → Placing g es at₀ want at' (have + r) (i + 1)
+  placing-moved-to e below h o p back to own = placing-moved e below h o (rw to at p) (rw to at back) own
+
   -- as many as are wanted, or all of them
   placed : {wanted : ℕ} → want ≡ min wanted (length at₀) → take have all ≡ take want all → Placed g es wanted at₀ have at
   unfolding first_places

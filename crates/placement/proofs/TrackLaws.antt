@@ -17,7 +17,7 @@ use Rattle.d64spec.specs.Geometry.{Geometry, sectors_on, sectors_of_track}
 use Rattle.d64spec.specs.Layouts.{Known}
 use Rattle.d64spec.proofs.SumLaws.{sum_same}
 use Rattle.geometry.specs.declared.Address.{Address as Place}
-use Rattle.bam.specs.MapEntry.{entry_bit, bitmap_of, free_in, free_on}
+use Rattle.bam.specs.MapEntry.{entry_bit, bitmap_of, free_in}
 use Rattle.bam.proofs.ShapeLaws.{EntryShape}
 use Rattle.bam.proofs.BitmapLaws.{bit-bitmap}
 use Rattle.placement.specs.Placements.{PlacedFirst, put_first, place_of, marked_in, free_on_track}
@@ -60,7 +60,7 @@ abbrev free_left : Geometry → ℕ → ℕ → ℕ → List Address
 free_left g m t s = free_from m t s (sectors_on g t - s)
 
 -- THE TRACK'S COUNT is how many of its sectors are free
-counted-free : (g : Geometry) (kn : Known g) (e : Bytes) (t : ℕ) → EntryShape e → free_on g e t ≡ length (free_left g (bitmap_of e) t 0)
+counted-free : (g : Geometry) (kn : Known g) (e : Bytes) (t : ℕ) → EntryShape e → free_in e (sectors_on g t) ≡ length (free_left g (bitmap_of e) t 0)
 unfolding free_in
 counted-free g kn e t shape =
     let n : ℕ = sectors_on g t in

@@ -13,14 +13,16 @@ use Rattle.d64spec.specs.Image.{disk}
 use Rattle.d64spec.specs.Directory.{File, files, name_field, count_of}
 use Rattle.d64spec.specs.Check.{DirectoryContents, right_size, check_disk, check_image}
 use Rattle.d64spec.specs.Reply.{Reply, reply, valid_name_argument, files_named}
-use Rattle.d64spec.specs.Read.{call_read, FileInformation as Information, call_tell, tell_reply}
+use Rattle.d64spec.specs.Read.{call_read, FileInformation as Information, call_tell, tell_reply, no_information}
 use Rattle.d64spec.specs.Call.{read, perform, attempt, output_buffer}
 use Rattle.d64spec.proofs.ResultLaws.{need-done}
 use Rattle.answers.specs.declared.Fault as code
 use Rattle.answers.specs.declared.Done.{Done}
-use Rattle.answers.specs.Faults.{fault_of, result_of, called_answer, reported, reply_of}
+use Rattle.answers.specs.Faults.{fault_of, result_of, verdict_of, answer_to, called_answer, reported, reply_of}
 use Rattle.answers.proofs.RefusedLaws.{refused-reply, call-refused, size-true, size-false, check-sized}
 use Rattle.reading.specs.declared.FileInformation.{FileInformation}
+use Rattle.reading.specs.declared.Told.{Told}
+use Rattle.reading.specs.declared.TheConstants.{NOTHING}
 use Rattle.reading.specs.FileSlots.{first_of}
 use Rattle.reading.specs.ChainReads.{sectors_from, data_from, ChainCopied}
 use Rattle.reading.specs.Replies.{read_from, told_of, information_of, tell_reply_of}
@@ -128,7 +130,19 @@ module _ (g : Geometry) (img : Bytes) (position : ℕ) where
   unfolding result_of
   tell-done i e k = ap done k ∙ sym e
 
-  -- THE REPLY TO A TELL, of a result that is what the definition tells: all zero if refused
-  pub tell-replied : (r : Result FileInformation code.Fault) → result_of information_of r ≡ call_tell g img position
-      → tell_reply_of r ≡ tell_reply (call_tell g img position)
-  tell-replied r e = ap tell_reply e
+  -- THE REPLY TO A TELL, answered by its result: all zero if refused
+  pub tell-replied : (r : Result FileInformation code.Fault) (t : Told) → tell_reply_of t ≡ tell_reply (result_of information_of r)
+      → result_of information_of r ≡ call_tell g img position
+      → tell_reply_of t ≡ tell_reply (call_tell g img position)
+  tell-replied r t is e = is ∙ ap tell_reply e
+
+-- what is told of a result: the information, or zeros beside the fault
+pub told-done : (i : FileInformation) → tell_reply_of (record { verdict = Ok tt; information = i }) ≡ tell_reply (result_of information_of (Ok i))
+unfolding tell_reply result_of answer_to verdict_of
+told-done i = refl
+
+pub told-refused : (f : code.Fault) → tell_reply_of (record { verdict = Err f; information = NOTHING }) ≡ tell_reply (result_of information_of (Err f))
+unfolding tell_reply no_information result_of answer_to verdict_of
+told-refused f = refl
+
+pub ruleset told = (told-done, told-refused)

@@ -1,16 +1,16 @@
 -- What read and tell give of a file whose entry is found (01, Read; Tell).
-use Rattle.std.specs.Prelude.{length, leb, Result as CodeResult}
+use Rattle.std.specs.Prelude.{length, leb}
 use Rattle.d64spec.specs.Geometry.{Geometry}
 use Rattle.d64spec.specs.Lists.{Bytes, splice}
 use Rattle.d64spec.specs.Answers.{Address, wrong_buffer, Result, done, ◌>>◌, need}
 use Rattle.d64spec.specs.Directory.{entry_byte, name_field, count_of}
 use Rattle.d64spec.specs.Reply.{Change}
-use Rattle.d64spec.specs.Read.{FileInformation as Information, TellReply, tell_reply}
-use Rattle.answers.specs.declared.Fault.{Fault}
-use Rattle.answers.specs.Faults.{result_of}
+use Rattle.d64spec.specs.Read.{FileInformation as Information, TellReply}
+use Rattle.answers.specs.Faults.{answer_to, verdict_of}
 use Rattle.reading.specs.ChainReads.{sectors_from, data_from}
 use Rattle.reading.specs.FileSlots.{first_of}
 use Rattle.reading.specs.declared.FileInformation.{FileInformation}
+use Rattle.reading.specs.declared.Told.{Told}
 
 -- a read of the chain that starts at r: 16 where the output is too short, else its data (01, Read)
 unfoldable pub read_from : Geometry → Bytes → Bytes → Address → Result Change
@@ -45,6 +45,6 @@ information_of i = record {
   byte_length = i.length;
 }
 
--- the reply that the code's result means: all zero if refused (01, Tell)
-abbrev pub tell_reply_of : CodeResult FileInformation Fault → TellReply
-tell_reply_of r = tell_reply (result_of information_of r)
+-- the reply that the code's answer means
+abbrev pub tell_reply_of : Told → TellReply
+tell_reply_of t = record { answer = answer_to (verdict_of t.verdict); information = information_of t.information }

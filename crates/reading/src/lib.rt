@@ -6,12 +6,12 @@ mod copying;
 
 ghost use Rattle.std.specs.Prelude.{◌≡◌, true, ◌+◌, ◌-◌, ◌*◌};
 ghost use Rattle.geometry.specs.Layout.{geometry_of};
-ghost use Rattle.d64spec.specs.Read.{call_tell};
+ghost use Rattle.d64spec.specs.Read.{call_tell, tell_reply};
 ghost use Rattle.d64spec.specs.Reply.{reply, valid_name_argument};
 ghost use Rattle.d64spec.specs.Call.{read, perform};
 ghost use Rattle.answers.specs.Faults.{result_of, reply_of};
 ghost use Rattle.reading.specs.FileSlots.{first_of, FileEntry, CheckedFiles};
-ghost use Rattle.reading.specs.Replies.{read_from, told_of, information_of};
+ghost use Rattle.reading.specs.Replies.{read_from, told_of, information_of, tell_reply_of};
 
 use answers::{Done, Fault};
 use diskcheck::Checked;
@@ -26,6 +26,42 @@ pub struct FileInformation {
     pub sector: u8,
     pub count: u16,
     pub length: u32,
+}
+
+// What a tell answers: its verdict and the information, all zero if refused (01, Tell).
+#[derive(Clone, Copy, Debug, PartialEq, Eq)]
+pub struct Told {
+    pub verdict: Result<(), Fault>,
+    pub information: FileInformation,
+}
+
+// The zeros that stand in place of the information of a file that is not told.
+const NOTHING: FileInformation = FileInformation {
+    type_byte: 0,
+    name: [0u8; 16],
+    track: 0,
+    sector: 0,
+    count: 0,
+    length: 0,
+};
+
+// The answer of a tell by its result.
+impl From<Result<FileInformation, Fault>> for Told {
+    ghost from_gives = { λ outcome told. tell_reply_of told ≡ tell_reply (result_of information_of outcome) };
+
+    #[tactic(auto, using(crate::proofs::ReplyLaws::told))]
+    fn from(outcome: Result<FileInformation, Fault>) -> Self {
+        match outcome {
+            Ok(information) => Told {
+                verdict: Ok(()),
+                information,
+            },
+            Err(fault) => Told {
+                verdict: Err(fault),
+                information: NOTHING,
+            },
+        }
+    }
 }
 
 // The length of a file of `count` sectors that ends at byte `last` of its last sector: 254 bytes in each sector before that one, and those from
@@ -142,4 +178,11 @@ pub fn tell_file(layout: Layout, img: &[u8], position: usize) -> Result<FileInfo
 {
     let checked = diskcheck::check_image(layout, img)?;
     tell_found(layout, img, position, &checked)
+}
+
+// The same as an answer, for a caller that asks for the zeros of a refusal.
+pub fn tell_answer(layout: Layout, img: &[u8], position: usize) -> Told
+    ensures { tell_reply_of result ≡ tell_reply (call_tell (geometry_of layout) img.now position) }
+{
+    Told::from(tell_file(layout, img, position))
 }

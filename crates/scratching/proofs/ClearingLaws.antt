@@ -37,9 +37,9 @@ times g n l = count n (map (sector_number g) l)
 -- ---- one sector
 
 -- a sector of the image lent, and filled with zeros there
-pub sector-cleared : (img : Bytes) (n : ℕ) {a : ℕ} (start : a ≡ 256 * n) {p : Bytes} {link : Address} → Inside img n
+whole-cleared : (img : Bytes) (n : ℕ) {a : ℕ} (start : a ≡ 256 * n) {p : Bytes} {link : Address} → Inside img n
     → p ≡ zeros (length (take (a + 256 - a) (drop a img))) → link ≡ link_of (take (a + 256 - a) (drop a img)) → SectorCleared img n link (take a img ++ (p ++ drop (a + 256 - a) (drop a img)))
-sector-cleared img n start inside zeroed had =
+whole-cleared img n start inside zeroed had =
     let lent = sector-lent img n start in
     let back = sector-back img n start inside (zeroed ∙ ap zeros (ap length lent ∙ length-disk img n inside)) refl in
     record {
@@ -47,6 +47,14 @@ sector-cleared img n start inside zeroed had =
       size = ap length back ∙ length-with_sector img n (zeros 256);
       had = had ∙ ap link_of lent;
     }
+
+-- the same of a part that ends where the sector does
+pub sector-cleared : (img : Bytes) (n : ℕ) {a b : ℕ} (start : a ≡ 256 * n) {p : Bytes} {link : Address} → Inside img n
+    → p ≡ zeros (length (take (b - a) (drop a img))) → link ≡ link_of (take (b - a) (drop a img)) → b ≡ a + 256
+    → SectorCleared img n link (take a img ++ (p ++ drop (b - a) (drop a img)))
+sector-cleared img n {a} {b} start inside zeroed had end =
+    let wide : b - a ≡ a + 256 - a = omega arith in
+    rw wide (whole-cleared img n start inside (rw wide at zeroed) (rw wide at had))
 
 -- ---- the same sectors in another order
 

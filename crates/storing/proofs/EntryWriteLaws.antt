@@ -37,13 +37,14 @@ entry-tail p q h =
     ap₂ (λ (x y : Bytes). x ++ (q ++ drop 2 y)) front back ∙ ap (λ (x : Bytes). p ++ zeros 9 ++ x) (append-nil q) ∙ append_assoc p (zeros 9) q
 
 -- the name copied over the 16 bytes lent for it, and the count over the last two
-pub entry-made : (name : Bytes) {kind n : ℕ} (r : Address) (k : ℕ) {f p q : Bytes} → length name ≤ 16 → k < 65536 → n ≡ kind
-    → f ≡ take 16 (padded name) → p ≡ f → q ≡ k % 256 ∷ k / 256 % 256 ∷ []
+pub entry-made : (name : Bytes) {kind n : ℕ} (r : Address) (k : ℕ) {f p q : Bytes} {m : ℕ} → length name ≤ 16 → k < 65536 → n ≡ kind
+    → f ≡ take 16 (padded name) → p ≡ f → q ≡ m % 256 ∷ m / 256 % 256 ∷ [] → m ≡ k
     → (0x80 + n) ∷ r.track ∷ r.sector ∷ (take 25 (p ++ zeros 11) ++ (q ++ drop 2 (drop 25 (p ++ zeros 11)))) ≡ new_entry name kind r k
 unfolding new_entry
-entry-made name {kind} r k {f} {p} {q} h few number e c count =
+entry-made name {kind} r k {f} {p} {q} h few number e c bytes same =
     let is : p ≡ padded name = c ∙ e ∙ take_all 16 (padded name) (omega (arith, padded-length name h)) in
     let high : k / 256 % 256 ≡ k / 256 = omega arith in
+    let count : q ≡ k % 256 ∷ k / 256 % 256 ∷ [] = bytes ∙ ap (λ (x : ℕ). x % 256 ∷ x / 256 % 256 ∷ []) same in
     let last : q ≡ k % 256 ∷ k / 256 ∷ [] = count ∙ ap (λ (x : ℕ). k % 256 ∷ x ∷ []) high in
     ap₂ (λ (x : ℕ) (l : Bytes). (0x80 + x) ∷ r.track ∷ r.sector ∷ l) number
     (entry-tail p q (ap length is ∙ padded-length name h) ∙ ap₂ (λ (x y : Bytes). x ++ (zeros 9 ++ y)) is last)

@@ -67,7 +67,7 @@ module _ (s link c : Bytes) {a b : Bytes} (size : length s ≡ 256) (two : lengt
       ap₂ (λ (x y : Bytes). x ++ (z ++ y)) front none
       ∙ ap (λ (x : Bytes). (link ++ c) ++ x) (append-nil z ∙ ze ∙ ap (λ (k : ℕ). zeros k) many) ∙ append_assoc link c (zeros (254 - length c))
 
-length-chain_sector : (link c : Bytes) → length link ≡ 2 → length c ≤ 254 → length (chain_sector link c) ≡ 256
+pub length-chain_sector : (link c : Bytes) → length link ≡ 2 → length c ≤ 254 → length (chain_sector link c) ≡ 256
 length-chain_sector link c two few = simp (length-append, length-replicate) (omega arith)
 
 -- ---- where it lies

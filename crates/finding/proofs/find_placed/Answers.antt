@@ -7,7 +7,7 @@ use Rattle.std.proofs.lemmas.Iterator.{YieldsList-from_range}
 use Rattle.std.proofs.lemmas.Iterator.Consumers.{nth_from_yields_List, YieldsList-from_filter, YieldsList-at}
 use Rattle.d64spec.specs.Directory.{is_empty}
 use Rattle.directory.specs.Directories.{slot_bytes}
-use Rattle.finding.proofs.FindLaws.{as-found, placed-by_nth}
+use Rattle.finding.proofs.FindLaws.{as-found, placed-at}
 use Rattle.finding.proofs.find_placed.Goals as goal
 
 pub returns : goal.returns
@@ -16,8 +16,8 @@ returns c =
     let b = a.track18.now in
     let ss = a.sectors.now in
     as-found c.nth.result
-    ∙ nth_from_yields_List c.nth.result c.nth.new.self a.position c.nth.ensures.ran
+    ∙ nth_from_yields_List c.nth.result c.nth.new.self _ c.nth.ensures.ran
     (YieldsList-from_filter _ (λ k. not (is_empty (slot_bytes b ss k)))
     (YieldsList-at c.filter.ensures.source (YieldsList-from_range 0 a.end a.end refl (omega arith)))
     c.filter.ensures.closure (λ k r f called. search (rules, tests)))
-    ∙ placed-by_nth b ss a.position a.end a.end 0 (omega arith)
+    ∙ placed-at b ss a.position a.end (omega arith)

@@ -24,4 +24,6 @@ loop-i-preserved c none =
     (omega arith) (omega arith) (omega arith)
 
 pub returns : goal.returns
-returns c = record { fine = λ right. passing-finished (c.loop-i.invariant (omega (arith, eqb-true))) (omega (arith, c.last_track-last.ensures)) }
+returns c = record {
+  fine = λ right. passing-finished (c.loop-i.invariant (omega (arith, eqb-true))) (omega (arith, c.last_track-last.ensures, (known_of c.args.layout).few));
+}

@@ -3,7 +3,7 @@ use native.Mathlib.Omega.{arith}
 use mathlib.Core.Path.{refl}
 use Rattle.geometry.proofs.TableLaws.{known_of}
 use Rattle.bam.specs.Bam.{entry_of}
-use Rattle.placement.proofs.OrderLaws.{placing-start, placing-moved, placing-full, placing-finished}
+use Rattle.placement.proofs.OrderLaws.{placing-start, placing-moved-to, placing-full, placing-finished}
 use Rattle.placement.proofs.place_sectors.Goals as goal
 
 pub overflow_sub-i-end : goal.overflow_sub-i-end
@@ -24,8 +24,8 @@ pub loop-i-preserved : goal.loop-i-preserved
 unfolding entry_of
 loop-i-preserved c =
     let kn = known_of c.args.layout in
-    placing-moved _ kn c.loop-i.invariant _ (omega (arith, c.loop-i.invariant.few)) (omega (arith, c.last_track-i-end.ensures, kn.many))
-    c.track_at-track.ensures c.take_track-have.ensures refl refl
+    placing-moved-to _ kn c.loop-i.invariant _ (omega (arith, c.loop-i.invariant.few)) (omega (arith, c.last_track-i-end.ensures, kn.many))
+    c.track_at-track.ensures c.take_track-have.ensures refl (omega arith) refl
 
 pub returns : goal.returns
 returns c = placing-finished _ (known_of c.args.layout) c.loop-i.invariant (omega arith) (omega (arith, c.last_track-i-end.ensures))

@@ -29,7 +29,7 @@ loop-k-preserved g c =
           ] in
           rw (w.seen-is, w.names-is, w.n-is)
           (searching-new c.loop-k.invariant (omega arith) _ t c.slot_at-slot.ensures.bytes w.if-slot-ne0.true _ _ w.eight_at.ensures
-          w.eight_at-then-slot-ne0.ensures (omega arith) (omega arith) (ap (λ (h : ℕ). h % g.row.H) w.hash-h.ensures) fresh)
+          w.eight_at-then-slot-ne0.ensures (omega arith) (omega arith) (ap (λ (h : ℕ). h % g.row.H) w.hash-h.ensures) fresh (omega arith))
       | goal.else-slot-ne0 w ↦
           rw (w.seen-is, w.names-is, w.n-is)
           (searching-empty c.loop-k.invariant (omega arith) _ t c.slot_at-slot.ensures.bytes w.if-slot-ne0.false)
